@@ -1,0 +1,62 @@
+use Rattle.frames.specs.Fields.{fieldPasses}
+use borrow.Author.Needs.{needs}
+use Rattle.frames.proofs.fields.field_passes.Statement.{statement}
+use Rattle.frames.proofs.fields.field_passes.Tie as tie
+use Rattle.frames.proofs.fields.field_passes.Reads as reads
+use Rattle.frames.proofs.fields.field_passes.Lts as lts
+use Rattle.frames.proofs.fields.field_fits.Reads as field-fits-reads
+use Rattle.frames.proofs.fields.field_in.Reads as field-in-reads
+use Rattle.frames.proofs.fields.field_real.Reads as field-real-reads
+
+-- src/fields.rt:272:25
+enum-told : tie.Need-enum-told
+enum-told c = search needs
+
+-- src/fields.rt:272:25
+field-fits-requires : tie.Need-field-fits-requires
+field-fits-requires c κs = search needs
+
+-- src/fields.rt:273:24
+enum-told-2 : tie.Need-enum-told-2
+enum-told-2 c = search needs
+
+-- src/fields.rt:273:24
+field-in-requires : tie.Need-field-in-requires
+field-in-requires c κs = search needs
+
+-- src/fields.rt:274:24
+enum-told-3 : tie.Need-enum-told-3
+enum-told-3 c = search needs
+
+-- src/fields.rt:274:24
+field-real-requires : tie.Need-field-real-requires
+field-real-requires c κs = search needs
+
+-- src/fields.rt:267:1
+returns : tie.Need-returns
+unfolding fieldPasses
+returns c = rw (c .before .enum-told .given .1, c .field-fits .ensures)
+
+-- src/fields.rt:267:1
+returns-2 : tie.Need-returns-2
+unfolding fieldPasses
+returns-2 c = rw (c .before .enum-told2 .given .1, c .field-in .ensures)
+
+-- src/fields.rt:267:1
+returns-3 : tie.Need-returns-3
+unfolding fieldPasses
+returns-3 c = rw (c .before .enum-told3 .given .1, c .field-real .ensures)
+
+pub field-passes-spec : {M : Type 1} → statement M
+field-passes-spec =
+    tie.close
+    (tie.spec
+    enum-told
+    field-fits-requires
+    enum-told-2
+    field-in-requires
+    enum-told-3
+    field-real-requires
+    returns
+    returns-2
+    returns-3)

@@ -1,0 +1,22 @@
+use Rattle.base.specs.Choose.{tests}
+use borrow.Author.Needs.{needs}
+use Rattle.frames.proofs.fields.path_fits.Statement.{statement}
+use Rattle.frames.proofs.fields.path_fits.Tie as tie
+use Rattle.frames.proofs.fields.path_fits.Reads as reads
+use Rattle.frames.proofs.fields.path_fits.Lts as lts
+use Rattle.frames.proofs.fields.used_or_zero.Reads as used-or-zero-reads
+
+-- src/fields.rt:89:9
+used-or-zero-requires : tie.Need-used-or-zero-requires
+used-or-zero-requires c κs = search needs
+
+-- src/fields.rt:85:1
+returns : tie.Need-returns
+returns c = search tests
+
+-- src/fields.rt:85:1
+returns-2 : tie.Need-returns-2
+returns-2 c = search tests
+
+pub path-fits-spec : {M : Type 1} → statement M
+path-fits-spec = tie.close (tie.spec used-or-zero-requires returns returns-2)

@@ -1,0 +1,2 @@
+// Frames: one table by kind, the tests of a line, and the first reading of a text.
+pub mod fields;
