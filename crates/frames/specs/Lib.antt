@@ -1,3 +1,4 @@
 pub mod Limits
 pub mod Fields
 pub mod Kinds
+pub mod Rows
