@@ -2,3 +2,4 @@ pub mod Digits
 pub mod Lines
 pub mod Scan
 pub mod Bytes
+pub mod Cuts
