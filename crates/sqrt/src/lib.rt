@@ -23,7 +23,9 @@ fn integer_root(m: u64) -> Root
     let mut left = m;
     let mut whole: u64 = 0;
     let mut rest: u64 = 0;
-    for _ in 0..53 {
+    let mut i: u64 = 0;
+    while i < 53 {
+        i += 1;
         let brought = rest * 4 + left / 0x10_0000_0000_0000;
         left = left % 0x10_0000_0000_0000 * 4;
         let trial = whole * 4 + 1;
