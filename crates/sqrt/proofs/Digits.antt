@@ -35,7 +35,7 @@ one m l q r i t h fit =
       is = omega (arith, more m i ((q * q + r) * 2 ^ 54 + l) (t .is));
       small = omega arith;
       low = omega arith;
-      digits = omega (arith, doubled i)
+      digits = omega (arith, doubled i);
     }
 
 pub nought : (m l q r i : ℕ) → Turns m l q r i → i < 53 → r * 4 + l / 2 ^ 52 < q * 4 + 1
@@ -46,7 +46,7 @@ nought m l q r i t h fit =
       is = omega (arith, more m i ((q * q + r) * 2 ^ 54 + l) (t .is));
       small = omega arith;
       low = omega arith;
-      digits = omega (arith, doubled i)
+      digits = omega (arith, doubled i);
     }
 
 pub all : (m l q r i : ℕ) → Turns m l q r i → 53 ≤ i → IsRoot (m * 2 ^ 52) q r

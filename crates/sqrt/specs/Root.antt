@@ -7,7 +7,7 @@ use native.Mathlib.Omega.{arith}
 use lib.Dec.{leb}
 use borrow.Author.Tests.{leb-true, leb-false}
 use Rattle.base.specs.Choose.{pick-elim}
-use Rattle.sqrt.specs.Sqrt.{wholeRoot}
+use Rattle.sqrt.specs.Sqrt.{wholeRoot, nearestRoot, missing}
 
 -- q is the whole root of n, and r is what its square leaves: q * q ≤ n < (q + 1) * (q + 1)
 pub record IsRoot (n q r : ℕ) : Type 0 where
@@ -18,6 +18,29 @@ pub record IsRoot (n q r : ℕ) : Type 0 where
 pub record Floor (n q : ℕ) : Type 0 where
   pub low : q * q ≤ n
   pub high : n < (q + 1) * (q + 1)
+
+-- r is the whole number nearest to the root of m * 2 ^ 52
+pub record Nearest (m r : ℕ) : Type 0 where
+  pub is : r ≡ nearestRoot (m * 2 ^ 52)
+  pub few : r ≤ 2 ^ 53
+
+-- k digits below m make 53 of them
+pub record Lift (m k : ℕ) : Type 0 where
+  pub is : k ≡ missing m
+  pub few : k ≤ 52
+  pub low : 2 ^ 52 ≤ m * 2 ^ k
+  pub high : m * 2 ^ k < 2 ^ 53
+
+-- k more digits below m stay within a word
+pub record Room (m k : ℕ) : Type 0 where
+  pub few : k < 64
+  pub fits : m * 2 ^ k < 2 ^ 64
+
+-- a significand and a shift of a finite double that is not 0
+pub record Operand (m s : ℕ) : Type 0 where
+  pub some : 0 < m
+  pub digits : m < 2 ^ 53
+  pub few : s ≤ 2045
 
 -- the root of a quarter gives the root's digits but the last
 last-one : (n q : ℕ) → Floor (n / 4) q → (q * 2 + 1) * (q * 2 + 1) ≤ n → Floor n (q * 2 + 1)
