@@ -1,2 +1,4 @@
 pub mod Sqrt
 pub mod Root
+pub mod Float
+pub mod Examples

@@ -2,12 +2,14 @@
 ghost use mathlib.Core.Path.{_≡_};
 ghost use Prim.Native.Nat.{ℕ, _+_, _*_, _<_, _≤_, _^_};
 ghost use lib.Dec.{ltb};
+ghost use lib.Ieee.{binary64, ofBits};
 ghost use Rattle.base.specs.Choose.{pick};
 ghost use Rattle.sqrt.specs.Sqrt.{sqrt as sqrtOf, finiteRoot, nearestRoot, missing as missingOf, significand as significandOf, shift as shiftOf};
 ghost use Rattle.sqrt.specs.Root.{IsRoot, Nearest, Lift, Room, Operand};
+ghost use Rattle.sqrt.specs.Float.{squareRoot};
 
 // A whole root, and what its square leaves.
-pub struct Root {
+pub struct WholeRoot {
     pub whole: u64,
     pub rest: u64,
 }
@@ -20,7 +22,7 @@ const NAN: u64 = 0x7ff8_0000_0000_0000;
 
 // The root of m * 2^52, one binary digit a turn: two more digits of the operand are brought down, and the root's next digit is 1 where
 // (2q + 1)^2 still fits.
-fn integer_root(m: u64) -> Root
+fn integer_root(m: u64) -> WholeRoot
     requires { ⌜ m < 2 ^ 54 ⌝ }
     ensures { λ r. ⌜ IsRoot (m * 2 ^ 52) (r .whole) (r .rest) ⌝ }
 {
@@ -41,11 +43,11 @@ fn integer_root(m: u64) -> Root
             whole = whole * 2;
         }
     }
-    Root { whole, rest }
+    WholeRoot { whole, rest }
 }
 
 // The nearer of whole and whole + 1.
-fn rounded(r: Root) -> u64
+fn rounded(r: WholeRoot) -> u64
     requires { ⌜ r .whole < 2 ^ 53 ⌝ }
     ensures { λ q. ⌜ q ≡ pick (ltb (r .whole) (r .rest)) (r .whole + 1) (r .whole) ⌝ }
 {
@@ -128,4 +130,23 @@ pub fn sqrt(bits: u64) -> u64
         return bits;
     }
     finite_root(significand(bits), shift(bits))
+}
+
+// The double with these bits: every NaN's pattern is the one NaN.
+fn of_bits(bits: u64) -> f64
+    ensures { λ r. ⌜ r ≡ ofBits binary64 bits ⌝ }
+{
+    if bits % MINUS_ZERO > INFINITY {
+        return 0.0 / 0.0;
+    }
+    f64::from_bits(bits)
+}
+
+pub fn root(x: f64) -> f64
+    ensures { λ r. ⌜ r ≡ squareRoot x ⌝ }
+{
+    if x != x {
+        return 0.0 / 0.0;
+    }
+    of_bits(sqrt(f64::to_bits(x)))
 }
