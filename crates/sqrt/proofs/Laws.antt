@@ -47,7 +47,7 @@ lift m p h =
 
 -- ---- the finite root
 
-odd-fits : (a t : ℕ) → a < 2 ^ 53 → a * 2 ^ (t % 2) < 2 ^ 54
+pub odd-fits : (a t : ℕ) → a < 2 ^ 53 → a * 2 ^ (t % 2) < 2 ^ 54
 odd-fits a t h =
     let o : t % 2 ≤ 1 = omega arith in
     omega (arith, mul-le-mul-left a (pow-mono o))
