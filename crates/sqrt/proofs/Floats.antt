@@ -1,6 +1,6 @@
 -- NaN, told by its pattern and by its differing from itself. Assumes nothing.
 use Prim.Native.Nat.{ℕ, _%_, _<_, _≤_}
-use mathlib.Core.Bool.{Bool, true, false, not}
+use mathlib.Core.Bool.{true, false, not}
 use mathlib.Core.Path.{_≡_, refl, sym, ap, subst, _∙_}
 use borrow.Author.Tests.{lt-ltb, le-ltb}
 use lib.Dec.{T}

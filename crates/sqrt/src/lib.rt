@@ -1,11 +1,11 @@
 // The square root of a double, from bit pattern to bit pattern: correctly rounded, to nearest, ties to even (a tie does not occur).
 ghost use mathlib.Core.Path.{_≡_};
-ghost use Prim.Native.Nat.{ℕ, _+_, _*_, _<_, _≤_, _^_};
+ghost use Prim.Native.Nat.{_+_, _*_, _<_, _^_};
 ghost use lib.Dec.{ltb};
 ghost use lib.Ieee.{binary64, ofBits};
 ghost use Rattle.base.specs.Choose.{pick};
-ghost use Rattle.sqrt.specs.Sqrt.{sqrt as sqrtOf, finiteRoot, nearestRoot, missing as missingOf, significand as significandOf, shift as shiftOf};
-ghost use Rattle.sqrt.specs.Root.{IsRoot, Nearest, Lift, Room, Operand};
+ghost use Rattle.sqrt.specs.Sqrt.{sqrt as sqrtOf, finiteRoot, significand as significandOf, shift as shiftOf};
+ghost use Rattle.sqrt.specs.Root.{IsRoot, NearestWhole, Lift, Room, Operand};
 ghost use Rattle.sqrt.specs.Float.{squareRoot};
 
 // A whole root, and what its square leaves.
@@ -60,7 +60,7 @@ fn rounded(r: WholeRoot) -> u64
 
 fn nearest_root(m: u64) -> u64
     requires { ⌜ m < 2 ^ 54 ⌝ }
-    ensures { λ r. ⌜ Nearest m r ⌝ }
+    ensures { λ r. ⌜ NearestWhole m r ⌝ }
 {
     rounded(integer_root(m))
 }

@@ -3,8 +3,6 @@ use Rattle.sqrt.proofs.Floats.{root-not-a-number, a-number, root-of-num
 use borrow.Author.Needs.{needs}
 use Rattle.sqrt.proofs.root.Statement.{statement}
 use Rattle.sqrt.proofs.root.Tie as tie
-use Rattle.sqrt.proofs.of_bits.Reads as of-bits-reads
-use Rattle.sqrt.proofs.sqrt.Reads as sqrt-reads
 
 returns : tie.Need-returns
 returns c = search root-not-a-number
