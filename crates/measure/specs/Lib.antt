@@ -1,2 +1,3 @@
 pub mod Selectivity
+pub mod Bootstrap
 pub mod Examples

@@ -1,0 +1,64 @@
+-- The mean of a sample's draws and the guard that resamples them (`sample_draws` and `bootstrap_ok` of schedule.rs). Sums go in order,
+-- and each operation is rounded once. Rust's `sum` starts at -0.0, these at 0.0: no draw and no square is -0.0, so both give the same.
+use Prim.Native.Nat.{ℕ, zero, suc, _%_}
+use mathlib.Core.List.{List, [], _∷_, map}
+use lib.IntN.{pos}
+use lib.ListN.{length, getD}
+use lib.Ieee.{Float, nan, binary64, add, sub, mul, div, ofInt}
+use Rattle.splitmix.specs.SplitMix.{nextState, drawAt}
+use Rattle.measure.specs.declared.Resampled.{Resampled}
+use Rattle.measure.specs.Selectivity.{zero64}
+
+-- the sum in order, from t on
+unfoldable pub sumFrom : Float → List Float → Float
+sumFrom t [] = t
+sumFrom t (x ∷ xs) = sumFrom (add binary64 t x) xs
+
+-- a sum over as many as there are of xs
+abbrev pub over : List Float → Float → Float
+over xs t = div binary64 t (ofInt binary64 (pos (length xs)))
+
+-- the sum over the count
+unfoldable pub mean : List Float → Float
+unfolding sumFrom
+mean xs = over xs (sumFrom zero64 xs)
+
+-- the draw that a number of the generator picks: its remainder by the count
+abbrev pub pickOf : List Float → ℕ → Float
+pickOf draws number = getD draws (number % length draws) nan
+
+-- n draws with replacement, by the generator from a state on
+unfoldable pub picks : ℕ → ℕ → List Float → List Float
+picks zero state draws = []
+picks (suc n) state draws = pickOf draws (drawAt state) ∷ picks n (nextState state) draws
+
+-- the generator's state after n numbers
+unfoldable pub stateAfter : ℕ → ℕ → ℕ
+stateAfter zero state = state
+stateAfter (suc n) state = stateAfter n (nextState state)
+
+-- one resample: as many draws with replacement as there are draws, their mean, and the state that is left
+unfoldable pub resample : ℕ → List Float → Resampled
+unfolding mean picks stateAfter
+resample state draws =
+    record { state = stateAfter (length draws) state; mean = mean (picks (length draws) state draws) }
+
+-- the means of n resamples, each from the state that the one before left
+unfoldable pub resampledMeans : ℕ → ℕ → List Float → List Float
+unfolding resample
+resampledMeans zero state draws = []
+resampledMeans (suc n) state draws =
+    resample state draws .mean ∷ resampledMeans n (resample state draws .state) draws
+
+-- "the generator starts anew at 2545f4914f6cdd1d (hexadecimal) for each measurement"
+abbrev pub start : ℕ
+start = 0x2545_f491_4f6c_dd1d
+
+-- the square of the distance from c
+abbrev pub squareFrom : Float → Float → Float
+squareFrom c m = mul binary64 (sub binary64 m c) (sub binary64 m c)
+
+-- the mean square of the distances from the mean
+unfoldable pub variance : List Float → Float
+unfolding mean sumFrom
+variance ms = over ms (sumFrom zero64 (map (squareFrom (mean ms)) ms))
