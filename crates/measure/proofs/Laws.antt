@@ -1,6 +1,7 @@
 -- Laws that several proofs cite: what a turn of each loop leaves to do, and what it has done at its end. Assumes nothing.
 use Prim.Native.Nat.{ℕ, zero, suc, _+_, _-_, _^_, _<_, _≤_}
 use mathlib.Core.Path.{_≡_, refl, sym, _∙_, ap}
+use mathlib.Core.Bool.{true, false}
 use mathlib.Core.List.{List, [], _∷_, _++_, map, append-assoc, append-nil}
 use native.Mathlib.Numerals.{add-one, sub-one}
 use native.Mathlib.Nat.{sub-zero}
@@ -9,12 +10,12 @@ use lib.IntN.{pos}
 use lib.ListN.{length, getD, take, drop, set, length-set, length-map, drop-of-length-le, List·getD-map}
 use lib.Seq.{drop-cons, take-suc-set}
 use lib.Dec.{T, le→leb}
-use lib.Ieee.{Float, nan, binary64, add, div, ofInt, inFloat}
+use lib.Ieee.{Float, nan, binary64, add, eq, inFloat}
 use Rattle.splitmix.specs.SplitMix.{splitmix64}
 use Rattle.splitmix.specs.declared.Drawn.{Drawn}
 use Rattle.measure.specs.declared.Resampled.{Resampled}
 use Rattle.measure.specs.Selectivity.{zero64}
-use Rattle.measure.specs.Bootstrap.{sumFrom, over, mean, pickOf, picks, stateAfter, resample, resampledMeans, start}
+use Rattle.measure.specs.Bootstrap.{sumFrom, over, mean, pickOf, picks, stateAfter, resample, resampledMeans, start, allZero}
 
 -- a number up to 2 ^ 53 is a float
 pub in-float : (n : ℕ) → n ≤ 2 ^ 53 → T (inFloat binary64 (pos n))
@@ -61,6 +62,11 @@ unfolding sumFrom picks stateAfter resample mean
 resample-done draws s state total zero r h = rw (length-picks, r .sum, r .states)
 resample-done draws s state total (suc left) r h = absurd (omega arith)
 
+pub length-means : (n state : ℕ) (draws : List Float) → length (resampledMeans n state draws) ≡ n
+unfolding resampledMeans
+length-means zero state draws = refl
+length-means (suc n) state draws = ap suc (length-means n _ draws)
+
 -- the first i means stand in their places: the rest, from the state now, gives them all
 pub record Filled (draws : List Float) (count : ℕ) (means : List Float) (state i : ℕ) : Type 0 where
   pub all : length means ≡ 256
@@ -87,3 +93,21 @@ fill-done draws count means state i f h =
     let e : i ≡ count = omega arith in
     let z : count - i ≡ 0 = omega arith in
     sym (rw (z, append-nil, e) at (f .is))
+
+-- the first i draws are 0: whether all are is for the rest to say
+pub record Zeros (draws : List Float) (i : ℕ) : Type 0 where
+  pub within : i ≤ length draws
+  pub is : allZero draws ≡ allZero (drop i draws)
+
+pub zeros-next : (draws : List Float) (i : ℕ) → Zeros draws i → i < length draws → eq (getD draws i nan) zero64 ≡ true → Zeros draws (i + 1)
+unfolding allZero
+zeros-next draws i z h e =
+    record { within = omega arith; is = z .is ∙ rw (add-one i, drop-cons draws i nan h, e) }
+
+pub zeros-stop : (draws : List Float) (i : ℕ) → Zeros draws i → i < length draws → eq (getD draws i nan) zero64 ≡ false → false ≡ allZero draws
+unfolding allZero
+zeros-stop draws i z h e = sym (z .is ∙ rw (drop-cons draws i nan h, e))
+
+pub zeros-done : (draws : List Float) (i : ℕ) → Zeros draws i → length draws ≤ i → true ≡ allZero draws
+unfolding allZero
+zeros-done draws i z h = sym (z .is ∙ rw (drop-of-length-le draws h))

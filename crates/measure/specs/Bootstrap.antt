@@ -1,13 +1,20 @@
 -- The mean of a sample's draws and the guard that resamples them (`sample_draws` and `bootstrap_ok` of schedule.rs). Sums go in order,
 -- and each operation is rounded once. Rust's `sum` starts at -0.0, these at 0.0: no draw and no square is -0.0, so both give the same.
-use Prim.Native.Nat.{ℕ, zero, suc, _%_}
+use Prim.Native.Nat.{ℕ, zero, suc, _%_, _<_, _≤_}
 use mathlib.Core.List.{List, [], _∷_, map}
+use mathlib.Core.Bool.{Bool, true, false}
 use lib.IntN.{pos}
 use lib.ListN.{length, getD}
-use lib.Ieee.{Float, nan, binary64, add, sub, mul, div, ofInt}
+use lib.Ieee.{Float, nan, binary64, add, sub, mul, div, eq, ofInt}
+use Rattle.base.specs.Choose.{pick}
 use Rattle.splitmix.specs.SplitMix.{nextState, drawAt}
 use Rattle.measure.specs.declared.Resampled.{Resampled}
 use Rattle.measure.specs.Selectivity.{zero64}
+
+-- the draws of a measurement: one at least, and at most 64, the most for k
+pub record Sample (draws : List Float) : Type 0 where
+  pub some : 0 < length draws
+  pub few : length draws ≤ 64
 
 -- the sum in order, from t on
 unfoldable pub sumFrom : Float → List Float → Float
@@ -62,3 +69,8 @@ squareFrom c m = mul binary64 (sub binary64 m c) (sub binary64 m c)
 unfoldable pub variance : List Float → Float
 unfolding mean sumFrom
 variance ms = over ms (sumFrom zero64 (map (squareFrom (mean ms)) ms))
+
+-- whether every draw is 0
+unfoldable pub allZero : List Float → Bool
+allZero [] = true
+allZero (d ∷ ds) = pick (eq d zero64) (allZero ds) false

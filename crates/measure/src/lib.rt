@@ -2,7 +2,7 @@
 ghost use mathlib.Core.Path.{_≡_};
 ghost use Prim.Native.Nat.{_<_, _≤_};
 ghost use lib.ListN.{length, take};
-ghost use Rattle.measure.specs.Bootstrap.{mean as meanOf, pickOf, resample as resampleOf, resampledMeans, start, variance as varianceOf};
+ghost use Rattle.measure.specs.Bootstrap.{Sample, allZero, mean as meanOf, pickOf, resample as resampleOf, resampledMeans, start, variance as varianceOf};
 ghost use Rattle.measure.specs.Selectivity.{atLeast, atMost, pathSelectivity};
 
 // The bucket size that a probe lands in; Rust's `Option<f64>`.
@@ -73,7 +73,7 @@ fn pick(draws: &[f64], number: u64) -> f64
 
 // One resample of the draws.
 pub fn resample(draws: &[f64], state: u64) -> Resampled
-    requires { ⌜ (0 < length (now draws)) × (length (now draws) ≤ 64) ⌝ }
+    requires { ⌜ Sample (now draws) ⌝ }
     ensures { λ r. ⌜ r ≡ resampleOf state (now (draws .entry)) ⌝ }
 {
     let mut state = state;
@@ -93,7 +93,8 @@ pub fn resample(draws: &[f64], state: u64) -> Resampled
 
 // The means of `count` resamples, in the first places.
 pub fn resampled_means(draws: &[f64], count: usize) -> [f64; 256]
-    requires { ⌜ (0 < length (now draws)) × (length (now draws) ≤ 64) × (count ≤ 256) ⌝ }
+    requires { ⌜ Sample (now draws) ⌝ }
+    requires { ⌜ count ≤ 256 ⌝ }
     ensures { λ r. ⌜ take count r ≡ resampledMeans count start (now (draws .entry)) ⌝ }
 {
     let mut means = [0.0; 256];
@@ -122,4 +123,29 @@ pub fn variance(means: &[f64]) -> f64
         i += 1;
     }
     total / (means.len() as f64)
+}
+
+// The variance of the means of `count` resamples.
+fn spread(draws: &[f64], count: usize) -> f64
+    requires { ⌜ Sample (now draws) ⌝ }
+    requires { ⌜ count ≤ 256 ⌝ }
+    ensures { λ r. ⌜ r ≡ varianceOf (resampledMeans count start (now (draws .entry))) ⌝ }
+{
+    let means = resampled_means(draws, count);
+    variance(&means[..count])
+}
+
+// Whether every draw is 0.
+fn all_zero(draws: &[f64]) -> bool
+    ensures { λ r. ⌜ r ≡ allZero (now (draws .entry)) ⌝ }
+{
+    let mut i: usize = 0;
+    while i < draws.len() {
+        if draws[i] == 0.0 {
+            i += 1;
+        } else {
+            return false;
+        }
+    }
+    true
 }
