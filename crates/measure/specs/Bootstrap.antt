@@ -2,13 +2,18 @@
 -- and each operation is rounded once. Rust's `sum` starts at -0.0, these at 0.0: no draw and no square is -0.0, so both give the same.
 use Prim.Native.Nat.{ℕ, zero, suc, _%_, _<_, _≤_}
 use mathlib.Core.List.{List, [], _∷_, map}
-use mathlib.Core.Bool.{Bool, true, false}
+use mathlib.Core.Bool.{Bool, true, false, not}
 use lib.IntN.{pos}
 use lib.ListN.{length, getD}
-use lib.Ieee.{Float, nan, binary64, add, sub, mul, div, eq, ofInt}
+use lib.Dec.{eqb}
+use lib.Ieee.{Float, nan, binary64, add, sub, mul, div, eq, le, ofInt}
 use Rattle.base.specs.Choose.{pick}
 use Rattle.splitmix.specs.SplitMix.{nextState, drawAt}
+use Rattle.sqrt.specs.Float.{squareRoot}
 use Rattle.measure.specs.declared.Resampled.{Resampled}
+use Rattle.measure.specs.declared.SamplerConfig.{SamplerConfig}
+use Rattle.measure.specs.declared.Estimate.{Estimate}
+use Rattle.measure.specs.declared.Estimate.the-variants.{Accepted, Rejected}
 use Rattle.measure.specs.Selectivity.{zero64}
 
 -- the draws of a measurement: one at least, and at most 64, the most for k
@@ -74,3 +79,22 @@ variance ms = over ms (sumFrom zero64 (map (squareFrom (mean ms)) ms))
 unfoldable pub allZero : List Float → Bool
 allZero [] = true
 allZero (d ∷ ds) = pick (eq d zero64) (allZero ds) false
+
+-- "All draws 0: accepted .. Else .. sqrt(variance)/mean ≤ cv_threshold accepts": the test of all draws stands where the mean is not above 0
+unfoldable pub bootstrapOk : SamplerConfig → List Float → Float → Bool
+unfolding allZero variance resampledMeans squareRoot
+bootstrapOk cfg draws m =
+    pick
+    (le m zero64)
+    (allZero draws)
+    (le (div binary64 (squareRoot (variance (resampledMeans (cfg .bootstrap) start draws))) m) (cfg .«cv_threshold»))
+
+-- "`bootstrap` 0 never rejects"
+unfoldable pub rejected : SamplerConfig → List Float → Float → Bool
+unfolding bootstrapOk
+rejected cfg draws m = pick (eqb (cfg .bootstrap) 0) false (not (bootstrapOk cfg draws m))
+
+-- the measurement, once its draws are known: their mean, unless the guard rejects it
+unfoldable pub estimateOf : SamplerConfig → List Float → Estimate
+unfolding mean rejected
+estimateOf cfg draws = pick (rejected cfg draws (mean draws)) Rejected (Accepted (mean draws))
