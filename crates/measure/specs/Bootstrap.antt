@@ -32,7 +32,6 @@ over xs t = div binary64 t (ofInt binary64 (pos (length xs)))
 
 -- the sum over the count
 unfoldable pub mean : List Float → Float
-unfolding sumFrom
 mean xs = over xs (sumFrom zero64 xs)
 
 -- the draw that a number of the generator picks: its remainder by the count
@@ -51,13 +50,11 @@ stateAfter (suc n) state = stateAfter n (nextState state)
 
 -- one resample: as many draws with replacement as there are draws, their mean, and the state that is left
 unfoldable pub resample : ℕ → List Float → Resampled
-unfolding mean picks stateAfter
 resample state draws =
     record { state = stateAfter (length draws) state; mean = mean (picks (length draws) state draws) }
 
 -- the means of n resamples, each from the state that the one before left
 unfoldable pub resampledMeans : ℕ → ℕ → List Float → List Float
-unfolding resample
 resampledMeans zero state draws = []
 resampledMeans (suc n) state draws =
     resample state draws .mean ∷ resampledMeans n (resample state draws .state) draws
@@ -72,7 +69,6 @@ squareFrom c m = mul binary64 (sub binary64 m c) (sub binary64 m c)
 
 -- the mean square of the distances from the mean
 unfoldable pub variance : List Float → Float
-unfolding mean sumFrom
 variance ms = over ms (sumFrom zero64 (map (squareFrom (mean ms)) ms))
 
 -- whether every draw is 0
@@ -82,7 +78,6 @@ allZero (d ∷ ds) = pick (eq d zero64) (allZero ds) false
 
 -- "All draws 0: accepted .. Else .. sqrt(variance)/mean ≤ cv_threshold accepts": the test of all draws stands where the mean is not above 0
 unfoldable pub bootstrapOk : SamplerConfig → List Float → Float → Bool
-unfolding allZero variance resampledMeans squareRoot
 bootstrapOk cfg draws m =
     pick
     (le m zero64)
@@ -91,10 +86,8 @@ bootstrapOk cfg draws m =
 
 -- "`bootstrap` 0 never rejects"
 unfoldable pub rejected : SamplerConfig → List Float → Float → Bool
-unfolding bootstrapOk
 rejected cfg draws m = pick (eqb (cfg .bootstrap) 0) false (not (bootstrapOk cfg draws m))
 
 -- the measurement, once its draws are known: their mean, unless the guard rejects it
 unfoldable pub estimateOf : SamplerConfig → List Float → Estimate
-unfolding mean rejected
 estimateOf cfg draws = pick (rejected cfg draws (mean draws)) Rejected (Accepted (mean draws))

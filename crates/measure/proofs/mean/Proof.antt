@@ -1,3 +1,4 @@
+-- `mean` meets its contract: the invariant says that the elements left give, from the total on, the whole sum.
 use borrow.Author.Needs.{needs}
 use native.Mathlib.Omega.{arith}
 use Prim.Native.Nat.{_-_}
@@ -7,8 +8,6 @@ use Rattle.measure.specs.Bootstrap.{mean}
 use Rattle.measure.proofs.Laws.{Summed, in-float, sum-next, sum-done}
 use Rattle.measure.proofs.mean.Statement.{statement}
 use Rattle.measure.proofs.mean.Tie as tie
-use Rattle.measure.proofs.mean.Reads as reads
-use Rattle.measure.proofs.mean.Lts as lts
 
 abbrev Inv-loop : tie.InvT-loop
 Inv-loop xs total₀ i₀ total i = Summed xs total i
@@ -16,35 +15,27 @@ Inv-loop xs total₀ i₀ total i = Summed xs total i
 abbrev μ-loop : tie.MeasureT-loop
 μ-loop xs total₀ i₀ total i = length xs - i
 
--- src/lib.rt:59:5
 loop-holds : tie.Need-loop-holds Inv-loop μ-loop
 loop-holds c = record { within = omega arith; is = refl }
 
--- src/lib.rt:60:25
 mul-total : tie.Need-mul-total Inv-loop μ-loop
 mul-total c = search needs
 
--- src/lib.rt:60:25
 shared-slice-read-total : tie.Need-shared-slice-read-total Inv-loop μ-loop
 shared-slice-read-total c = search needs
 
--- src/lib.rt:61:9
 add-i : tie.Need-add-i Inv-loop μ-loop
 add-i c = search needs
 
--- src/lib.rt:59:5
 loop-less : tie.Need-loop-less Inv-loop μ-loop
 loop-less c = search needs
 
--- src/lib.rt:59:5
 loop-again : tie.Need-loop-again Inv-loop μ-loop
 loop-again c = sum-next _ _ _ _ _ (c .before .before .loop .inv) (c .before .loop-test .taken) refl
 
--- src/lib.rt:63:14
 int-to-float-result : tie.Need-int-to-float-result Inv-loop μ-loop
 int-to-float-result c = in-float _ (omega arith)
 
--- src/lib.rt:53:1
 returns : tie.Need-returns Inv-loop μ-loop
 unfolding mean
 returns c = rw (sum-done _ _ _ (c .before .before .loop .inv) (c .before .loop-test .left))

@@ -1,3 +1,4 @@
+-- `resample` meets its contract: the invariant says that the draws to come give, from the state and the total now, what the whole resample gives.
 use borrow.Author.Needs.{needs}
 use native.Mathlib.Omega.{arith}
 use Prim.Native.Nat.{_-_}
@@ -6,10 +7,6 @@ use lib.ListN.{length}
 use Rattle.measure.proofs.Laws.{Resampling, in-float, resample-next, resample-done}
 use Rattle.measure.proofs.resample.Statement.{statement}
 use Rattle.measure.proofs.resample.Tie as tie
-use Rattle.measure.proofs.resample.Reads as reads
-use Rattle.measure.proofs.resample.Lts as lts
-use Rattle.measure.proofs.pick.Reads as pick-reads
-use Rattle.splitmix.proofs.splitmix64.Reads as splitmix64-reads
 
 abbrev Inv-loop : tie.InvT-loop
 Inv-loop draws state state₀ total₀ left₀ state' total left = Resampling draws state state' total left
@@ -17,35 +14,27 @@ Inv-loop draws state state₀ total₀ left₀ state' total left = Resampling dr
 abbrev μ-loop : tie.MeasureT-loop
 μ-loop draws state state₀ total₀ left₀ state' total left = left
 
--- src/lib.rt:82:5
 loop-holds : tie.Need-loop-holds Inv-loop μ-loop
 loop-holds c = record { sum = refl; states = refl }
 
--- src/lib.rt:83:13
 splitmix64-requires : tie.Need-splitmix64-requires Inv-loop μ-loop
 splitmix64-requires c κs = search needs
 
--- src/lib.rt:84:25
 pick-requires : tie.Need-pick-requires Inv-loop μ-loop
 pick-requires c κs = search needs
 
--- src/lib.rt:86:9
 sub-left : tie.Need-sub-left Inv-loop μ-loop
 sub-left c = search needs
 
--- src/lib.rt:82:5
 loop-less : tie.Need-loop-less Inv-loop μ-loop
 loop-less c = search needs
 
--- src/lib.rt:82:5
 loop-again : tie.Need-loop-again Inv-loop μ-loop
 loop-again c = resample-next _ _ _ _ _ _ _ (c .before .before .before .loop .inv) (c .before .before .loop-test .taken) (c .before .splitmix64 .ensures) (c .pick .ensures)
 
--- src/lib.rt:88:39
 int-to-float-t10 : tie.Need-int-to-float-t10 Inv-loop μ-loop
 int-to-float-t10 c = in-float _ (omega arith)
 
--- src/lib.rt:75:1
 returns : tie.Need-returns Inv-loop μ-loop
 returns c = resample-done _ _ _ _ _ (c .before .before .loop .inv) (c .before .loop-test .left)
 
