@@ -2,3 +2,4 @@ pub mod Limits
 pub mod Fields
 pub mod Kinds
 pub mod Rows
+pub mod Frames

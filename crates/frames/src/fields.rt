@@ -43,11 +43,11 @@ pub struct Counts {
     pub atoms: u8,
 }
 
-pub fn width(x: Field) -> u8
-    ensures { λ r. ⌜ r ≡ widthOf x ⌝ }
+pub fn width(x: Field) -> usize
+    ensures { λ r. ⌜ (r ≡ widthOf x) × (r < 256) ⌝ }
 {
     match x {
-        Field::Free(n) => n,
+        Field::Free(n) => n as usize,
         Field::Most(_) => 1,
         Field::Variable => 1,
         Field::Global => 1,

@@ -5,7 +5,7 @@ ghost use Prim.Native.Nat.{ℕ, _<_, _≤_, _*_};
 ghost use lib.ListN.{length, getD};
 ghost use Rattle.frames.specs.Fields.{width as widthOf};
 ghost use Rattle.frames.specs.Kinds.{kindAt, none, fixedLength};
-ghost use Rattle.frames.specs.Rows.{decode, rowOf, sixFields};
+ghost use Rattle.frames.specs.Rows.{decode, rowOf};
 use super::fields::Field;
 
 const COLUMNS: usize = 12;
@@ -992,6 +992,12 @@ fn column(kind: u8, j: usize) -> u8
     KINDS[row_of(kind) * COLUMNS + j]
 }
 
+pub fn wide(b: u8) -> usize
+    ensures { λ r. ⌜ (r ≡ b) × (r < 256) ⌝ }
+{
+    b as usize
+}
+
 // The number of the text that has the kind.
 pub fn text_of(kind: u8) -> u8
     ensures { λ r. ⌜ r ≡ kindAt kind .text ⌝ }
@@ -1006,23 +1012,23 @@ pub fn key_length(kind: u8) -> u8
     column(kind, 1)
 }
 
-pub fn fixed_length(kind: u8) -> u8
-    ensures { λ r. ⌜ r ≡ fixedLength (kindAt kind) ⌝ }
+pub fn fixed_length(kind: u8) -> usize
+    ensures { λ r. ⌜ (r ≡ fixedLength (kindAt kind)) × (r < 256) ⌝ }
 {
-    column(kind, 2)
+    wide(column(kind, 2))
 }
 
 // The width of an item, and 0 where there are none.
-pub fn item_width(kind: u8) -> u8
-    ensures { λ r. ⌜ r ≡ widthOf (kindAt kind .item) ⌝ }
+pub fn item_width(kind: u8) -> usize
+    ensures { λ r. ⌜ (r ≡ widthOf (kindAt kind .item)) × (r < 256) ⌝ }
 {
-    column(kind, 3)
+    wide(column(kind, 3))
 }
 
-pub fn field_count(kind: u8) -> u8
-    ensures { λ r. ⌜ r ≡ length (kindAt kind .fields) ⌝ }
+pub fn field_count(kind: u8) -> usize
+    ensures { λ r. ⌜ (r ≡ length (kindAt kind .fields)) × (r ≤ 6) ⌝ }
 {
-    column(kind, 4)
+    wide(column(kind, 4))
 }
 
 pub fn item_of(kind: u8) -> Field
@@ -1034,7 +1040,7 @@ pub fn item_of(kind: u8) -> Field
 // The j-th field after the kind's byte.
 pub fn field_at(kind: u8, j: usize) -> Field
     requires { ⌜ j < 6 ⌝ }
-    ensures { λ r. ⌜ r ≡ getD (sixFields (kindAt kind)) j none ⌝ }
+    ensures { λ r. ⌜ r ≡ getD (kindAt kind .fields) j none ⌝ }
 {
     field_of(column(kind, j + 6))
 }
