@@ -29,9 +29,12 @@ held P [] i t n = n
 held P (r ∷ l) ℕ.zero t n = both-left (P r) (all P l) t
 held P (r ∷ l) (suc i) t n = held P l i (both-right (P r) (all P l) t) n
 
-pub six-most : (b v : ℕ) → v ≡ length (kindAt b .fields) → v ≤ 6
+six-most : (b v : ℕ) → v ≡ length (kindAt b .fields) → v ≤ 6
 unfolding kindAt kinds all
 six-most b v e = rw e (leb→le _ 6 (held (λ (r : Kind). leb (length (r .fields)) 6) kinds b tt tt))
+
+pub count-most : (b v w : ℕ) → v ≡ getD (rowOf (kindAt b)) 4 0 → w ≡ v → w ≤ 6
+count-most b v w p q = six-most b w (q ∙ p)
 
 -- a field's code in a row gives the field
 pub item-is : (b v : ℕ) (x : Field) → v ≡ getD (rowOf (kindAt b)) 5 0 → x ≡ decode v → x ≡ kindAt b .item

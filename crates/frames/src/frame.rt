@@ -16,6 +16,7 @@ use super::kinds::field_count;
 use super::kinds::fixed_length;
 use super::kinds::item_of;
 use super::kinds::item_width;
+use super::kinds::wide;
 use hex::byte_at;
 
 // How many items a frame says it has.
