@@ -3,3 +3,4 @@ pub mod Fields
 pub mod Kinds
 pub mod Rows
 pub mod Frames
+pub mod First

@@ -85,5 +85,9 @@ fn items_pass(t: Test, n: Counts, line: &[u8]) -> bool
 pub fn frame_passes(t: Test, n: Counts, line: &[u8]) -> bool
     ensures { λ r. ⌜ r ≡ framePasses (fieldPasses t n) (bytesOf (now (line .entry))) ⌝ }
 {
-    if fields_pass(t, n, line) { items_pass(t, n, line) } else { false }
+    if fields_pass(t, n, line) {
+        items_pass(t, n, line)
+    } else {
+        false
+    }
 }

@@ -108,3 +108,23 @@ hex-found t at e p = go (split (drop at t) .ended) refl p
     go : (es : List (List ℕ)) → split (drop at t) .ended ≡ es → hexLineIn at es ≡ At e → HexLine t at e
     go [] q g = let z : _≡_ {A = ℕ} 0 1 = cc in absurd (omega arith)
     go (l ∷ ls) q g = hex-by t at e l ls q (isHex l) refl g
+
+-- where no line is ended, all is rest
+rest-by : (b : ℕ) (t : List ℕ) (d : Bool) → eqb b 10 ≡ d → (split t .ended ≡ [] → split t .rest ≡ t) → split (b ∷ t) .ended ≡ [] → split (b ∷ t) .rest ≡ b ∷ t
+unfolding split
+rest-by b t true e f q =
+    let p : [] ∷ split t .ended ≡ [] = rw e at q in
+    let z : _≡_ {A = ℕ} 0 1 = cc in
+    absurd (omega arith)
+rest-by b t false e f q =
+    let p : withByte b (split t .ended) (split t .rest) .ended ≡ [] = rw e at q in
+    rw e (go (split t .ended) refl p)
+  where
+    go : (es : List (List ℕ)) → split t .ended ≡ es → withByte b es (split t .rest) .ended ≡ [] → withByte b es (split t .rest) .rest ≡ b ∷ t
+    go [] d g = ap (λ (k : List ℕ). b ∷ k) (f d)
+    go (m ∷ ms) d g = let z : _≡_ {A = ℕ} 0 1 = cc in absurd (omega arith)
+
+pub all-rest : (t : List ℕ) → split t .ended ≡ [] → split t .rest ≡ t
+unfolding split
+all-rest [] q = refl
+all-rest (b ∷ t) q = rest-by b t (eqb b 10) refl (all-rest t) q
