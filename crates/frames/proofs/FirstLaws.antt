@@ -8,7 +8,7 @@ use native.Mathlib.Omega.{arith}
 use lib.ListN.{length, getD, take, drop, length-drop, drop-of-length-le}
 use lib.Seq.{drop-cons}
 use lib.Dec.{eqb}
-use borrow.Author.Tests.{eq-eqb, ne-eqb, not-true, not-false}
+use borrow.Author.Tests.{lt-ltb, le-ltb, eq-eqb, ne-eqb, not-true, not-false}
 use mir.Val.{Fits}
 use mir.Syntax.{w64}
 use Rattle.base.specs.Choose.{pick, pick-elim}
@@ -22,11 +22,13 @@ use Rattle.frames.specs.declared.fields.Counts.{Counts}
 use Rattle.frames.specs.declared.fields.Test.{Test}
 use Rattle.frames.specs.declared.fields.Test.the-variants.{Limits}
 use Rattle.frames.specs.declared.first.Text.{Text}
+use Rattle.frames.specs.declared.first.Text.the-variants.{Plan}
 use Rattle.frames.specs.declared.first.First.{First}
 use Rattle.frames.specs.declared.first.First.the-variants.{Passed, Refused}
 use Rattle.frames.specs.Fields.{fieldPasses}
+use Rattle.frames.specs.Limits.{textMost}
 use Rattle.frames.specs.Frames.{frameLength, framePasses}
-use Rattle.frames.specs.First.{noCounts, belongs, isCounted, hasRoom, counted, frameFault, lineFault, atEnd, orElse, firstLines, firstFrom}
+use Rattle.frames.specs.First.{noCounts, belongs, isCounted, hasRoom, counted, frameFault, lineFault, atEnd, orElse, firstLines, firstFrom, stepsSay, stepsRight, emptyText, firstReading}
 
 -- ---- the tests of one frame
 
@@ -119,3 +121,30 @@ module _ (t : Text) (x : List ℕ) (at n c : ℕ) (s : Seen t x at n c) where
   pub all-passed : length x ≤ at → Passed n c ≡ firstFrom t 0 0 x
   unfolding firstLines split
   all-passed h = sym (s .is ∙ rw (drop-of-length-le x h))
+
+-- ---- the step count, and the whole
+
+module _ (t : Text) (x : List ℕ) (f : First) (p : t ≡ Plan) where
+  pub steps-refused : (k l : ℕ) → f ≡ Refused k l → Refused k l ≡ stepsRight t x f
+  steps-refused k l q = rw (p, q)
+
+  module _ (n c v : ℕ) (q : f ≡ Passed n c) (r : v ≡ stepsSay x) where
+    pub steps-agree : v + 1 ≡ n → Passed n c ≡ stepsRight t x f
+    steps-agree e = rw (p, q, ← r, eq-eqb _ _ e)
+
+    pub steps-differ : (v + 1 ≡ n → ⊥) → Refused 3 1 ≡ stepsRight t x f
+    steps-differ e = rw (p, q, ← r, ne-eqb _ _ e)
+
+module _ (t : Text) (x : List ℕ) where
+  pub too-long : textMost < length x → Refused 4 0 ≡ firstReading t x
+  unfolding firstReading
+  too-long h = rw (lt-ltb _ _ h)
+
+  module _ (h : length x ≤ textMost) where
+    pub is-empty : (a : First) → length x ≡ 0 → a ≡ emptyText t → a ≡ firstReading t x
+    unfolding firstReading
+    is-empty a e p = rw (le-ltb _ _ h, eq-eqb _ _ e) p
+
+    pub is-read : (a b : First) → (length x ≡ 0 → ⊥) → a ≡ firstFrom t 0 0 x → b ≡ stepsRight t x a → b ≡ firstReading t x
+    unfolding firstReading
+    is-read a b e p q = rw (le-ltb _ _ h, ne-eqb _ _ e, ← p) q

@@ -2,11 +2,11 @@
 use Prim.Native.Nat.{ℕ, zero, suc, _+_, _-_}
 use mathlib.Core.List.{List, [], _∷_, map}
 use mathlib.Core.Bool.{Bool, true, false, not}
-use lib.ListN.{length, getD}
+use lib.ListN.{length, getD, take}
 use lib.Dec.{ltb, leb, eqb}
 use Rattle.base.specs.Choose.{pick}
 use Rattle.hex.specs.Digits.{bytesOf, shortAt}
-use Rattle.hex.specs.Lines.{Split, split, isHex}
+use Rattle.hex.specs.Lines.{Split, split, isHex, endOf}
 use Rattle.frames.specs.Limits.{textMost, atomsMost, rowsMost}
 use Rattle.frames.specs.Fields.{fieldPasses}
 use Rattle.frames.specs.declared.fields.Counts.{Counts}
@@ -115,13 +115,12 @@ firstFrom t n c x = firstLines t n c (split x .ended) (split x .rest)
 
 -- ---- 3: "plan's step count wrong (line 1)"
 
--- the steps that a plan's header gives, at its bytes 4 and 5, are the lines after it
-abbrev pub firstLine : List (List ℕ) → List ℕ
-firstLine [] = []
-firstLine (l ∷ ls) = l
+-- a text's first line, and the steps that it gives as a plan's header, at its bytes 4 and 5: they are the lines after it
+abbrev pub firstLine : List ℕ → List ℕ
+firstLine x = take (endOf 0 x) x
 
 abbrev pub stepsSay : List ℕ → ℕ
-stepsSay x = shortAt (bytesOf (firstLine (split x .ended))) 4
+stepsSay x = shortAt (bytesOf (firstLine x)) 4
 
 abbrev pub stepsRight : Text → List ℕ → First → First
 stepsRight Query x a = a

@@ -4,7 +4,7 @@ ghost use mathlib.Core.Bool.{Bool, true, false};
 ghost use Prim.Native.Nat.{ℕ, _+_, _<_, _≤_};
 ghost use lib.ListN.{length, getD, drop};
 ghost use Rattle.hex.specs.Digits.{bytesOf};
-ghost use Rattle.frames.specs.First.{textNumber, isHeader, headerFirst, inPlace, belongs as belongsTo, isAtom, isRow, isCounted, countedMost, counted as countedOf, hasRoom, frameFault, firstFrom};
+ghost use Rattle.frames.specs.First.{textNumber, isHeader, headerFirst, inPlace, belongs as belongsTo, isAtom, isRow, isCounted, countedMost, counted as countedOf, hasRoom, frameFault, firstFrom, stepsSay, stepsRight, emptyText, firstReading};
 use super::fields::Counts;
 use super::fields::Test;
 use super::frame::frame_length;
@@ -166,4 +166,59 @@ fn first_lines(t: Text, text: &[u8]) -> First
         n += 1;
     }
     First::Passed(n, c)
+}
+
+fn wide(s: u16) -> usize
+    ensures { λ r. ⌜ (r ≡ s) × (r < 65536) ⌝ }
+{
+    s as usize
+}
+
+// The steps that a plan's header gives.
+fn steps_say(text: &[u8]) -> usize
+    ensures { λ r. ⌜ (r ≡ stepsSay (now (text .entry))) × (r < 65536) ⌝ }
+{
+    let e = line_end(text, 0);
+    wide(short_at(&text[..e], 4))
+}
+
+fn steps_right(t: Text, text: &[u8], found: First) -> First
+    ensures { λ r. ⌜ r ≡ stepsRight t (now (text .entry)) found ⌝ }
+{
+    match t {
+        Text::Query => found,
+        Text::Table => found,
+        Text::Plan => match found {
+            First::Refused(k, l) => First::Refused(k, l),
+            First::Passed(n, c) => {
+                if steps_say(text) + 1 == n {
+                    return First::Passed(n, c);
+                }
+                First::Refused(3, 1)
+            }
+        },
+    }
+}
+
+fn empty_text(t: Text) -> First
+    ensures { λ r. ⌜ r ≡ emptyText t ⌝ }
+{
+    match t {
+        Text::Query => First::Refused(2, 0),
+        Text::Plan => First::Refused(2, 0),
+        Text::Table => First::Passed(0, 0),
+    }
+}
+
+// The first reading of a text of any bytes and length.
+pub fn first_reading(t: Text, text: &[u8]) -> First
+    ensures { λ r. ⌜ r ≡ firstReading t (now (text .entry)) ⌝ }
+{
+    if 65536 < text.len() {
+        return First::Refused(4, 0);
+    }
+    if text.len() == 0 {
+        return empty_text(t);
+    }
+    steps_right(t, text, first_lines(t, text))
 }
