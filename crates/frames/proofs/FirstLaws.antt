@@ -23,8 +23,8 @@ use Rattle.frames.specs.declared.fields.Test.{Test}
 use Rattle.frames.specs.declared.fields.Test.the-variants.{Limits}
 use Rattle.frames.specs.declared.first.Text.{Text}
 use Rattle.frames.specs.declared.first.Text.the-variants.{Plan}
-use Rattle.frames.specs.declared.first.First.{First}
-use Rattle.frames.specs.declared.first.First.the-variants.{Passed, Refused}
+use Rattle.frames.specs.declared.first.Reading.{Reading}
+use Rattle.frames.specs.declared.first.Reading.the-variants.{Accepted, Refused}
 use Rattle.frames.specs.Fields.{fieldPasses}
 use Rattle.frames.specs.Limits.{textMost}
 use Rattle.frames.specs.Frames.{frameLength, framePasses}
@@ -65,7 +65,7 @@ pub record Seen (t : Text) (x : List ℕ) (at n c : ℕ) : Type 0 where
   pub within : at ≤ length x
   pub is : firstFrom t 0 0 x ≡ firstFrom t n c (drop at x)
 
-or-stops : (k n : ℕ) (a : First) → (k ≡ 0 → ⊥) → orElse k n a ≡ Refused k (suc n)
+or-stops : (k n : ℕ) (a : Reading) → (k ≡ 0 → ⊥) → orElse k n a ≡ Refused k (suc n)
 or-stops zero n a h = absurd (h refl)
 or-stops (suc k) n a h = refl
 
@@ -118,18 +118,18 @@ module _ (t : Text) (x : List ℕ) (at n c : ℕ) (s : Seen t x at n c) where
   pub none-refused : (f : Found) → at < length x → f ≡ hexLineOf at (drop at x) → f ≡ Nothing → Refused 1 (n + 1) ≡ firstFrom t 0 0 x
   none-refused f h p q = sym (s .is ∙ no-line h (split (drop at x) .ended) refl (sym p ∙ q))
 
-  pub all-passed : length x ≤ at → Passed n c ≡ firstFrom t 0 0 x
+  pub all-passed : length x ≤ at → Accepted n c ≡ firstFrom t 0 0 x
   unfolding firstLines split
   all-passed h = sym (s .is ∙ rw (drop-of-length-le x h))
 
 -- ---- the step count, and the whole
 
-module _ (t : Text) (x : List ℕ) (f : First) (p : t ≡ Plan) where
+module _ (t : Text) (x : List ℕ) (f : Reading) (p : t ≡ Plan) where
   pub steps-refused : (k l : ℕ) → f ≡ Refused k l → Refused k l ≡ stepsRight t x f
   steps-refused k l q = rw (p, q)
 
-  module _ (n c v : ℕ) (q : f ≡ Passed n c) (r : v ≡ stepsSay x) where
-    pub steps-agree : v + 1 ≡ n → Passed n c ≡ stepsRight t x f
+  module _ (n c v : ℕ) (q : f ≡ Accepted n c) (r : v ≡ stepsSay x) where
+    pub steps-agree : v + 1 ≡ n → Accepted n c ≡ stepsRight t x f
     steps-agree e = rw (p, q, ← r, eq-eqb _ _ e)
 
     pub steps-differ : (v + 1 ≡ n → ⊥) → Refused 3 1 ≡ stepsRight t x f
@@ -141,10 +141,10 @@ module _ (t : Text) (x : List ℕ) where
   too-long h = rw (lt-ltb _ _ h)
 
   module _ (h : length x ≤ textMost) where
-    pub is-empty : (a : First) → length x ≡ 0 → a ≡ emptyText t → a ≡ firstReading t x
+    pub is-empty : (a : Reading) → length x ≡ 0 → a ≡ emptyText t → a ≡ firstReading t x
     unfolding firstReading
     is-empty a e p = rw (le-ltb _ _ h, eq-eqb _ _ e) p
 
-    pub is-read : (a b : First) → (length x ≡ 0 → ⊥) → a ≡ firstFrom t 0 0 x → b ≡ stepsRight t x a → b ≡ firstReading t x
+    pub is-read : (a b : Reading) → (length x ≡ 0 → ⊥) → a ≡ firstFrom t 0 0 x → b ≡ stepsRight t x a → b ≡ firstReading t x
     unfolding firstReading
     is-read a b e p q = rw (le-ltb _ _ h, ne-eqb _ _ e, ← p) q

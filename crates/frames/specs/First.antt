@@ -15,8 +15,8 @@ use Rattle.frames.specs.Kinds.{kindAt, query, plan, table}
 use Rattle.frames.specs.Frames.{frameLength, framePasses}
 use Rattle.frames.specs.declared.first.Text.{Text}
 use Rattle.frames.specs.declared.first.Text.the-variants.{Query, Plan, Table}
-use Rattle.frames.specs.declared.first.First.{First}
-use Rattle.frames.specs.declared.first.First.the-variants.{Passed, Refused}
+use Rattle.frames.specs.declared.first.Reading.{Reading}
+use Rattle.frames.specs.declared.first.Reading.the-variants.{Accepted, Refused}
 
 -- ---- the frames of a text: its lines, as bytes
 unfoldable pub framesOf : List ℕ → List (List ℕ)
@@ -95,22 +95,22 @@ lineFault t first c l = pick (isHex l) (frameFault t first c (bytesOf l)) 1
 
 -- ---- the lines in turn: n are passed, c of them counted; "last 0a missing" is 1 at the last line
 
-abbrev pub atEnd : ℕ → ℕ → List ℕ → First
-atEnd n c [] = Passed n c
+abbrev pub atEnd : ℕ → ℕ → List ℕ → Reading
+atEnd n c [] = Accepted n c
 atEnd n c (b ∷ r) = Refused 1 (suc n)
 
 -- a fault of the line after n stops the reading
-abbrev pub orElse : ℕ → ℕ → First → First
+abbrev pub orElse : ℕ → ℕ → Reading → Reading
 orElse zero n a = a
 orElse (suc k) n a = Refused (suc k) (suc n)
 
-unfoldable pub firstLines : Text → ℕ → ℕ → List (List ℕ) → List ℕ → First
+unfoldable pub firstLines : Text → ℕ → ℕ → List (List ℕ) → List ℕ → Reading
 unfolding lineFault
 firstLines t n c [] r = atEnd n c r
 firstLines t n c (l ∷ ls) r =
     orElse (lineFault t (eqb n 0) c l) n (firstLines t (suc n) (counted t c (getD (bytesOf l) 0 0)) ls r)
 
-abbrev pub firstFrom : Text → ℕ → ℕ → List ℕ → First
+abbrev pub firstFrom : Text → ℕ → ℕ → List ℕ → Reading
 firstFrom t n c x = firstLines t n c (split x .ended) (split x .rest)
 
 -- ---- 3: "plan's step count wrong (line 1)"
@@ -122,20 +122,20 @@ firstLine x = take (endOf 0 x) x
 abbrev pub stepsSay : List ℕ → ℕ
 stepsSay x = shortAt (bytesOf (firstLine x)) 4
 
-abbrev pub stepsRight : Text → List ℕ → First → First
+abbrev pub stepsRight : Text → List ℕ → Reading → Reading
 stepsRight Query x a = a
 stepsRight Table x a = a
-stepsRight Plan x (Passed n c) = pick (eqb (stepsSay x + 1) n) (Passed n c) (Refused 3 1)
+stepsRight Plan x (Accepted n c) = pick (eqb (stepsSay x + 1) n) (Accepted n c) (Refused 3 1)
 stepsRight Plan x (Refused k l) = Refused k l
 
 -- ---- the whole: "A text's length is tested first"; "line 0 for an empty query or plan (2), a text too long (4)"; "Table (may be empty)"
 
-abbrev pub emptyText : Text → First
+abbrev pub emptyText : Text → Reading
 emptyText Query = Refused 2 0
 emptyText Plan = Refused 2 0
-emptyText Table = Passed 0 0
+emptyText Table = Accepted 0 0
 
-unfoldable pub firstReading : Text → List ℕ → First
+unfoldable pub firstReading : Text → List ℕ → Reading
 unfolding firstLines
 firstReading t x =
     pick (ltb textMost (length x)) (Refused 4 0)

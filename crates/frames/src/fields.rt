@@ -40,7 +40,13 @@ pub struct Counts {
     pub variables: u8,
     pub globals: u8,
     pub literals: u8,
-    pub atoms: u8,
+    pub atoms: usize,
+}
+
+pub fn wide(b: u8) -> usize
+    ensures { λ r. ⌜ (r ≡ b) × (r < 256) ⌝ }
+{
+    b as usize
 }
 
 pub fn width(x: Field) -> usize
@@ -203,7 +209,7 @@ pub fn field_in(n: Counts, x: Field, line: &[u8], i: usize) -> bool
         Field::Variable => byte_at(line, i) < n.variables,
         Field::Global => byte_at(line, i) < n.globals,
         Field::Literal => byte_at(line, i) < n.literals,
-        Field::Atom => byte_at(line, i) < n.atoms,
+        Field::Atom => wide(byte_at(line, i)) < n.atoms,
         Field::Bootstrap => true,
         Field::Real => true,
         Field::Class => true,

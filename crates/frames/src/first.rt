@@ -22,10 +22,10 @@ pub enum Text {
     Table,
 }
 
-// What the first reading finds.
-pub enum First {
+// What a reading finds.
+pub enum Reading {
     // how many lines there are, and how many of them are atoms or rows
-    Passed(usize, usize),
+    Accepted(usize, usize),
     // number and line
     Refused(u8, usize),
 }
@@ -146,7 +146,7 @@ fn frame_fault(t: Text, first: bool, c: usize, line: &[u8]) -> u8
 }
 
 // The lines in turn.
-fn first_lines(t: Text, text: &[u8]) -> First
+fn first_lines(t: Text, text: &[u8]) -> Reading
     requires { ⌜ length (now text) ≤ 65536 ⌝ }
     ensures { λ r. ⌜ r ≡ firstFrom t 0 0 (now (text .entry)) ⌝ }
 {
@@ -155,17 +155,17 @@ fn first_lines(t: Text, text: &[u8]) -> First
     let mut c: usize = 0;
     while at < text.len() {
         let Found::At(e) = hex_line(text, at) else {
-            return First::Refused(1, n + 1);
+            return Reading::Refused(1, n + 1);
         };
         let fault = frame_fault(t, n == 0, c, &text[at..e]);
         if fault != 0 {
-            return First::Refused(fault, n + 1);
+            return Reading::Refused(fault, n + 1);
         }
         c = counted(t, c, byte_at(&text[at..e], 0));
         at = e + 1;
         n += 1;
     }
-    First::Passed(n, c)
+    Reading::Accepted(n, c)
 }
 
 fn wide(s: u16) -> usize
@@ -182,40 +182,40 @@ fn steps_say(text: &[u8]) -> usize
     wide(short_at(&text[..e], 4))
 }
 
-fn steps_right(t: Text, text: &[u8], found: First) -> First
+fn steps_right(t: Text, text: &[u8], found: Reading) -> Reading
     ensures { λ r. ⌜ r ≡ stepsRight t (now (text .entry)) found ⌝ }
 {
     match t {
         Text::Query => found,
         Text::Table => found,
         Text::Plan => match found {
-            First::Refused(k, l) => First::Refused(k, l),
-            First::Passed(n, c) => {
+            Reading::Refused(k, l) => Reading::Refused(k, l),
+            Reading::Accepted(n, c) => {
                 if steps_say(text) + 1 == n {
-                    return First::Passed(n, c);
+                    return Reading::Accepted(n, c);
                 }
-                First::Refused(3, 1)
+                Reading::Refused(3, 1)
             }
         },
     }
 }
 
-fn empty_text(t: Text) -> First
+fn empty_text(t: Text) -> Reading
     ensures { λ r. ⌜ r ≡ emptyText t ⌝ }
 {
     match t {
-        Text::Query => First::Refused(2, 0),
-        Text::Plan => First::Refused(2, 0),
-        Text::Table => First::Passed(0, 0),
+        Text::Query => Reading::Refused(2, 0),
+        Text::Plan => Reading::Refused(2, 0),
+        Text::Table => Reading::Accepted(0, 0),
     }
 }
 
 // The first reading of a text of any bytes and length.
-pub fn first_reading(t: Text, text: &[u8]) -> First
+pub fn first_reading(t: Text, text: &[u8]) -> Reading
     ensures { λ r. ⌜ r ≡ firstReading t (now (text .entry)) ⌝ }
 {
     if 65536 < text.len() {
-        return First::Refused(4, 0);
+        return Reading::Refused(4, 0);
     }
     if text.len() == 0 {
         return empty_text(t);

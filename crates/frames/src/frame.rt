@@ -10,13 +10,13 @@ use super::fields::Counts;
 use super::fields::Field;
 use super::fields::Test;
 use super::fields::field_passes;
+use super::fields::wide;
 use super::fields::width;
 use super::kinds::field_at;
 use super::kinds::field_count;
 use super::kinds::fixed_length;
 use super::kinds::item_of;
 use super::kinds::item_width;
-use super::kinds::wide;
 use hex::byte_at;
 
 // How many items a frame says it has.

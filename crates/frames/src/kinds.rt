@@ -7,6 +7,7 @@ ghost use Rattle.frames.specs.Fields.{width as widthOf};
 ghost use Rattle.frames.specs.Kinds.{kindAt, none, fixedLength};
 ghost use Rattle.frames.specs.Rows.{decode, rowOf};
 use super::fields::Field;
+use super::fields::wide;
 
 const COLUMNS: usize = 12;
 
@@ -990,12 +991,6 @@ fn column(kind: u8, j: usize) -> u8
     ensures { λ r. ⌜ r ≡ getD (rowOf (kindAt kind)) j 0 ⌝ }
 {
     KINDS[row_of(kind) * COLUMNS + j]
-}
-
-pub fn wide(b: u8) -> usize
-    ensures { λ r. ⌜ (r ≡ b) × (r < 256) ⌝ }
-{
-    b as usize
 }
 
 // The number of the text that has the kind.

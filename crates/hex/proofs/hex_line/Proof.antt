@@ -7,10 +7,6 @@ use Rattle.hex.specs.Scan.{scan}
 use Rattle.hex.proofs.Laws.{scan-starts, scan-again, scan-stops, scan-ends}
 use Rattle.hex.proofs.hex_line.Statement.{statement}
 use Rattle.hex.proofs.hex_line.Tie as tie
-use Rattle.hex.proofs.hex_line.Reads as reads
-use Rattle.hex.proofs.hex_line.Lts as lts
-use Rattle.hex.proofs.digit_value.Reads as digit-value-reads
-use Rattle.hex.proofs.stopped.Reads as stopped-reads
 
 abbrev Inv-loop : tie.InvT-loop
 Inv-loop text at i₀ i = (at ≤ i) × (hexLineOf at (drop at text) ≡ scan at i (drop i text))
@@ -18,39 +14,30 @@ Inv-loop text at i₀ i = (at ≤ i) × (hexLineOf at (drop at text) ≡ scan at
 abbrev μ-loop : tie.MeasureT-loop
 μ-loop text at i₀ i = length text - i
 
--- src/lib.rt:136:5
 loop-holds : tie.Need-loop-holds Inv-loop μ-loop
 loop-holds c = (search needs, search scan-starts)
 
--- src/lib.rt:137:17
 shared-slice-read-b : tie.Need-shared-slice-read-b Inv-loop μ-loop
 shared-slice-read-b c = search needs
 
--- src/lib.rt:138:12
 digit-value-requires : tie.Need-digit-value-requires Inv-loop μ-loop
 digit-value-requires c κs = search needs
 
--- src/lib.rt:139:13
 stopped-requires : tie.Need-stopped-requires Inv-loop μ-loop
 stopped-requires c κs = search needs
 
--- src/lib.rt:139:13
 returns : tie.Need-returns Inv-loop μ-loop
 returns c = search scan-stops
 
--- src/lib.rt:141:9
 add-i : tie.Need-add-i Inv-loop μ-loop
 add-i c = search needs
 
--- src/lib.rt:136:5
 loop-less : tie.Need-loop-less Inv-loop μ-loop
 loop-less c = search needs
 
--- src/lib.rt:136:5
 loop-again : tie.Need-loop-again Inv-loop μ-loop
 loop-again c = (search needs, search scan-again)
 
--- src/lib.rt:132:1
 returns-2 : tie.Need-returns-2 Inv-loop μ-loop
 returns-2 c = search scan-ends
 

@@ -2,29 +2,19 @@ use borrow.Author.Tests.{eq-eqb, ne-eqb}
 use borrow.Author.Needs.{needs}
 use Rattle.frames.proofs.first.belongs.Statement.{statement}
 use Rattle.frames.proofs.first.belongs.Tie as tie
-use Rattle.frames.proofs.first.belongs.Reads as reads
-use Rattle.frames.proofs.first.belongs.Lts as lts
-use Rattle.frames.proofs.first.in_place.Reads as in-place-reads
-use Rattle.frames.proofs.first.text_number.Reads as text-number-reads
-use Rattle.frames.proofs.kinds.text_of.Reads as text-of-reads
 
--- src/first.rt:71:8
 text-of-requires : tie.Need-text-of-requires
 text-of-requires c κs = search needs
 
--- src/first.rt:71:25
 text-number-requires : tie.Need-text-number-requires
 text-number-requires c κs = search needs
 
--- src/first.rt:72:9
 in-place-requires : tie.Need-in-place-requires
 in-place-requires c κs = search needs
 
--- src/first.rt:72:9
 returns : tie.Need-returns
 returns c = rw (← c .before .before .before .text-of .ensures, ← c .before .before .text-number .ensures, eq-eqb _ _ (c .before .if1 .taken)) (c .in-place .ensures)
 
--- src/first.rt:68:1
 returns-2 : tie.Need-returns-2
 returns-2 c = rw (← c .before .before .text-of .ensures, ← c .before .text-number .ensures, ne-eqb _ _ (c .if1 .left))
 

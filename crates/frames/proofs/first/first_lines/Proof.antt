@@ -6,12 +6,6 @@ use lib.ListN.{length}
 use Rattle.frames.proofs.FirstLaws.{Seen, found-from, found-within, next-fits, next-less, next-seen, line-refused, none-refused, all-passed}
 use Rattle.frames.proofs.first.first_lines.Statement.{statement}
 use Rattle.frames.proofs.first.first_lines.Tie as tie
-use Rattle.frames.proofs.first.first_lines.Reads as reads
-use Rattle.frames.proofs.first.first_lines.Lts as lts
-use Rattle.frames.proofs.first.counted.Reads as counted-reads
-use Rattle.frames.proofs.first.frame_fault.Reads as frame-fault-reads
-use Rattle.hex.proofs.byte_at.Reads as byte-at-reads
-use Rattle.hex.proofs.hex_line.Reads as hex-line-reads
 
 abbrev Inv-loop : tie.InvT-loop
 Inv-loop t text at₀ n₀ c₀ at n c = Seen t text at n c
@@ -19,91 +13,69 @@ Inv-loop t text at₀ n₀ c₀ at n c = Seen t text at n c
 abbrev μ-loop : tie.MeasureT-loop
 μ-loop t text at₀ n₀ c₀ at n c = length text - at
 
--- src/first.rt:156:5
 loop-holds : tie.Need-loop-holds Inv-loop μ-loop
 loop-holds c = record { few = search needs; most = search needs; within = search needs; is = refl }
 
--- src/first.rt:157:28
 hex-line-requires : tie.Need-hex-line-requires Inv-loop μ-loop
 hex-line-requires c κs = search needs
 
--- src/first.rt:157:23
 enum-known-e : tie.Need-enum-known-e Inv-loop μ-loop
 enum-known-e c = search needs
 
--- src/first.rt:158:38
 enum-told : tie.Need-enum-told Inv-loop μ-loop
 enum-told c = search needs
 
--- src/first.rt:158:38
 add-t11 : tie.Need-add-t11 Inv-loop μ-loop
 add-t11 c = search needs
 
--- src/first.rt:158:13
 returns : tie.Need-returns Inv-loop μ-loop
 returns c = search none-refused
 
--- src/first.rt:160:47
 sub-frame-fault : tie.Need-sub-frame-fault Inv-loop μ-loop
 sub-frame-fault c = search found-from
 
--- src/first.rt:160:47
 part-frame-fault-start : tie.Need-part-frame-fault-start Inv-loop μ-loop
 part-frame-fault-start c = search found-from
 
--- src/first.rt:160:47
 part-frame-fault-end : tie.Need-part-frame-fault-end Inv-loop μ-loop
 part-frame-fault-end c = search found-within
 
--- src/first.rt:160:13
 frame-fault-requires : tie.Need-frame-fault-requires Inv-loop μ-loop
 frame-fault-requires c κs = search needs
 
--- src/first.rt:162:42
 add-t15 : tie.Need-add-t15 Inv-loop μ-loop
 add-t15 c = search needs
 
--- src/first.rt:162:13
 returns-2 : tie.Need-returns-2 Inv-loop μ-loop
 returns-2 c = search line-refused
 
--- src/first.rt:164:35
 sub-byte-at : tie.Need-sub-byte-at Inv-loop μ-loop
 sub-byte-at c = search found-from
 
--- src/first.rt:164:35
 part-byte-at-start : tie.Need-part-byte-at-start Inv-loop μ-loop
 part-byte-at-start c = search found-from
 
--- src/first.rt:164:35
 part-byte-at-end : tie.Need-part-byte-at-end Inv-loop μ-loop
 part-byte-at-end c = search found-within
 
--- src/first.rt:164:27
 byte-at-requires : tie.Need-byte-at-requires Inv-loop μ-loop
 byte-at-requires c κs = search needs
 
--- src/first.rt:164:9
 counted-requires : tie.Need-counted-requires Inv-loop μ-loop
 counted-requires c κs = search needs
 
--- src/first.rt:165:14
 add-at : tie.Need-add-at Inv-loop μ-loop
 add-at c = search next-fits
 
--- src/first.rt:166:9
 add-n : tie.Need-add-n Inv-loop μ-loop
 add-n c = search needs
 
--- src/first.rt:156:5
 loop-less : tie.Need-loop-less Inv-loop μ-loop
 loop-less c = search next-less
 
--- src/first.rt:156:5
 loop-again : tie.Need-loop-again Inv-loop μ-loop
 loop-again c = search next-seen
 
--- src/first.rt:149:1
 returns-3 : tie.Need-returns-3 Inv-loop μ-loop
 returns-3 c = search all-passed
 

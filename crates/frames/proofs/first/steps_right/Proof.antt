@@ -2,55 +2,40 @@ use Rattle.frames.proofs.FirstLaws.{steps-refused, steps-agree, steps-d
 use borrow.Author.Needs.{needs}
 use Rattle.frames.proofs.first.steps_right.Statement.{statement}
 use Rattle.frames.proofs.first.steps_right.Tie as tie
-use Rattle.frames.proofs.first.steps_right.Reads as reads
-use Rattle.frames.proofs.first.steps_right.Lts as lts
-use Rattle.frames.proofs.first.steps_say.Reads as steps-say-reads
 
--- src/first.rt:189:24
 enum-told : tie.Need-enum-told
 enum-told c = search needs
 
--- src/first.rt:190:24
 enum-told-2 : tie.Need-enum-told-2
 enum-told-2 c = search needs
 
--- src/first.rt:191:23
 enum-told-3 : tie.Need-enum-told-3
 enum-told-3 c = search needs
 
--- src/first.rt:192:28
 enum-known-found : tie.Need-enum-known-found
 enum-known-found c = search needs
 
--- src/first.rt:193:27
 enum-known-found-2 : tie.Need-enum-known-found-2
 enum-known-found-2 c = search needs
 
--- src/first.rt:194:20
 steps-say-requires : tie.Need-steps-say-requires
 steps-say-requires c κs = search needs
 
--- src/first.rt:194:20
 add-if1 : tie.Need-add-if1
 add-if1 c = search needs
 
--- src/first.rt:195:21
 returns : tie.Need-returns
 returns c = search steps-agree
 
--- src/first.rt:185:1
 returns-2 : tie.Need-returns-2
 returns-2 c = search needs
 
--- src/first.rt:185:1
 returns-3 : tie.Need-returns-3
 returns-3 c = search needs
 
--- src/first.rt:185:1
 returns-4 : tie.Need-returns-4
 returns-4 c = search steps-refused
 
--- src/first.rt:185:1
 returns-5 : tie.Need-returns-5
 returns-5 c = search steps-differ
 

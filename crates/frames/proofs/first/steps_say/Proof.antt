@@ -3,29 +3,19 @@ use lib.Seq.{length-take-le}
 use borrow.Author.Needs.{needs}
 use Rattle.frames.proofs.first.steps_say.Statement.{statement}
 use Rattle.frames.proofs.first.steps_say.Tie as tie
-use Rattle.frames.proofs.first.steps_say.Reads as reads
-use Rattle.frames.proofs.first.steps_say.Lts as lts
-use Rattle.frames.proofs.first.wide.Reads as wide-reads
-use Rattle.hex.proofs.line_end.Reads as line-end-reads
-use Rattle.hex.proofs.short_at.Reads as short-at-reads
 
--- src/first.rt:181:9
 line-end-requires : tie.Need-line-end-requires
 line-end-requires c κs = search needs
 
--- src/first.rt:182:19
 slice-aggregate-short-at : tie.Need-slice-aggregate-short-at
 slice-aggregate-short-at c = sym (length-take-le _ _ (c .before .line-end .ensures .1))
 
--- src/first.rt:182:10
 short-at-requires : tie.Need-short-at-requires
 short-at-requires c κs = search needs
 
--- src/first.rt:182:5
 wide-requires : tie.Need-wide-requires
 wide-requires c κs = search needs
 
--- src/first.rt:178:1
 returns : tie.Need-returns
 returns c = (cc, search needs)
 

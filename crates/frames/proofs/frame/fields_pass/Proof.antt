@@ -7,13 +7,6 @@ use Rattle.frames.specs.Kinds.{kindAt}
 use Rattle.frames.proofs.FrameLaws.{Passing, fields-again, fields-fail, fields-end}
 use Rattle.frames.proofs.frame.fields_pass.Statement.{statement}
 use Rattle.frames.proofs.frame.fields_pass.Tie as tie
-use Rattle.frames.proofs.frame.fields_pass.Reads as reads
-use Rattle.frames.proofs.frame.fields_pass.Lts as lts
-use Rattle.frames.proofs.fields.field_passes.Reads as field-passes-reads
-use Rattle.frames.proofs.fields.width.Reads as width-reads
-use Rattle.frames.proofs.kinds.field_at.Reads as field-at-reads
-use Rattle.frames.proofs.kinds.field_count.Reads as field-count-reads
-use Rattle.hex.proofs.byte_at.Reads as byte-at-reads
 
 abbrev Inv-loop : tie.InvT-loop
 Inv-loop t n line kind count at₀ j₀ at j = Passing t n (kindAt kind .fields) (bytesOf line) 1 at j
@@ -21,51 +14,39 @@ Inv-loop t n line kind count at₀ j₀ at j = Passing t n (kindAt kind .fields)
 abbrev μ-loop : tie.MeasureT-loop
 μ-loop t n line kind count at₀ j₀ at j = count - j
 
--- src/frame.rt:49:9
 byte-at-requires : tie.Need-byte-at-requires Inv-loop μ-loop
 byte-at-requires c κs = search needs
 
--- src/frame.rt:50:9
 field-count-requires : tie.Need-field-count-requires Inv-loop μ-loop
 field-count-requires c κs = search needs
 
--- src/frame.rt:53:5
 loop-holds : tie.Need-loop-holds Inv-loop μ-loop
 loop-holds c = record { small = search needs; is = refl }
 
--- src/frame.rt:54:13
 field-at-requires : tie.Need-field-at-requires Inv-loop μ-loop
 field-at-requires c κs = search needs
 
--- src/frame.rt:55:13
 field-passes-requires : tie.Need-field-passes-requires Inv-loop μ-loop
 field-passes-requires c κs = search needs
 
--- src/frame.rt:56:13
 returns : tie.Need-returns Inv-loop μ-loop
 returns c = search fields-fail
 
--- src/frame.rt:58:15
 width-requires : tie.Need-width-requires Inv-loop μ-loop
 width-requires c κs = search needs
 
--- src/frame.rt:58:9
 add-at : tie.Need-add-at Inv-loop μ-loop
 add-at c = search needs
 
--- src/frame.rt:59:9
 add-j : tie.Need-add-j Inv-loop μ-loop
 add-j c = search needs
 
--- src/frame.rt:53:5
 loop-less : tie.Need-loop-less Inv-loop μ-loop
 loop-less c = search needs
 
--- src/frame.rt:53:5
 loop-again : tie.Need-loop-again Inv-loop μ-loop
 loop-again c = search fields-again
 
--- src/frame.rt:46:1
 returns-2 : tie.Need-returns-2 Inv-loop μ-loop
 returns-2 c = search fields-end
 

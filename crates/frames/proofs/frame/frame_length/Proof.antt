@@ -3,38 +3,25 @@ use Rattle.frames.proofs.FrameLaws.{product-small}
 use borrow.Author.Needs.{needs}
 use Rattle.frames.proofs.frame.frame_length.Statement.{statement}
 use Rattle.frames.proofs.frame.frame_length.Tie as tie
-use Rattle.frames.proofs.frame.frame_length.Reads as reads
-use Rattle.frames.proofs.frame.frame_length.Lts as lts
-use Rattle.frames.proofs.frame.items_of.Reads as items-of-reads
-use Rattle.frames.proofs.kinds.fixed_length.Reads as fixed-length-reads
-use Rattle.frames.proofs.kinds.item_width.Reads as item-width-reads
-use Rattle.hex.proofs.byte_at.Reads as byte-at-reads
 
--- src/frame.rt:38:9
 byte-at-requires : tie.Need-byte-at-requires
 byte-at-requires c κs = search needs
 
--- src/frame.rt:39:9
 fixed-length-requires : tie.Need-fixed-length-requires
 fixed-length-requires c κs = search needs
 
--- src/frame.rt:40:9
 item-width-requires : tie.Need-item-width-requires
 item-width-requires c κs = search needs
 
--- src/frame.rt:41:9
 items-of-requires : tie.Need-items-of-requires
 items-of-requires c κs = search needs
 
--- src/frame.rt:42:13
 mul-result : tie.Need-mul-result
 mul-result c = omega (arith, product-small (c .before .item-width .result) (c .items-of .result) (c .before .item-width .ensures .1) (c .items-of .ensures .1))
 
--- src/frame.rt:42:5
 add-result : tie.Need-add-result
 add-result c = omega (arith, product-small (c .before .item-width .result) (c .items-of .result) (c .before .item-width .ensures .1) (c .items-of .ensures .1))
 
--- src/frame.rt:35:1
 returns : tie.Need-returns
 returns c = (cc, omega (arith, product-small (c .before .item-width .result) (c .items-of .result) (c .before .item-width .ensures .1) (c .items-of .ensures .1)))
 

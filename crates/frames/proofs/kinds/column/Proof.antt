@@ -10,9 +10,6 @@ use Rattle.frames.specs.Rows.{rowOf}
 use borrow.Author.Needs.{needs}
 use Rattle.frames.proofs.kinds.column.Statement.{statement}
 use Rattle.frames.proofs.kinds.column.Tie as tie
-use Rattle.frames.proofs.kinds.column.Reads as reads
-use Rattle.frames.proofs.kinds.column.Lts as lts
-use Rattle.frames.proofs.kinds.row_of.Reads as row-of-reads
 
 rows : List ℕ
 rows =
@@ -110,19 +107,15 @@ cell r kind j a e b =
 row-of-requires : tie.Need-row-of-requires
 row-of-requires c κs = search needs
 
--- src/kinds.rt:992:11
 mul-result : tie.Need-mul-result
 mul-result c = search needs
 
--- src/kinds.rt:992:11
 add-result : tie.Need-add-result
 add-result c = search needs
 
--- src/kinds.rt:992:5
 array-read-result : tie.Need-array-read-result
 array-read-result c = search needs
 
--- src/kinds.rt:988:1
 returns : tie.Need-returns
 unfolding rows
 returns c = cell (c .row-of .result) (c .before .args .kind) (c .before .args .j) (c .row-of .ensures .0) (c .row-of .ensures .1) (c .before .pre)
