@@ -128,3 +128,23 @@ pub all-rest : (t : List ℕ) → split t .ended ≡ [] → split t .rest ≡ t
 unfolding split
 all-rest [] q = refl
 all-rest (b ∷ t) q = rest-by b t (eqb b 10) refl (all-rest t) q
+
+-- where no line is ended, the search for 0a meets the end
+none-by : (b : ℕ) (t : List ℕ) (at : ℕ) (d : Bool) → eqb b 10 ≡ d → (split t .ended ≡ [] → endOf (suc at) t ≡ suc at + length t) → split (b ∷ t) .ended ≡ [] → endOf at (b ∷ t) ≡ at + suc (length t)
+unfolding split
+none-by b t at true e f q =
+    let p : [] ∷ split t .ended ≡ [] = rw e at q in
+    let z : _≡_ {A = ℕ} 0 1 = cc in
+    absurd (omega arith)
+none-by b t at false e f q =
+    let p : withByte b (split t .ended) (split t .rest) .ended ≡ [] = rw e at q in
+    rw e (go (split t .ended) refl p)
+  where
+    go : (es : List (List ℕ)) → split t .ended ≡ es → withByte b es (split t .rest) .ended ≡ [] → endOf (suc at) t ≡ at + suc (length t)
+    go [] d g = f d ∙ (suc-add at (length t) ∙ sym (add-suc at (length t)))
+    go (m ∷ ms) d g = let z : _≡_ {A = ℕ} 0 1 = cc in absurd (omega arith)
+
+pub end-none : (t : List ℕ) (at : ℕ) → split t .ended ≡ [] → endOf at t ≡ at + length t
+unfolding split
+end-none [] at q = sym (add-zero at)
+end-none (b ∷ t) at q = none-by b t at (eqb b 10) refl (end-none t (suc at)) q
