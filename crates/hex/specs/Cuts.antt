@@ -1,7 +1,7 @@
 -- A text's first line cut off: what the split into lines says of the bytes. Assumes nothing.
 use Prim.Native.Nat.{ℕ, zero, suc, _+_, _-_, _<_, _≤_}
 use mathlib.Core.Path.{_≡_, refl, sym, _∙_, ap}
-use mathlib.Core.List.{List, [], _∷_}
+use mathlib.Core.List.{List, [], _∷_, _++_}
 use mathlib.Core.Bool.{Bool, true, false}
 use native.Mathlib.Omega.{arith}
 use native.Mathlib.Nat.{add-zero, add-suc, suc-add}
@@ -18,13 +18,14 @@ pub record Cut (t l : List ℕ) : Type 0 where
   pub within : length l < length t
   pub line : l ≡ take (length l) t
   pub splits : split t ≡ withLine l (split (drop (suc (length l)) t))
+  pub alone : split (take (suc (length l)) t) ≡ record { ended = l ∷ []; rest = [] }
 
 cut-more : (b : ℕ) (t l : List ℕ) (s : Split) → eqb b 10 ≡ false → s ≡ split t → ((m : List ℕ) (ms : List (List ℕ)) → s .ended ≡ m ∷ ms → Cut t m) → (ls : List (List ℕ)) → withByte b (s .ended) (s .rest) .ended ≡ l ∷ ls → Cut (b ∷ t) l
 unfolding split
 cut-more b t l s e p f ls q = go (s .ended) refl q
   where
     made : (m : List ℕ) → Cut t m → l ≡ b ∷ m → Cut (b ∷ t) l
-    made m c r = rw r (record { within = omega (arith, c .within); line = ap (λ (k : List ℕ). b ∷ k) (c .line); splits = rw (e, c .splits) })
+    made m c r = rw r (record { within = omega (arith, c .within); line = ap (λ (k : List ℕ). b ∷ k) (c .line); splits = rw (e, c .splits); alone = rw (e, c .alone) })
 
     go : (es : List (List ℕ)) → s .ended ≡ es → withByte b es (s .rest) .ended ≡ l ∷ ls → Cut (b ∷ t) l
     go [] d g = let z : _≡_ {A = ℕ} 0 1 = cc in absurd (omega arith)
@@ -36,7 +37,7 @@ cut-by b t l ls true e f q =
     let r : split t .ended ≡ split t .ended = refl in
     let p : [] ∷ split t .ended ≡ l ∷ ls = rw e at q in
     let n : l ≡ [] = cc in
-    rw n (record { within = omega arith; line = refl; splits = rw e })
+    rw n (record { within = omega arith; line = refl; splits = rw e; alone = rw e })
 cut-by b t l ls false e f q =
     let p : withByte b (split t .ended) (split t .rest) .ended ≡ l ∷ ls = rw e at q in
     cut-more b t l (split t) e refl f ls p
@@ -73,16 +74,19 @@ pub record Line (t : List ℕ) (at e : ℕ) : Type 0 where
   pub from : at ≤ e
   pub within : e < length t
   pub splits : split (drop at t) ≡ withLine (take (e - at) (drop at t)) (split (drop (e + 1) t))
+  pub alone : split (take (e + 1 - at) (drop at t)) ≡ record { ended = take (e - at) (drop at t) ∷ []; rest = [] }
 
 line-of : (t : List ℕ) (at e : ℕ) (l : List ℕ) → Cut (drop at t) l → e ≡ at + length l → Line t at e
 line-of t at e l c p =
     let k : e - at ≡ length l = omega arith in
     let m : at + suc (length l) ≡ e + 1 = omega arith in
+    let o : e + 1 - at ≡ suc (length l) = omega arith in
     let w : length l < length (drop at t) = c .within in
     record {
       from = omega arith;
       within = omega (arith, length-drop at t);
       splits = rw (k, ← c .line, ← m, ← drop-drop (suc (length l)) at t) (c .splits);
+      alone = rw (o, k, ← c .line) (c .alone);
     }
 
 -- from a search for a line's end
@@ -148,3 +152,27 @@ pub end-none : (t : List ℕ) (at : ℕ) → split t .ended ≡ [] → endOf at 
 unfolding split
 end-none [] at q = sym (add-zero at)
 end-none (b ∷ t) at q = none-by b t at (eqb b 10) refl (end-none t (suc at)) q
+
+-- a text of whole lines, and what follows it
+app-more : (b : ℕ) (a y : List ℕ) → eqb b 10 ≡ false → split (a ++ y) ≡ record { ended = split a .ended ++ split y .ended; rest = split y .rest } → (es : List (List ℕ)) → split a .ended ≡ es → withByte b es (split a .rest) .rest ≡ [] → split (b ∷ a ++ y) ≡ record { ended = withByte b es (split a .rest) .ended ++ split y .ended; rest = split y .rest }
+unfolding split
+app-more b a y e f [] d q = let z : _≡_ {A = ℕ} 0 1 = cc in absurd (omega arith)
+app-more b a y e f (m ∷ ms) d q = rw (e, f, d)
+
+rest-more : (b : ℕ) (es : List (List ℕ)) (r : List ℕ) → withByte b es r .rest ≡ [] → r ≡ []
+rest-more b [] r q = let z : _≡_ {A = ℕ} 0 1 = cc in absurd (omega arith)
+rest-more b (m ∷ ms) r q = q
+
+app-by : (b : ℕ) (a y : List ℕ) (d : Bool) → eqb b 10 ≡ d → (split a .rest ≡ [] → split (a ++ y) ≡ record { ended = split a .ended ++ split y .ended; rest = split y .rest }) → split (b ∷ a) .rest ≡ [] → split (b ∷ a ++ y) ≡ record { ended = split (b ∷ a) .ended ++ split y .ended; rest = split y .rest }
+unfolding split
+app-by b a y true e f q =
+    let p : split a .rest ≡ [] = rw e at q in
+    rw (e, f p)
+app-by b a y false e f q =
+    let p : withByte b (split a .ended) (split a .rest) .rest ≡ [] = rw e at q in
+    rw e (rw e at (app-more b a y e (f (rest-more b (split a .ended) (split a .rest) p)) (split a .ended) refl p))
+
+pub split-append : (a y : List ℕ) → split a .rest ≡ [] → split (a ++ y) ≡ record { ended = split a .ended ++ split y .ended; rest = split y .rest }
+unfolding split
+split-append [] y q = refl
+split-append (b ∷ a) y q = app-by b a y (eqb b 10) refl (split-append a y) q

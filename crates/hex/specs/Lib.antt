@@ -3,3 +3,4 @@ pub mod Lines
 pub mod Scan
 pub mod Bytes
 pub mod Cuts
+pub mod Case
