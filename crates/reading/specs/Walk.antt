@@ -1,12 +1,13 @@
 -- A walk over a text's frames, line by line: what the search for a line's end says of the frames that are left. Assumes nothing.
 use Prim.Native.Nat.{ℕ, suc, _+_, _-_, _<_, _≤_}
 use mathlib.Core.Path.{_≡_, refl, sym, _∙_, ap}
-use mathlib.Core.List.{List, [], _∷_, map}
+use mathlib.Core.List.{List, [], _∷_, _++_, map, map-append}
 use native.Mathlib.Omega.{arith}
 use lib.ListN.{length, take, drop, length-drop, drop-of-length-le}
+use lib.Seq.{take-add}
 use Rattle.hex.specs.Digits.{bytesOf}
 use Rattle.hex.specs.Lines.{split, withLine, endOf}
-use Rattle.hex.specs.Cuts.{Line, end-line, end-none}
+use Rattle.hex.specs.Cuts.{Line, end-line, end-none, split-append}
 use Rattle.frames.specs.First.{framesOf}
 
 -- where a 0a is found, a line ends there
@@ -34,3 +35,15 @@ frames-none x at e p n = go (split (drop at x) .ended) refl
 pub frames-end : (x : List ℕ) (at : ℕ) → length x ≤ at → framesOf (drop at x) ≡ []
 unfolding framesOf split
 frames-end x at h = rw (drop-of-length-le x h)
+
+-- the frames before a line's end, where whole lines stand before the line
+pub lines-before : (x : List ℕ) (at e : ℕ) → split (take at x) .rest ≡ [] → Line x at e → split (take (e + 1) x) ≡ record { ended = split (take at x) .ended ++ take (e - at) (drop at x) ∷ []; rest = [] }
+lines-before x at e w l =
+    let from = l .from in
+    let n : e + 1 ≡ at + (e + 1 - at) = omega arith in
+    let t : take (e + 1) x ≡ take at x ++ take (e + 1 - at) (drop at x) = ap (λ (m : ℕ). take m x) n ∙ take-add at (e + 1 - at) x in
+    rw (t, split-append (take at x) (take (e + 1 - at) (drop at x)) w, l .alone)
+
+pub frames-before : (x : List ℕ) (at e : ℕ) → split (take at x) .rest ≡ [] → Line x at e → framesOf (take (e + 1) x) ≡ framesOf (take at x) ++ bytesOf (take (e - at) (drop at x)) ∷ []
+unfolding framesOf
+frames-before x at e w l = rw (lines-before x at e w l) (map-append bytesOf (split (take at x) .ended) (take (e - at) (drop at x) ∷ []))

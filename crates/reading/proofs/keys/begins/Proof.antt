@@ -4,9 +4,6 @@ use mathlib.Core.Path.{refl}
 use Rattle.reading.proofs.KeyLaws.{Begun, begins-short, begins-all, begins-again, begins-not}
 use Rattle.reading.proofs.keys.begins.Statement.{statement}
 use Rattle.reading.proofs.keys.begins.Tie as tie
-use Rattle.reading.proofs.keys.begins.Reads as reads
-use Rattle.reading.proofs.keys.begins.Lts as lts
-use Rattle.hex.proofs.byte_at.Reads as byte-at-reads
 
 abbrev Inv-loop : tie.InvT-loop
 Inv-loop key line n i₀ i = Begun key line i
@@ -14,39 +11,30 @@ Inv-loop key line n i₀ i = Begun key line i
 abbrev μ-loop : tie.MeasureT-loop
 μ-loop key line n i₀ i = n - i
 
--- src/keys.rt:18:9
 returns : tie.Need-returns Inv-loop μ-loop
 returns c = search begins-short
 
--- src/keys.rt:21:5
 loop-holds : tie.Need-loop-holds Inv-loop μ-loop
 loop-holds c = record { is = refl }
 
--- src/keys.rt:22:12
 byte-at-requires : tie.Need-byte-at-requires Inv-loop μ-loop
 byte-at-requires c κs = search needs
 
--- src/keys.rt:22:31
 byte-at-requires-2 : tie.Need-byte-at-requires-2 Inv-loop μ-loop
 byte-at-requires-2 c κs = search needs
 
--- src/keys.rt:23:13
 returns-2 : tie.Need-returns-2 Inv-loop μ-loop
 returns-2 c = search begins-not
 
--- src/keys.rt:25:9
 add-i : tie.Need-add-i Inv-loop μ-loop
 add-i c = search needs
 
--- src/keys.rt:21:5
 loop-less : tie.Need-loop-less Inv-loop μ-loop
 loop-less c = search needs
 
--- src/keys.rt:21:5
 loop-again : tie.Need-loop-again Inv-loop μ-loop
 loop-again c = begins-again _ _ _ (c .before .before .before .before .loop .inv) _ _ (c .before .before .before .loop-test .taken) (c .before .before .before .before .before .if1 .left) (c .before .before .byte-at .ensures) (c .before .byte-at2 .ensures) (c .if2 .left)
 
--- src/keys.rt:13:1
 returns-3 : tie.Need-returns-3 Inv-loop μ-loop
 returns-3 c = search begins-all
 

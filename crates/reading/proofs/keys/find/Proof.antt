@@ -5,10 +5,6 @@ use lib.ListN.{length}
 use Rattle.reading.proofs.KeyLaws.{Seeking, not-found, no-line-left, line-from, line-within, line-less, is-found, seek-again}
 use Rattle.reading.proofs.keys.find.Statement.{statement}
 use Rattle.reading.proofs.keys.find.Tie as tie
-use Rattle.reading.proofs.keys.find.Reads as reads
-use Rattle.reading.proofs.keys.find.Lts as lts
-use Rattle.hex.proofs.line_end.Reads as line-end-reads
-use Rattle.reading.proofs.keys.begins.Reads as begins-reads
 
 abbrev Inv-loop : tie.InvT-loop
 Inv-loop text key at₀ at = Seeking text key at
@@ -16,87 +12,66 @@ Inv-loop text key at₀ at = Seeking text key at
 abbrev μ-loop : tie.MeasureT-loop
 μ-loop text key at₀ at = length text - at
 
--- src/keys.rt:35:5
 loop-holds : tie.Need-loop-holds Inv-loop μ-loop
 loop-holds c = record { within = search needs; is = refl }
 
--- src/keys.rt:36:13
 line-end-requires : tie.Need-line-end-requires Inv-loop μ-loop
 line-end-requires c κs = search needs
 
--- src/keys.rt:38:20
 sub-result : tie.Need-sub-result Inv-loop μ-loop
 sub-result c = search needs
 
--- src/keys.rt:38:20
 part-result-start : tie.Need-part-result-start Inv-loop μ-loop
 part-result-start c = search needs
 
--- src/keys.rt:38:20
 part-result-end : tie.Need-part-result-end Inv-loop μ-loop
 part-result-end c = search needs
 
--- src/keys.rt:38:13
 returns : tie.Need-returns Inv-loop μ-loop
 returns c = search no-line-left
 
--- src/keys.rt:40:24
 sub-begins : tie.Need-sub-begins Inv-loop μ-loop
 sub-begins c = search line-from
 
--- src/keys.rt:40:24
 part-begins-start : tie.Need-part-begins-start Inv-loop μ-loop
 part-begins-start c = search line-from
 
--- src/keys.rt:40:24
 part-begins-end : tie.Need-part-begins-end Inv-loop μ-loop
 part-begins-end c = search line-within
 
--- src/keys.rt:40:12
 begins-requires : tie.Need-begins-requires Inv-loop μ-loop
 begins-requires c κs = search needs
 
--- src/keys.rt:41:20
 sub-result-2 : tie.Need-sub-result-2 Inv-loop μ-loop
 sub-result-2 c = search line-from
 
--- src/keys.rt:41:20
 part-result-start-2 : tie.Need-part-result-start-2 Inv-loop μ-loop
 part-result-start-2 c = search line-from
 
--- src/keys.rt:41:20
 part-result-end-2 : tie.Need-part-result-end-2 Inv-loop μ-loop
 part-result-end-2 c = search line-within
 
--- src/keys.rt:41:13
 returns-2 : tie.Need-returns-2 Inv-loop μ-loop
 returns-2 c = search is-found
 
--- src/keys.rt:43:14
 add-at : tie.Need-add-at Inv-loop μ-loop
 add-at c = search needs
 
--- src/keys.rt:35:5
 loop-less : tie.Need-loop-less Inv-loop μ-loop
 loop-less c = search line-less
 
--- src/keys.rt:35:5
 loop-again : tie.Need-loop-again Inv-loop μ-loop
 loop-again c = search seek-again
 
--- src/keys.rt:45:5
 sub-result-3 : tie.Need-sub-result-3 Inv-loop μ-loop
 sub-result-3 c = search needs
 
--- src/keys.rt:45:5
 part-result-start-3 : tie.Need-part-result-start-3 Inv-loop μ-loop
 part-result-start-3 c = search needs
 
--- src/keys.rt:45:5
 part-result-end-3 : tie.Need-part-result-end-3 Inv-loop μ-loop
 part-result-end-3 c = search needs
 
--- src/keys.rt:31:1
 returns-3 : tie.Need-returns-3 Inv-loop μ-loop
 returns-3 c = search not-found
 
