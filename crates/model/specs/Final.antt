@@ -134,7 +134,7 @@ global-vars : (B : Bound) (a g : ℕ) (p : Bool) (l : Emitted) → has B a ≡ p
 global-vars B a g true l h e = subst (λ (m : Emitted). m .bound ≡ add B a) (Option·some-injective _ _ e) (sym (add-has B a h))
 global-vars B a g false l h e = subst (λ (m : Emitted). m .bound ≡ add B a) (Option·some-injective _ _ e) refl
 
-lower-vars : (B : Bound) (k : ℕ) (a : Atom) (l : Emitted) → lower B k a ≡ some l → l .bound ≡ withVars B a
+pub lower-vars : (B : Bound) (k : ℕ) (a : Atom) (l : Emitted) → lower B k a ≡ some l → l .bound ≡ withVars B a
 unfolding lower
 lower-vars B k (Plain n o cs) l e = sym (ap (λ (m : Emitted). m .bound) (Option·some-injective _ _ e))
 lower-vars B k (Lit n o x) l e = sym (ap (λ (m : Emitted). m .bound) (Option·some-injective _ _ e))

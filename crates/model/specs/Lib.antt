@@ -7,6 +7,7 @@ pub mod Lowering
 pub mod Scheduling
 pub mod Running
 pub mod Matching
+pub mod Waiting
 -- Theorems
 pub mod Agreement
 pub mod Group
@@ -17,6 +18,7 @@ pub mod Lines
 pub mod Matches
 pub mod Scheduled
 pub mod Cheapest
+pub mod Unlowered
 pub mod Guarantee
 pub mod Accepted
 pub mod Premises

@@ -18,7 +18,7 @@ has-marks [] B v = sym (or-false (has B v))
 has-marks (local u ∷ cs) B v = has-marks cs (add B u) v ∙ ap (λ b. b || inOperands v cs) (has-add B u v) ∙ or-assoc (has B v) (eqb v u) (inOperands v cs)
 has-marks (global g ∷ cs) B v = has-marks cs B v
 
-has-with : (a : Atom) (B : Bound) (v : ℕ) → has (withVars B a) v ≡ (has B v || mentions v a)
+pub has-with : (a : Atom) (B : Bound) (v : ℕ) → has (withVars B a) v ≡ (has B v || mentions v a)
 has-with (Plain n o cs) B v = has-marks cs (add B n) v ∙ ap (λ b. b || inOperands v cs) (has-add B n v) ∙ or-assoc (has B v) (eqb v n) (inOperands v cs)
 has-with (Lit n o x) B v = has-add B n v
 has-with (LitBind n o l) B v = has-add B n v

@@ -7,13 +7,16 @@ use mathlib.Core.Bool.{Bool, true, false}
 use mathlib.Core.Option.{Option, none, some}
 use mathlib.Core.List.{List, [], _∷_, _++_, append-nil, append-assoc, List·Memᴰ, List·Memᴰ·head, List·Memᴰ·tail, List·Memᴰ·cases-cons, List·Memᴰ·not-nil, List·Memᴰ·append-cases, List·Memᴰ·eq-of-singleton, Memᴰ·append-left, Memᴰ·append-right}
 use lib.Dec.{T, eqb}
+use lib.ListN.{length}
 use native.Mathlib.Decide.{ℕ-discrete}
+use native.Mathlib.Nat.{not-suc-le-zero, le-of-suc-le-suc}
 use borrow.Author.Tests.{eqb-true, eqb-false}
 use Rattle.base.specs.Choose.{pick}
+use Rattle.model.specs.Lists.{At, mem-tabulate, tabulate-mem}
 use Rattle.model.specs.Atoms.{Atom, Plain, Lit, LitBind, Eq, EqGlobal, Pred, Variadic, Step}
 use Rattle.model.specs.Bound.{Bound, has, add, put-same, put-other, add-keeps}
 use Rattle.model.specs.Lowering.{Emitted, lowerEq, lowerEqGlobal, lower, Lowered, done, more}
-use Rattle.model.specs.Scheduling.{allUsed, depsUsed, isFree, onlyIf, tryEagerLower, scans, State, unplanned, took, settle, unlowered, Chosen, tryAt, eagerPass, lowerEager, emitAt, goOn, scheduleLoop, Fair}
+use Rattle.model.specs.Scheduling.{allUsed, depsUsed, isFree, onlyIf, tryEagerLower, scans, State, unplanned, took, settle, unlowered, Chosen, tryAt, eagerPass, lowerEager, emitAt, goOn, scheduleLoop, Fair, atomOf, numbers, schedule}
 
 -- what is taken eagerly lowers, a Pred behind its dependencies
 eager-takes : (U B : Bound) (k : ℕ) (a : Atom) (l : Emitted) → tryEagerLower U B k a ≡ some l → (depsUsed U a ≡ true) × (lower B k a ≡ some l)
@@ -86,7 +89,7 @@ unfolding unlowered
 unlowered-le U j [] = omega arith
 unlowered-le U j (i ∷ js) = pick-le (has U i) (has (add U j) i) _ _ (add-keeps U j i) (unlowered-le U j js)
 
-unlowered-lt : (U : Bound) (j : ℕ) (js : List ℕ) → has U j ≡ false → List·Memᴰ j js → unlowered (add U j) js < unlowered U js
+pub unlowered-lt : (U : Bound) (j : ℕ) (js : List ℕ) → has U j ≡ false → List·Memᴰ j js → unlowered (add U j) js < unlowered U js
 unfolding unlowered
 unlowered-lt U j [] h m = absurd (List·Memᴰ·not-nil m)
 unlowered-lt U j (i ∷ js) h m = at (List·Memᴰ·cases-cons m) (λ k. unlowered-lt U j js h k)
@@ -133,7 +136,7 @@ module _ (atomAt : ℕ → Atom) (js : List ℕ) where
   passes-reached (suc f) st p = let q = pass-reached js st (λ i m. m) p in pick-reached (eqb (unlowered (eagerPass atomAt js js st .used) js) (unlowered (st .used) js)) _ _ q (passes-reached f (eagerPass atomAt js js st) q)
 
   module _ {X : Type 0} (choose : X → State → Chosen X) (fair : Fair atomAt js choose) where
-    pub rounds-reached : (f : ℕ) (x : X) (st : State) → Reached atomAt js st → Reached atomAt js (scheduleLoop atomAt js choose f x st)
+    rounds-reached : (f : ℕ) (x : X) (st : State) → Reached atomAt js st → Reached atomAt js (scheduleLoop atomAt js choose f x st)
     unfolding scheduleLoop
     rounds-reached zero x st p = p
     rounds-reached (suc f) x st p = at (choose x s .at) refl (λ y t. rounds-reached f y t)
@@ -218,7 +221,7 @@ module _ (atomAt : ℕ → Atom) (js : List ℕ) where
     emit-left : (i : ℕ) (s : State) → List·Memᴰ i js → has (s .used) i ≡ false → scans (atomAt i) ≡ true → unlowered (emitAt atomAt js i s .used) js < unlowered (s .used) js
     emit-left i s m u c = let r = scans-low (s .bound) i (atomAt i) c in rw (r .1) (unlowered-lt (s .used) i js u m)
 
-    pub rounds-ended : (f : ℕ) (x : X) (st : State) → unlowered (st .used) js < f → Ended (scheduleLoop atomAt js choose f x st)
+    rounds-ended : (f : ℕ) (x : X) (st : State) → unlowered (st .used) js < f → Ended (scheduleLoop atomAt js choose f x st)
     unfolding scheduleLoop
     rounds-ended zero x st h = absurd (omega arith)
     rounds-ended (suc f) x st h = at (choose x s .at) refl (λ y t. rounds-ended f y t)
@@ -258,3 +261,32 @@ waits U B k (EqGlobal a g) e s = at (has B a) e
     at : (p : Bool) → lowerEqGlobal p B a g ≡ none → Waits U B (EqGlobal a g)
     at true e = let z : _≡_ {A = ℕ} 0 1 = cc in absurd (omega arith)
     at false e = let z : _≡_ {A = ℕ} 0 1 = cc in absurd (omega arith)
+
+pub mem-at : (qs : List Atom) (a : Atom) → List·Memᴰ a qs → At (length qs) (atomOf qs) a
+unfolding atomOf
+mem-at [] a m = absurd (List·Memᴰ·not-nil m)
+mem-at (x ∷ qs) a m = at (List·Memᴰ·cases-cons m) (λ k. mem-at qs a k)
+  where
+    at : (a ≡ x) ⊎ List·Memᴰ a qs → (List·Memᴰ a qs → At (length qs) (atomOf qs) a) → At (suc (length qs)) (atomOf (x ∷ qs)) a
+    at (inl e) r = record { place = 0; below = omega arith; is = e }
+    at (inr k) r = let q = r k in record { place = suc (q .place); below = omega (arith, q .below); is = q .is }
+
+at-mem : (qs : List Atom) (i : ℕ) → i < length qs → List·Memᴰ (atomOf qs i) qs
+unfolding atomOf
+at-mem [] i h = absurd (not-suc-le-zero h)
+at-mem (x ∷ qs) zero h = List·Memᴰ·head refl
+at-mem (x ∷ qs) (suc i) h = List·Memᴰ·tail (at-mem qs i (le-of-suc-le-suc h))
+
+pub number-mem : (qs : List Atom) (i : ℕ) → List·Memᴰ i (numbers qs) → List·Memᴰ (atomOf qs i) qs
+number-mem qs i m = let q = tabulate-mem (length qs) (λ j. j) i m in at-mem qs i (rw (q .is) (q .below))
+
+module _ (qs : List Atom) {X : Type 0} (choose : X → State → Chosen X) (x : X) (fair : Fair (atomOf qs) (numbers qs) choose) where
+  pub reached : Reached (atomOf qs) (numbers qs) (schedule qs choose x)
+  reached = rounds-reached (atomOf qs) (numbers qs) choose fair (suc (unlowered [] (numbers qs))) x unplanned fresh
+
+  -- what is not lowered waits
+  pub left-waits : (i : ℕ) → i < length qs → has (schedule qs choose x .used) i ≡ false → Waits (schedule qs choose x .used) (schedule qs choose x .bound) (atomOf qs i)
+  left-waits i h u =
+      let e = rounds-ended (atomOf qs) (numbers qs) choose fair (suc (unlowered [] (numbers qs))) x unplanned (omega arith) in
+      let m = mem-tabulate (length qs) (λ j. j) i h in
+      waits (schedule qs choose x .used) (schedule qs choose x .bound) i (atomOf qs i) (e .idle i m u) (e .noscan i m u)
