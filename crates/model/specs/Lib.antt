@@ -7,6 +7,7 @@ pub mod Lowering
 pub mod Scheduling
 pub mod Running
 pub mod Matching
+pub mod Limits
 pub mod Waiting
 -- Theorems
 pub mod Agreement
@@ -21,5 +22,7 @@ pub mod Cheapest
 pub mod Unlowered
 pub mod Guarantee
 pub mod Accepted
+pub mod Limited
+pub mod Answered
 pub mod Premises
 pub mod Example
