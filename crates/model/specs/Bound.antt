@@ -2,7 +2,7 @@
 use mathlib.Core.Path.{_≡_, refl, sym, ap, _∙_, subst}
 use mathlib.Core.Logic.{_≢_}
 use Prim.Native.Nat.{ℕ, zero, suc, _<_}
-use mathlib.Core.Bool.{Bool, true, false, _||_, or-true, or-false}
+use mathlib.Core.Bool.{Bool, true, false, _||_, or-true, or-false, _&&_, not}
 use mathlib.Core.List.{List, [], _∷_}
 use lib.Dec.{T, eqb}
 use lib.ListN.{length, getD, set, replicate}
@@ -25,6 +25,14 @@ has B v = getD B v false
 
 abbrev pub add : Bound → ℕ → Bound
 add B v = put false B v true
+
+unfoldable pub hasAll : Bound → List ℕ → Bool
+hasAll B [] = true
+hasAll B (v ∷ vs) = has B v && hasAll B vs
+
+unfoldable pub hasNone : Bound → List ℕ → Bool
+hasNone B [] = true
+hasNone B (v ∷ vs) = not (has B v) && hasNone B vs
 
 pub put-same : {A : Type 0} (d : A) (l : List A) (i : ℕ) (x : A) → getD (put d l i x) i d ≡ x
 unfolding put

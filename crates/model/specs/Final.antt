@@ -12,11 +12,12 @@ use Rattle.model.specs.Lists.{one, Pairs, pairs-map, Hit, Once, from, me
 use Rattle.model.specs.Atoms.{Operand, local, global, Atom, Plain, Lit, LitBind, Eq, EqGlobal, Pred, Variadic, Step, Join, ExtractChild, CheckChildEq, CheckEq, CheckEqGlobal, BindGlobal, CopyBinding, Expand, ExtractLitVal, CheckLit, CheckPred, classOf, valueOf, unset, childAt, Table, globalClass}
 use Rattle.model.specs.Bound.{put, Bound, has, add, put-same, put-other, add-has, add-keeps}
 use Rattle.model.specs.Lowering.{pvIsBound, pvMarkBound, markAll, readChild, emitReadChildren, Emitted, lowerEq, lowerEqGlobal, lower, Lowered, done, more}
+use Rattle.model.specs.Reading.{boundBy}
 use Rattle.model.specs.Running.{sameClass, joinRows, Env, class, rowAt, litAt, bind, bindRow, bindLit, readLit, operandClass, meets, step, runs}
 use Rattle.model.specs.Matching.{Assignment, HoldsAll, InShapes, Distinct, isSet}
 use Rattle.model.specs.Agreement.{Ext}
 use Rattle.model.specs.Whole.{whole}
-use Rattle.model.specs.Reads.{boundBy, Goes, stop, go, bound-before-read}
+use Rattle.model.specs.BoundFirst.{Goes, stop, go, plan-goes}
 
 -- the variables of an atom
 
@@ -238,7 +239,7 @@ module _ (tb : Table) (d : Distinct tb) {ss : List Step} {B : Bound} {at : ℕ �
 
   -- it gives a class to each variable in the atoms and to no other, and so with the literals
   pub exactly : (τ : Env) → List·Memᴰ τ (runs tb ss σ) → InvOf (varsOf [] (map at ks)) (litsOf [] (map at ks)) τ
-  exactly τ m = rw (← plan-vars p, ← plan-lits p [], ← goes-all (bound-before-read p [])) (runs-inv tb ss [] [] σ new τ m)
+  exactly τ m = rw (← plan-vars p, ← plan-lits p [], ← goes-all (plan-goes p [])) (runs-inv tb ss [] [] σ new τ m)
 
   -- each match is found
   pub finds : (α : Assignment) → HoldsAll tb α (map at ks) → Hit (runs tb ss σ) (Same (varsOf [] (map at ks)) (litsOf [] (map at ks))) α

@@ -10,8 +10,10 @@ use Rattle.model.specs.Lists.{Pairs}
 use Rattle.model.specs.Atoms.{Atom, Table}
 use Rattle.model.specs.Bound.{has}
 use Rattle.model.specs.Scheduling.{State, Chosen, Fair, atomOf, numbers, schedule}
+use Rattle.model.specs.Reading.{boundFirst}
 use Rattle.model.specs.Running.{Env, runs}
 use Rattle.model.specs.Matching.{InShapes, Distinct, mentions, mentionsLit, any, Line, line, IsMatch, Exact}
+use Rattle.model.specs.BoundFirst.{bound-before-read}
 use Rattle.model.specs.Final.{InvOf}
 use Rattle.model.specs.Lines.{SameAtoms}
 use Rattle.model.specs.Matches.{found-is-match, match-is-found, lines-once}
@@ -20,6 +22,10 @@ use Rattle.model.specs.Scheduled.{Ordered, ordered, mem-at, number-mem, 
 module _ (qs : List Atom) {X : Type 0} (choose : X → State → Chosen X) (x : X) (fair : Fair (atomOf qs) (numbers qs) choose) where
   made : Ordered (atomOf qs) (numbers qs) (schedule qs choose x)
   made = ordered (atomOf qs) (numbers qs) (schedule qs choose x) (reached qs choose x fair)
+
+  -- the plan, whatever its atoms, is not turned back for 9
+  pub schedule-bound-first : boundFirst [] [] (schedule qs choose x .steps) ≡ true
+  schedule-bound-first = bound-before-read (made .lowered) []
 
   same : ((i : ℕ) → i < length qs → has (schedule qs choose x .used) i ≡ true) → SameAtoms qs (map (atomOf qs) (made .order))
   same all = record {

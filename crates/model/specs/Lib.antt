@@ -5,6 +5,7 @@ pub mod Atoms
 pub mod Bound
 pub mod Lowering
 pub mod Scheduling
+pub mod Reading
 pub mod Running
 pub mod Matching
 pub mod Limits
@@ -13,7 +14,7 @@ pub mod Waiting
 pub mod Agreement
 pub mod Group
 pub mod Whole
-pub mod Reads
+pub mod BoundFirst
 pub mod Final
 pub mod Lines
 pub mod Matches

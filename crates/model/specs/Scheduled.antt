@@ -14,9 +14,9 @@ use borrow.Author.Tests.{eqb-true, eqb-false}
 use Rattle.base.specs.Choose.{pick}
 use Rattle.model.specs.Lists.{At, mem-tabulate, tabulate-mem}
 use Rattle.model.specs.Atoms.{Atom, Plain, Lit, LitBind, Eq, EqGlobal, Pred, Variadic, Step}
-use Rattle.model.specs.Bound.{Bound, has, add, put-same, put-other, add-keeps}
+use Rattle.model.specs.Bound.{Bound, has, add, hasAll, put-same, put-other, add-keeps}
 use Rattle.model.specs.Lowering.{Emitted, lowerEq, lowerEqGlobal, lower, Lowered, done, more}
-use Rattle.model.specs.Scheduling.{allUsed, depsUsed, isFree, onlyIf, tryEagerLower, scans, State, unplanned, took, settle, unlowered, Chosen, tryAt, eagerPass, lowerEager, emitAt, goOn, scheduleLoop, Fair, atomOf, numbers, schedule}
+use Rattle.model.specs.Scheduling.{depsUsed, isFree, onlyIf, tryEagerLower, scans, State, unplanned, took, settle, unlowered, Chosen, tryAt, eagerPass, lowerEager, emitAt, goOn, scheduleLoop, Fair, atomOf, numbers, schedule}
 
 -- what is taken eagerly lowers, a Pred behind its dependencies
 eager-takes : (U B : Bound) (k : ℕ) (a : Atom) (l : Emitted) → tryEagerLower U B k a ≡ some l → (depsUsed U a ≡ true) × (lower B k a ≡ some l)
@@ -236,7 +236,7 @@ module _ (atomAt : ℕ → Atom) (js : List ℕ) where
 -- an atom that waits at the end is an Eq with both sides unbound, or a Pred with a dependency that waits
 pub data Waits (U B : Bound) : Atom → Type 0 where
   eq-waits : (a b : ℕ) → has B a ≡ false → has B b ≡ false → Waits U B (Eq a b)
-  pred-waits : (g : ℕ) (ds : List ℕ) → allUsed U ds ≡ false → Waits U B (Pred g ds)
+  pred-waits : (g : ℕ) (ds : List ℕ) → hasAll U ds ≡ false → Waits U B (Pred g ds)
 
 pub waits : (U B : Bound) (k : ℕ) (a : Atom) → tryEagerLower U B k a ≡ none → scans a ≡ false → Waits U B a
 unfolding lower
@@ -244,9 +244,9 @@ waits U B k (Plain n o cs) e s = absurd (subst T s tt)
 waits U B k (Lit n o x) e s = absurd (subst T s tt)
 waits U B k (LitBind n o x) e s = absurd (subst T s tt)
 waits U B k (Variadic n o cs f) e s = absurd (subst T s tt)
-waits U B k (Pred g ds) e s = at (allUsed U ds) refl e
+waits U B k (Pred g ds) e s = at (hasAll U ds) refl e
   where
-    at : (p : Bool) → allUsed U ds ≡ p → onlyIf p (lower B k (Pred g ds)) ≡ none → Waits U B (Pred g ds)
+    at : (p : Bool) → hasAll U ds ≡ p → onlyIf p (lower B k (Pred g ds)) ≡ none → Waits U B (Pred g ds)
     at true h e = let z : _≡_ {A = ℕ} 0 1 = cc in absurd (omega arith)
     at false h e = pred-waits g ds h
 waits U B k (Eq a b) e s = at (has B a) (has B b) refl refl e

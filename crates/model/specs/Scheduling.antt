@@ -1,7 +1,7 @@
 -- The scheduler by any choice of the next atom: schedule_inner, its costs left open. Assumes nothing.
 use mathlib.Core.Path.{_≡_}
 use Prim.Native.Nat.{ℕ, zero, suc}
-use mathlib.Core.Bool.{Bool, true, false, _&&_}
+use mathlib.Core.Bool.{Bool, true, false}
 use mathlib.Core.Option.{Option, none, some}
 use mathlib.Core.List.{List, [], _∷_, _++_, List·Memᴰ}
 use lib.Dec.{eqb}
@@ -9,13 +9,8 @@ use lib.ListN.{length, getD}
 use Rattle.base.specs.Choose.{pick}
 use Rattle.model.specs.Lists.{tabulate}
 use Rattle.model.specs.Atoms.{Atom, Plain, Lit, LitBind, Eq, EqGlobal, Pred, Variadic, Step}
-use Rattle.model.specs.Bound.{Bound, has, add}
+use Rattle.model.specs.Bound.{Bound, has, add, hasAll}
 use Rattle.model.specs.Lowering.{Emitted, lower}
-
--- all these atoms are lowered
-unfoldable pub allUsed : Bound → List ℕ → Bool
-allUsed U [] = true
-allUsed U (d ∷ ds) = has U d && allUsed U ds
 
 -- "Pred waits until all its dependencies are lowered; with none it lowers in the first pass."
 abbrev pub depsUsed : Bound → Atom → Bool
@@ -24,7 +19,7 @@ depsUsed U (Lit n o x) = true
 depsUsed U (LitBind n o l) = true
 depsUsed U (Eq a b) = true
 depsUsed U (EqGlobal a g) = true
-depsUsed U (Pred g ds) = allUsed U ds
+depsUsed U (Pred g ds) = hasAll U ds
 depsUsed U (Variadic n o cs f) = true
 
 -- lower_eager and try_eager_lower take an atom where the atoms of U are lowered and the variables of B are bound: Plain, Lit, LitBind with a bound node
@@ -34,7 +29,7 @@ isFree U B (Lit n o x) = has B n
 isFree U B (LitBind n o l) = has B n
 isFree U B (Eq a b) = true
 isFree U B (EqGlobal a g) = true
-isFree U B (Pred g ds) = allUsed U ds
+isFree U B (Pred g ds) = hasAll U ds
 isFree U B (Variadic n o cs f) = false
 
 abbrev pub onlyIf : Bool → Option Emitted → Option Emitted

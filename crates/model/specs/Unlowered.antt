@@ -14,9 +14,9 @@ use borrow.Author.Tests.{eq-eqb, eqb-true}
 use Rattle.model.specs.Lists.{At, mem-tabulate}
 use Rattle.model.specs.Bools.{first, second, either, true-false, not-so}
 use Rattle.model.specs.Atoms.{Atom, Plain, Lit, LitBind, Eq, EqGlobal, Pred, Variadic}
-use Rattle.model.specs.Bound.{Bound, has, add, put-other, add-keeps}
+use Rattle.model.specs.Bound.{Bound, has, add, hasAll, put-other, add-keeps}
 use Rattle.model.specs.Lowering.{Emitted, lowerEq, lower}
-use Rattle.model.specs.Scheduling.{allUsed, depsUsed, State, unlowered, Chosen, Fair, atomOf, numbers, schedule}
+use Rattle.model.specs.Scheduling.{depsUsed, State, unlowered, Chosen, Fair, atomOf, numbers, schedule}
 use Rattle.model.specs.Matching.{mentions}
 use Rattle.model.specs.Waiting.{isEq, depsOf, Named, Chain, ends, links, Unbound, DependsOn, direct, through, NeverLowered, unboundEq, unboundDependency, ring, DepsBelow}
 use Rattle.model.specs.Final.{lower-vars}
@@ -65,8 +65,8 @@ eq-side B k (Eq a b) l q e = go (has B a) (has B b) refl refl e
     go false true h g e = record { var = b; names = ap (λ (t : Bool). eqb b a || t) (eq-eqb b b refl) ∙ or-true (eqb b a); bound = g }
     go false false h g e = let z : _≡_ {A = ℕ} 0 1 = cc in absurd (omega arith)
 
-all-mem : (U : Bound) (d : ℕ) (ds : List ℕ) → allUsed U ds ≡ true → List·Memᴰ d ds → has U d ≡ true
-unfolding allUsed
+all-mem : (U : Bound) (d : ℕ) (ds : List ℕ) → hasAll U ds ≡ true → List·Memᴰ d ds → has U d ≡ true
+unfolding hasAll
 all-mem U d [] h m = absurd (List·Memᴰ·not-nil m)
 all-mem U d (x ∷ ds) h m = at (List·Memᴰ·cases-cons m) (λ k. all-mem U d ds (second (has U x) _ h) k)
   where
@@ -89,12 +89,12 @@ record Waiter (U : Bound) (ds : List ℕ) : Type 0 where
   within : List·Memᴰ dep ds
   waits : has U dep ≡ false
 
-waiter : (U : Bound) (ds : List ℕ) → allUsed U ds ≡ false → Waiter U ds
-unfolding allUsed
+waiter : (U : Bound) (ds : List ℕ) → hasAll U ds ≡ false → Waiter U ds
+unfolding hasAll
 waiter U [] h = absurd (subst T h tt)
 waiter U (d ∷ ds) h = go (has U d) refl h (waiter U ds)
   where
-    go : (b : Bool) → has U d ≡ b → b && allUsed U ds ≡ false → (allUsed U ds ≡ false → Waiter U ds) → Waiter U (d ∷ ds)
+    go : (b : Bool) → has U d ≡ b → b && hasAll U ds ≡ false → (hasAll U ds ≡ false → Waiter U ds) → Waiter U (d ∷ ds)
     go true e h r = let w = r h in record { dep = w .dep; within = List·Memᴰ·tail (w .within); waits = w .waits }
     go false e h r = record { dep = d; within = List·Memᴰ·head refl; waits = e }
 
