@@ -13,7 +13,7 @@ use Rattle.model.specs.Atoms.{Operand, local, global, Atom, Plain, Lit, 
 use Rattle.model.specs.Bound.{put, Bound, has, add, put-same, put-other, add-has, add-keeps}
 use Rattle.model.specs.Lowering.{pvIsBound, pvMarkBound, markAll, readChild, emitReadChildren, Emitted, lowerEq, lowerEqGlobal, lower, Lowered, done, more}
 use Rattle.model.specs.Reading.{boundBy}
-use Rattle.model.specs.Running.{sameClass, joinRows, Env, class, rowAt, litAt, bind, bindRow, bindLit, readLit, operandClass, meets, step, runs}
+use Rattle.model.specs.Running.{sameClass, joinRows, Env, class, rowAt, litAt, Blank, bind, bindRow, bindLit, readLit, operandClass, meets, step, runs}
 use Rattle.model.specs.Matching.{Assignment, HoldsAll, InShapes, Distinct, isSet}
 use Rattle.model.specs.Agreement.{Ext}
 use Rattle.model.specs.Whole.{whole}
@@ -221,9 +221,8 @@ pub record Alike (τ υ : Env) : Type 0 where
 ext-alike : (B : Bound) (τ υ : Env) → Alike τ υ → Ext B υ (assigned τ)
 ext-alike B τ υ a = record { classes = λ v h. sym (a .classes v); literals = λ l x h. sym (ap (λ o. Option·getD o 0) (a .literals l ∙ h)) }
 
--- nothing is bound or set yet
-pub start-inv : (σ : Env) → ((v : ℕ) → class σ v ≡ unset) → ((l : ℕ) → litAt σ l ≡ none) → InvOf [] [] σ
-start-inv σ f g = record { blank = λ v h. f v; filled = λ l. ap isSet (g l) }
+pub start-inv : (σ : Env) → Blank σ → InvOf [] [] σ
+start-inv σ b = record { blank = λ v h. b .unbound v; filled = λ l. ap isSet (b .free l) }
 
 start-ext : (σ : Env) → InvOf [] [] σ → (α : Assignment) → Ext [] σ α
 start-ext σ i α = record { classes = λ v h. absurd (subst T (sym h) tt); literals = λ l x h. absurd (subst T (sym (ap isSet h) ∙ i .filled l) tt) }

@@ -1,14 +1,9 @@
 -- Lists of results and what they stand for: each once. Assumes nothing.
 use mathlib.Core.Path.{_≡_, refl, sym, ap, _∙_, subst}
 use mathlib.Core.Logic.{_⊎_, inl, inr, _≢_}
-use Prim.Native.Nat.{ℕ, zero, suc, _<_, _≤_}
-use native.Mathlib.Omega.{arith}
 use mathlib.Core.Bool.{Bool, true, false}
 use mathlib.Core.List.{List, [], _∷_, _++_, map, List·Memᴰ, List·Memᴰ·head, List·Memᴰ·tail, List·Memᴰ·cases-cons, List·Memᴰ·not-nil, flatMap, List·Memᴰ·eq-of-singleton, append-nil, append-assoc, Memᴰ·of-map, Memᴰ·append-left, Memᴰ·append-right, List·Memᴰ·append-cases}
 use lib.Dec.{T}
-use lib.ListN.{length, getD, List·getD-eq-default}
-use native.Mathlib.Decide.{decLt}
-use native.Mathlib.Nat.{not-suc-le-zero, le-of-suc-le-suc}
 
 -- one result, or none
 abbrev pub one : {A : Type 0} → Bool → A → List A
@@ -143,46 +138,7 @@ pub pairs-of-map : {A C : Type 0} (f : A → C) (l : List A) → Pairs (λ x y. 
 pairs-of-map f [] p = tt
 pairs-of-map f (x ∷ l) p = (λ y i e. let r = Memᴰ·of-map f l i in p .0 (r .0) (r .1) (e ∙ sym (r .2)), pairs-of-map f l (p .1))
 
--- f 0, f 1, .., n of them
-unfoldable pub tabulate : {A : Type 0} → ℕ → (ℕ → A) → List A
-tabulate zero f = []
-tabulate (suc n) f = f 0 ∷ tabulate n (λ k. f (suc k))
-
-pub tabulate-at : {A : Type 0} (n : ℕ) (f : ℕ → A) (i : ℕ) (d : A) → i < n → getD (tabulate n f) i d ≡ f i
-unfolding tabulate
-tabulate-at zero f i d h = absurd (not-suc-le-zero h)
-tabulate-at (suc n) f zero d h = refl
-tabulate-at (suc n) f (suc i) d h = tabulate-at n (λ k. f (suc k)) i d (le-of-suc-le-suc h)
-
-pub tabulate-length : {A : Type 0} (n : ℕ) (f : ℕ → A) → length (tabulate n f) ≡ n
-unfolding tabulate
-tabulate-length zero f = refl
-tabulate-length (suc n) f = ap suc (tabulate-length n (λ k. f (suc k)))
-
--- an infinite list that is d from n on is known by its first n
-pub tabulate-all : {A : Type 0} (n : ℕ) (f : ℕ → A) (d : A) → ((i : ℕ) → n ≤ i → f i ≡ d) → (i : ℕ) → getD (tabulate n f) i d ≡ f i
-tabulate-all n f d h i = at (decLt i n)
-  where
-    at : Dec (i < n) → getD (tabulate n f) i d ≡ f i
-    at (yes l) = tabulate-at n f i d l
-    at (no l) = List·getD-eq-default (tabulate n f) d (rw tabulate-length (omega arith)) ∙ sym (h i (omega arith))
-
-pub record At {A : Type 0} (n : ℕ) (f : ℕ → A) (a : A) : Type 0 where
-  pub place : ℕ
-  pub below : place < n
-  pub is : a ≡ f place
-
-pub mem-tabulate : {A : Type 0} (n : ℕ) (f : ℕ → A) (i : ℕ) → i < n → List·Memᴰ (f i) (tabulate n f)
-unfolding tabulate
-mem-tabulate zero f i h = absurd (not-suc-le-zero h)
-mem-tabulate (suc n) f zero h = List·Memᴰ·head refl
-mem-tabulate (suc n) f (suc i) h = List·Memᴰ·tail (mem-tabulate n (λ k. f (suc k)) i (le-of-suc-le-suc h))
-
-pub tabulate-mem : {A : Type 0} (n : ℕ) (f : ℕ → A) (a : A) → List·Memᴰ a (tabulate n f) → At n f a
-unfolding tabulate
-tabulate-mem zero f a m = absurd (List·Memᴰ·not-nil m)
-tabulate-mem {A} (suc n) f a m = at (List·Memᴰ·cases-cons m) (λ k. tabulate-mem n (λ i. f (suc i)) a k)
-  where
-    at : (a ≡ f 0) ⊎ List·Memᴰ a (tabulate n (λ i. f (suc i))) → (List·Memᴰ a (tabulate n (λ i. f (suc i))) → At n (λ i. f (suc i)) a) → At (suc n) f a
-    at (inl e) r = record { place = 0; below = omega arith; is = e }
-    at (inr k) r = let q = r k in record { place = suc (q .place); below = omega (arith, q .below); is = q .is }
+pub flat-map : {A B C : Type 0} (g : B → List C) (f : A → B) (l : List A) → flatMap (λ a. g (f a)) l ≡ flatMap g (map f l)
+unfolding flatMap
+flat-map g f [] = refl
+flat-map g f (x ∷ l) = ap (λ m. g (f x) ++ m) (flat-map g f l)

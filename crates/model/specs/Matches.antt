@@ -9,7 +9,8 @@ use mathlib.Core.List.{List, [], map, List·Memᴰ, Memᴰ·map, Memᴰ·cast}
 use lib.Dec.{T}
 use lib.ListN.{getD}
 use lib.Seq.{ext-getD}
-use Rattle.model.specs.Lists.{Pairs, Hit, pairs-map-mem, pairs-of-map, tabulate, tabulate-length, tabulate-all}
+use Rattle.model.specs.Lists.{Pairs, Hit, pairs-map-mem, pairs-of-map}
+use Rattle.model.specs.Tabulate.{tabulate, tabulate-length, tabulate-all}
 use Rattle.model.specs.Bools.{not-so}
 use Rattle.model.specs.Atoms.{Atom, Step, unset, Table}
 use Rattle.model.specs.Bound.{Bound, has}

@@ -12,7 +12,7 @@ use native.Mathlib.Decide.{ℕ-discrete}
 use native.Mathlib.Nat.{not-suc-le-zero, le-of-suc-le-suc}
 use borrow.Author.Tests.{eqb-true, eqb-false}
 use Rattle.base.specs.Choose.{pick}
-use Rattle.model.specs.Lists.{At, mem-tabulate, tabulate-mem}
+use Rattle.model.specs.Tabulate.{At, mem-tabulate, tabulate-mem}
 use Rattle.model.specs.Atoms.{Atom, Plain, Lit, LitBind, Eq, EqGlobal, Pred, Variadic, Step}
 use Rattle.model.specs.Bound.{Bound, has, add, hasAll, put-same, put-other, add-keeps}
 use Rattle.model.specs.Lowering.{Emitted, lowerEq, lowerEqGlobal, lower, Lowered, done, more}
@@ -114,6 +114,13 @@ scans-low B k (EqGlobal a g) h = absurd (subst T (sym h) tt)
 scans-low B k (Pred g ds) h = absurd (subst T (sym h) tt)
 scans-low B k (Variadic n o cs f) h = (_, refl)
 
+not-free : (U B : Bound) (k : ℕ) (a : Atom) → scans a ≡ true → tryEagerLower U B k a ≡ none → isFree U B a ≡ false
+not-free U B k a c e = at (isFree U B a) refl e
+  where
+    at : (b : Bool) → isFree U B a ≡ b → onlyIf b (lower B k a) ≡ none → isFree U B a ≡ false
+    at true h e = let r = scans-low B k a c in let p = r .1 in let z : _≡_ {A = ℕ} 0 1 = cc in absurd (omega arith)
+    at false h e = h
+
 module _ (atomAt : ℕ → Atom) (js : List ℕ) where
   settle-reached : (b : Bool) (r : Option Emitted) (i : ℕ) (st : State) → has (st .used) i ≡ b → ((l : Emitted) → r ≡ some l → (depsUsed (st .used) (atomAt i) ≡ true) × (lower (st .bound) i (atomAt i) ≡ some l)) → List·Memᴰ i js → Reached atomAt js st → Reached atomAt js (settle b r i st)
   settle-reached true r i st h f m p = p
@@ -211,6 +218,14 @@ module _ (atomAt : ℕ → Atom) (js : List ℕ) where
       at : (b : Bool) → eqb (unlowered (eagerPass atomAt js js st .used) js) (unlowered (st .used) js) ≡ b → (unlowered (eagerPass atomAt js js st .used) js < f → Idle (lowerEager atomAt js f (eagerPass atomAt js js st)) i) → Idle (pick b (eagerPass atomAt js js st) (lowerEager atomAt js f (eagerPass atomAt js js st))) i
       at true e r = let p = pass-idle js st (λ j n. n) (eqb-true _ _ e) in subst (λ (t : State). Idle t i) (sym (p .0)) (p .1 i m)
       at false e r = let ne : unlowered (eagerPass atomAt js js st .used) js ≢ unlowered (st .used) js = eqb-false _ _ e in r (omega (arith, pass-left js st))
+
+  -- what is chosen is not free: emit_atom meets a Plain, Lit or LitBind with an unbound node only
+  pub chosen-waits : {X : Type 0} (choose : X → State → Chosen X) → Fair atomAt js choose → (x : X) (st : State) (i : ℕ) → choose x (lowerEager atomAt js (suc (unlowered (st .used) js)) st) .at ≡ some i
+      → isFree (lowerEager atomAt js (suc (unlowered (st .used) js)) st .used) (lowerEager atomAt js (suc (unlowered (st .used) js)) st .bound) (atomAt i) ≡ false
+  chosen-waits choose fair x st i e = not-free (s .used) (s .bound) i (atomAt i) (fair .scanning x s i e) (passes-idle (suc (unlowered (st .used) js)) st (omega arith) i (fair .known x s i e) (fair .unused x s i e))
+    where
+      s : State
+      s = lowerEager atomAt js (suc (unlowered (st .used) js)) st
 
   -- when the loop ends: what is left is not eager and does not scan
   pub record Ended (st : State) : Type 0 where

@@ -7,7 +7,7 @@ use mathlib.Core.List.{List, [], _∷_, _++_, List·Memᴰ}
 use lib.Dec.{eqb}
 use lib.ListN.{length, getD}
 use Rattle.base.specs.Choose.{pick}
-use Rattle.model.specs.Lists.{tabulate}
+use Rattle.model.specs.Tabulate.{tabulate}
 use Rattle.model.specs.Atoms.{Atom, Plain, Lit, LitBind, Eq, EqGlobal, Pred, Variadic, Step}
 use Rattle.model.specs.Bound.{Bound, has, add, hasAll}
 use Rattle.model.specs.Lowering.{Emitted, lower}

@@ -11,12 +11,13 @@ use lib.Dec.{T, eqb}
 use lib.ListN.{length}
 use native.Mathlib.Decide.{ℕ-discrete}
 use borrow.Author.Tests.{eq-eqb, eqb-true}
-use Rattle.model.specs.Lists.{At, mem-tabulate}
+use Rattle.model.specs.Tabulate.{At, mem-tabulate}
 use Rattle.model.specs.Bools.{first, second, either, true-false, not-so}
 use Rattle.model.specs.Atoms.{Atom, Plain, Lit, LitBind, Eq, EqGlobal, Pred, Variadic}
 use Rattle.model.specs.Bound.{Bound, has, add, hasAll, put-other, add-keeps}
 use Rattle.model.specs.Lowering.{Emitted, lowerEq, lower}
 use Rattle.model.specs.Scheduling.{depsUsed, State, unlowered, Chosen, Fair, atomOf, numbers, schedule}
+use Rattle.model.specs.Refusing.{isRun}
 use Rattle.model.specs.Matching.{mentions}
 use Rattle.model.specs.Waiting.{isEq, depsOf, Named, Chain, ends, links, Unbound, DependsOn, direct, through, NeverLowered, unboundEq, unboundDependency, ring, DepsBelow}
 use Rattle.model.specs.Final.{lower-vars}
@@ -170,6 +171,15 @@ eq-names (EqGlobal a g) q = absurd (subst T (sym q) tt)
 eq-names (Pred g ds) q = absurd (subst T (sym q) tt)
 eq-names (Variadic n o cs f) q = absurd (subst T (sym q) tt)
 
+no-deps : (a : Atom) → isRun a ≡ true → (d : ℕ) → List·Memᴰ d (depsOf a) → ⊥
+no-deps (Plain n o cs) r d m = List·Memᴰ·not-nil m
+no-deps (Lit n o x) r d m = List·Memᴰ·not-nil m
+no-deps (LitBind n o l) r d m = List·Memᴰ·not-nil m
+no-deps (Eq a b) r d m = List·Memᴰ·not-nil m
+no-deps (EqGlobal a g) r d m = List·Memᴰ·not-nil m
+no-deps (Pred g ds) r d m = subst T (sym r) tt
+no-deps (Variadic n o cs f) r d m = List·Memᴰ·not-nil m
+
 module _ (qs : List Atom) {X : Type 0} (choose : X → State → Chosen X) (x : X) (fair : Fair (atomOf qs) (numbers qs) choose) where
   abbrev U : Bound
   U = schedule qs choose x .used
@@ -265,3 +275,16 @@ module _ (qs : List Atom) {X : Type 0} (choose : X → State → Chosen X) (x : 
       go : (b : Bool) → has U i ≡ b → has U i ≡ true
       go true h = h
       go false h = absurd (clear i l (never-lowered below i l .to h))
+
+  -- of the kinds that run only an Eq can be left: all are lowered where each Eq reaches a variable that another kind names
+  pub run-all-lowered : ((a : Atom) → List·Memᴰ a qs → isRun a ≡ true) → ((a : Atom) → List·Memᴰ a qs → Unbound qs a → ⊥) → (i : ℕ) → i < length qs → has (schedule qs choose x .used) i ≡ true
+  run-all-lowered run bound = all-lowered (λ a m d n. absurd (no-deps a (run a m) d n)) (λ i l. not-left i (number-mem qs i (mem-tabulate (length qs) (λ j. j) i l)))
+    where
+      no-way : (i j : ℕ) → isRun (atomOf qs i) ≡ true → DependsOn qs i j → ⊥
+      no-way i j r (direct m) = no-deps (atomOf qs i) r j m
+      no-way i j r (through {k = k} m p) = no-deps (atomOf qs i) r k m
+
+      not-left : (i : ℕ) → List·Memᴰ (atomOf qs i) qs → NeverLowered qs i → ⊥
+      not-left i m (unboundEq u) = bound (atomOf qs i) m u
+      not-left i m (unboundDependency {j = j} p u) = no-way i j (run (atomOf qs i) m) p
+      not-left i m (ring {j = j} p q) = no-way i j (run (atomOf qs i) m) p
