@@ -20,6 +20,7 @@ use Rattle.model.specs.Scheduling.{depsUsed, isFree, onlyIf, tryEagerLow
 
 -- what is taken eagerly lowers, a Pred behind its dependencies
 eager-takes : (U B : Bound) (k : ℕ) (a : Atom) (l : Emitted) → tryEagerLower U B k a ≡ some l → (depsUsed U a ≡ true) × (lower B k a ≡ some l)
+unfolding hasAll
 eager-takes U B k a l = go a (isFree U B a) refl
   where
     deps : (a : Atom) → isFree U B a ≡ true → depsUsed U a ≡ true
@@ -36,6 +37,7 @@ eager-takes U B k a l = go a (isFree U B a) refl
     go a false h e = let z : _≡_ {A = ℕ} 0 1 = cc in absurd (omega arith)
 
 scans-deps : (U : Bound) (a : Atom) → scans a ≡ true → depsUsed U a ≡ true
+unfolding hasAll
 scans-deps U (Plain n o cs) h = refl
 scans-deps U (Lit n o x) h = refl
 scans-deps U (LitBind n o x) h = refl

@@ -12,24 +12,28 @@ use Rattle.model.specs.Atoms.{Atom, Plain, Lit, LitBind, Eq, EqGlobal, P
 use Rattle.model.specs.Bound.{Bound, has, add, hasAll}
 use Rattle.model.specs.Lowering.{Emitted, lower}
 
+-- the dependencies of a Pred
+abbrev pub depsOf : Atom → List ℕ
+depsOf (Plain n o cs) = []
+depsOf (Lit n o x) = []
+depsOf (LitBind n o l) = []
+depsOf (Eq a b) = []
+depsOf (EqGlobal a g) = []
+depsOf (Pred g ds) = ds
+depsOf (Variadic n o cs f) = []
+
 -- "Pred waits until all its dependencies are lowered; with none it lowers in the first pass."
 abbrev pub depsUsed : Bound → Atom → Bool
-depsUsed U (Plain n o cs) = true
-depsUsed U (Lit n o x) = true
-depsUsed U (LitBind n o l) = true
-depsUsed U (Eq a b) = true
-depsUsed U (EqGlobal a g) = true
-depsUsed U (Pred g ds) = hasAll U ds
-depsUsed U (Variadic n o cs f) = true
+depsUsed U a = hasAll U (depsOf a)
 
--- lower_eager and try_eager_lower take an atom where the atoms of U are lowered and the variables of B are bound: Plain, Lit, LitBind with a bound node
+-- lower_eager takes an atom, where the atoms of U are lowered and the variables of B are bound: Plain, Lit and LitBind with a bound node; Eq and EqGlobal, if they lower
 abbrev pub isFree : Bound → Bound → Atom → Bool
 isFree U B (Plain n o cs) = has B n
 isFree U B (Lit n o x) = has B n
 isFree U B (LitBind n o l) = has B n
 isFree U B (Eq a b) = true
 isFree U B (EqGlobal a g) = true
-isFree U B (Pred g ds) = hasAll U ds
+isFree U B (Pred g ds) = depsUsed U (Pred g ds)
 isFree U B (Variadic n o cs f) = false
 
 abbrev pub onlyIf : Bool → Option Emitted → Option Emitted

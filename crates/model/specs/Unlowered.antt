@@ -16,10 +16,10 @@ use Rattle.model.specs.Bools.{first, second, either, true-false, not-so}
 use Rattle.model.specs.Atoms.{Atom, Plain, Lit, LitBind, Eq, EqGlobal, Pred, Variadic}
 use Rattle.model.specs.Bound.{Bound, has, add, hasAll, put-other, add-keeps}
 use Rattle.model.specs.Lowering.{Emitted, lowerEq, lower}
-use Rattle.model.specs.Scheduling.{depsUsed, State, unlowered, Chosen, Fair, atomOf, numbers, schedule}
+use Rattle.model.specs.Scheduling.{depsOf, State, unlowered, Chosen, Fair, atomOf, numbers, schedule}
 use Rattle.model.specs.Refusing.{isRun}
 use Rattle.model.specs.Matching.{mentions}
-use Rattle.model.specs.Waiting.{isEq, depsOf, Named, Chain, ends, links, Unbound, DependsOn, direct, through, NeverLowered, unboundEq, unboundDependency, ring, DepsBelow}
+use Rattle.model.specs.Waiting.{isEq, Named, Chain, ends, links, Unbound, DependsOn, direct, through, NeverLowered, unboundEq, unboundDependency, ring, DepsBelow}
 use Rattle.model.specs.Final.{lower-vars}
 use Rattle.model.specs.Lines.{has-with}
 use Rattle.model.specs.Scheduled.{Reached, fresh, takes, unlowered-lt, Waits, eq-waits, pred-waits, waits, mem-at, number-mem, reached, left-waits}
@@ -75,15 +75,6 @@ all-mem U d (x ∷ ds) h m = at (List·Memᴰ·cases-cons m) (λ k. all-mem U d 
     at (inl e) r = ap (has U) e ∙ first (has U x) _ h
     at (inr k) r = r k
 
-deps-mem : (U : Bound) (a : Atom) → depsUsed U a ≡ true → (d : ℕ) → List·Memᴰ d (depsOf a) → has U d ≡ true
-deps-mem U (Plain n o cs) h d m = absurd (List·Memᴰ·not-nil m)
-deps-mem U (Lit n o x) h d m = absurd (List·Memᴰ·not-nil m)
-deps-mem U (LitBind n o x) h d m = absurd (List·Memᴰ·not-nil m)
-deps-mem U (Eq a b) h d m = absurd (List·Memᴰ·not-nil m)
-deps-mem U (EqGlobal a g) h d m = absurd (List·Memᴰ·not-nil m)
-deps-mem U (Variadic n o cs f) h d m = absurd (List·Memᴰ·not-nil m)
-deps-mem U (Pred g ds) h d m = all-mem U d ds h m
-
 -- a dependency that waits
 record Waiter (U : Bound) (ds : List ℕ) : Type 0 where
   dep : ℕ
@@ -132,8 +123,8 @@ module _ (qs : List Atom) where
       Before = (a b : ℕ) → has (s .used) a ≡ true → DependsOn qs a b → (has (s .used) b ≡ true) × (b ≢ a)
 
       before : (a b : ℕ) → DependsOn qs a b → a ≡ k → Before → has (s .used) b ≡ true
-      before a b (direct n) q g = deps-mem (s .used) (atomOf qs k) d b (subst (λ (c : ℕ). List·Memᴰ b (depsOf (atomOf qs c))) q n)
-      before a b (through {k = c} n t) q g = g c b (deps-mem (s .used) (atomOf qs k) d c (subst (λ (a : ℕ). List·Memᴰ c (depsOf (atomOf qs a))) q n)) t .0
+      before a b (direct n) q g = all-mem (s .used) b (depsOf (atomOf qs k)) d (subst (λ (c : ℕ). List·Memᴰ b (depsOf (atomOf qs c))) q n)
+      before a b (through {k = c} n t) q g = g c b (all-mem (s .used) c (depsOf (atomOf qs k)) d (subst (λ (a : ℕ). List·Memᴰ c (depsOf (atomOf qs a))) q n)) t .0
 
       at : Dec (i ≡ k) → Before → (has (add (s .used) k) j ≡ true) × (j ≢ i)
       at (yes q) g = let b = before i j p q g in (add-keeps (s .used) k j b, λ c. true-false b (ap (has (s .used)) (c ∙ q) ∙ u))

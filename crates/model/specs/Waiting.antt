@@ -2,10 +2,10 @@
 use mathlib.Core.Path.{_≡_}
 use Prim.Native.Nat.{ℕ, _<_}
 use mathlib.Core.Bool.{Bool, true, false}
-use mathlib.Core.List.{List, [], List·Memᴰ}
+use mathlib.Core.List.{List, List·Memᴰ}
 use lib.ListN.{length}
 use Rattle.model.specs.Atoms.{Atom, Plain, Lit, LitBind, Eq, EqGlobal, Pred, Variadic}
-use Rattle.model.specs.Scheduling.{atomOf}
+use Rattle.model.specs.Scheduling.{depsOf, atomOf}
 use Rattle.model.specs.Matching.{mentions}
 
 abbrev pub isEq : Atom → Bool
@@ -16,16 +16,6 @@ isEq (Eq a b) = true
 isEq (EqGlobal a g) = false
 isEq (Pred g ds) = false
 isEq (Variadic n o cs f) = false
-
--- the dependencies of a Pred
-abbrev pub depsOf : Atom → List ℕ
-depsOf (Plain n o cs) = []
-depsOf (Lit n o x) = []
-depsOf (LitBind n o l) = []
-depsOf (Eq a b) = []
-depsOf (EqGlobal a g) = []
-depsOf (Pred g ds) = ds
-depsOf (Variadic n o cs f) = []
 
 module _ (qs : List Atom) where
   -- "a node variable that another kind of atom names"
