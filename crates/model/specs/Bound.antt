@@ -2,7 +2,7 @@
 use mathlib.Core.Path.{_≡_, refl, sym, ap, _∙_, subst}
 use mathlib.Core.Logic.{_≢_}
 use Prim.Native.Nat.{ℕ, zero, suc, _<_}
-use mathlib.Core.Bool.{Bool, true, false, _||_, or-true, or-false, _&&_, not}
+use mathlib.Core.Bool.{Bool, true, false, _||_, or-true, or-false, _&&_, not, or-assoc}
 use mathlib.Core.List.{List, [], _∷_}
 use lib.Dec.{T, eqb}
 use lib.ListN.{length, getD, set, replicate}
@@ -33,6 +33,15 @@ hasAll B (v ∷ vs) = has B v && hasAll B vs
 unfoldable pub hasNone : Bound → List ℕ → Bool
 hasNone B [] = true
 hasNone B (v ∷ vs) = not (has B v) && hasNone B vs
+
+-- with all of these
+unfoldable pub addAll : Bound → List ℕ → Bound
+addAll B [] = B
+addAll B (v ∷ vs) = addAll (add B v) vs
+
+unfoldable pub isIn : ℕ → List ℕ → Bool
+isIn v [] = false
+isIn v (u ∷ us) = eqb v u || isIn v us
 
 pub put-same : {A : Type 0} (d : A) (l : List A) (i : ℕ) (x : A) → getD (put d l i x) i d ≡ x
 unfolding put
@@ -72,6 +81,11 @@ has-add B w v = at (ℕ-discrete v w)
     at : Dec (v ≡ w) → has (add B w) v ≡ (has B v || eqb v w)
     at (yes e) = rw e (put-same false B w true ∙ sym (ap (λ b. has B w || b) (eq-eqb w w refl) ∙ or-true (has B w)))
     at (no e) = put-other false B w v true e ∙ sym (ap (λ b. has B v || b) (ne-eqb v w e) ∙ or-false (has B v))
+
+pub has-all : (vs : List ℕ) (B : Bound) (v : ℕ) → has (addAll B vs) v ≡ (has B v || isIn v vs)
+unfolding addAll isIn
+has-all [] B v = sym (or-false (has B v))
+has-all (u ∷ vs) B v = has-all vs (add B u) v ∙ ap (λ b. b || isIn v vs) (has-add B u v) ∙ or-assoc (has B v) (eqb v u) (isIn v vs)
 
 -- in range, put is the library's set
 pub put-set : {A : Type 0} (d : A) (l : List A) (i : ℕ) (x : A) → i < length l → put d l i x ≡ set l i x

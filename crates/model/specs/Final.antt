@@ -4,13 +4,13 @@ use Prim.Native.Nat.{ℕ, suc}
 use native.Mathlib.Omega.{arith}
 use mathlib.Core.Bool.{Bool, true, false}
 use mathlib.Core.Option.{Option, none, some, Option·some-injective, Option·getD}
-use mathlib.Core.List.{List, [], _∷_, _++_, map, List·Memᴰ, List·Memᴰ·not-nil, List·Memᴰ·eq-of-singleton}
+use mathlib.Core.List.{List, [], _∷_, _++_, map, List·Memᴰ, List·Memᴰ·not-nil, List·Memᴰ·eq-of-singleton, flatMap}
 use lib.Dec.{T, eqb}
 use lib.ListN.{getD}
 use native.Mathlib.Decide.{ℕ-discrete}
 use Rattle.model.specs.Lists.{one, Pairs, pairs-map, Hit, Once, from, mem-one}
-use Rattle.model.specs.Atoms.{Operand, local, global, Atom, Plain, Lit, LitBind, Eq, EqGlobal, Pred, Variadic, Step, Join, ExtractChild, CheckChildEq, CheckEq, CheckEqGlobal, BindGlobal, CopyBinding, Expand, ExtractLitVal, CheckLit, CheckPred, classOf, valueOf, unset, childAt, Table, globalClass}
-use Rattle.model.specs.Bound.{put, Bound, has, add, put-same, put-other, add-has, add-keeps}
+use Rattle.model.specs.Atoms.{Operand, local, global, Atom, Plain, Lit, LitBind, Eq, EqGlobal, Pred, Variadic, localOf, varsIn, litsIn, Step, Join, ExtractChild, CheckChildEq, CheckEq, CheckEqGlobal, BindGlobal, CopyBinding, Expand, ExtractLitVal, CheckLit, CheckPred, classOf, valueOf, unset, childAt, Table, globalClass}
+use Rattle.model.specs.Bound.{put, Bound, has, add, addAll, put-same, put-other, add-has, add-keeps}
 use Rattle.model.specs.Lowering.{pvIsBound, pvMarkBound, markAll, readChild, emitReadChildren, Emitted, lowerEq, lowerEqGlobal, lower, Lowered, done, more}
 use Rattle.model.specs.Reading.{boundBy}
 use Rattle.model.specs.Running.{sameClass, joinRows, Env, class, rowAt, litAt, Blank, bind, bindRow, bindLit, readLit, operandClass, meets, step, runs}
@@ -19,35 +19,12 @@ use Rattle.model.specs.Agreement.{Ext}
 use Rattle.model.specs.Whole.{whole}
 use Rattle.model.specs.BoundFirst.{Goes, stop, go, plan-goes}
 
--- the variables of an atom
+-- with what f gives for each atom: its variables, or its literals
+unfoldable pub addAtoms : (Atom → List ℕ) → Bound → List Atom → Bound
+addAtoms f B [] = B
+addAtoms f B (a ∷ qs) = addAtoms f (addAll B (f a)) qs
 
-abbrev pub withVars : Bound → Atom → Bound
-withVars B (Plain n o cs) = markAll (add B n) cs
-withVars B (Lit n o x) = add B n
-withVars B (LitBind n o l) = add B n
-withVars B (Eq a b) = add (add B a) b
-withVars B (EqGlobal a g) = add B a
-withVars B (Pred g ds) = B
-withVars B (Variadic n o cs f) = markAll (add B n) cs
-
-unfoldable pub varsOf : Bound → List Atom → Bound
-varsOf B [] = B
-varsOf B (a ∷ qs) = varsOf (withVars B a) qs
-
--- the literals of an atom
-abbrev pub withLits : Bound → Atom → Bound
-withLits L (Plain n o cs) = L
-withLits L (Lit n o x) = L
-withLits L (LitBind n o l) = add L l
-withLits L (Eq a b) = L
-withLits L (EqGlobal a g) = L
-withLits L (Pred g ds) = L
-withLits L (Variadic n o cs f) = L
-
-unfoldable pub litsOf : Bound → List Atom → Bound
-litsOf L [] = L
-litsOf L (a ∷ qs) = litsOf (withLits L a) qs
-
+-- the literals that are set behind a step
 abbrev pub litBy : Step → Bound → Bound
 litBy (Join v k ls) L = L
 litBy (ExtractChild v p i) L = L
@@ -125,6 +102,12 @@ unfolding boundAll
 goes-all stop = refl
 goes-all (go s p g) = goes-all g
 
+marks-all : (cs : List Operand) (B : Bound) → markAll B cs ≡ addAll B (flatMap localOf cs)
+unfolding markAll addAll flatMap
+marks-all [] B = refl
+marks-all (local v ∷ cs) B = marks-all cs (add B v)
+marks-all (global g ∷ cs) B = marks-all cs B
+
 eq-vars : (B : Bound) (a b : ℕ) (p q : Bool) (l : Emitted) → has B a ≡ p → has B b ≡ q → lowerEq p q B a b ≡ some l → l .bound ≡ add (add B a) b
 eq-vars B a b true true l h g e = subst (λ (m : Emitted). m .bound ≡ add (add B a) b) (Option·some-injective _ _ e) (rw (add-has B a h) (sym (add-has B b g)))
 eq-vars B a b true false l h g e = subst (λ (m : Emitted). m .bound ≡ add (add B a) b) (Option·some-injective _ _ e) (rw (add-has B a h))
@@ -135,20 +118,20 @@ global-vars : (B : Bound) (a g : ℕ) (p : Bool) (l : Emitted) → has B a ≡ p
 global-vars B a g true l h e = subst (λ (m : Emitted). m .bound ≡ add B a) (Option·some-injective _ _ e) (sym (add-has B a h))
 global-vars B a g false l h e = subst (λ (m : Emitted). m .bound ≡ add B a) (Option·some-injective _ _ e) refl
 
-pub lower-vars : (B : Bound) (k : ℕ) (a : Atom) (l : Emitted) → lower B k a ≡ some l → l .bound ≡ withVars B a
-unfolding lower
-lower-vars B k (Plain n o cs) l e = sym (ap (λ (m : Emitted). m .bound) (Option·some-injective _ _ e))
+pub lower-vars : (B : Bound) (k : ℕ) (a : Atom) (l : Emitted) → lower B k a ≡ some l → l .bound ≡ addAll B (varsIn a)
+unfolding lower addAll
+lower-vars B k (Plain n o cs) l e = sym (ap (λ (m : Emitted). m .bound) (Option·some-injective _ _ e)) ∙ marks-all cs (add B n)
 lower-vars B k (Lit n o x) l e = sym (ap (λ (m : Emitted). m .bound) (Option·some-injective _ _ e))
 lower-vars B k (LitBind n o x) l e = sym (ap (λ (m : Emitted). m .bound) (Option·some-injective _ _ e))
 lower-vars B k (Eq a b) l e = eq-vars B a b (has B a) (has B b) l refl refl e
 lower-vars B k (EqGlobal a g) l e = global-vars B a g (has B a) l refl e
 lower-vars B k (Pred g ds) l e = sym (ap (λ (m : Emitted). m .bound) (Option·some-injective _ _ e))
-lower-vars B k (Variadic n o cs f) l e = sym (ap (λ (m : Emitted). m .bound) (Option·some-injective _ _ e))
+lower-vars B k (Variadic n o cs f) l e = sym (ap (λ (m : Emitted). m .bound) (Option·some-injective _ _ e)) ∙ marks-all cs (add B n)
 
-pub plan-vars : {B : Bound} {ss : List Step} {B′ : Bound} {at : ℕ → Atom} {ks : List ℕ} → Lowered at B ss B′ ks → B′ ≡ varsOf B (map at ks)
-unfolding varsOf
+pub plan-vars : {B : Bound} {ss : List Step} {B′ : Bound} {at : ℕ → Atom} {ks : List ℕ} → Lowered at B ss B′ ks → B′ ≡ addAtoms varsIn B (map at ks)
+unfolding addAtoms
 plan-vars done = refl
-plan-vars {at = at} (more {B} k l {ks} e r) = plan-vars r ∙ ap (λ C. varsOf C (map at ks)) (lower-vars B k (at k) l e)
+plan-vars {at = at} (more {B} k l {ks} e r) = plan-vars r ∙ ap (λ C. addAtoms varsIn C (map at ks)) (lower-vars B k (at k) l e)
 
 -- what literals a plan sets
 lits-append : (s t : List Step) (L : Bound) → litsAll (s ++ t) L ≡ litsAll t (litsAll s L)
@@ -179,8 +162,8 @@ unfolding litsAll
 global-lits B L a g true l e = subst (λ (m : Emitted). litsAll (m .steps) L ≡ L) (Option·some-injective _ _ e) refl
 global-lits B L a g false l e = subst (λ (m : Emitted). litsAll (m .steps) L ≡ L) (Option·some-injective _ _ e) refl
 
-lower-lits : (B L : Bound) (k : ℕ) (a : Atom) (l : Emitted) → lower B k a ≡ some l → litsAll (l .steps) L ≡ withLits L a
-unfolding lower litsAll
+lower-lits : (B L : Bound) (k : ℕ) (a : Atom) (l : Emitted) → lower B k a ≡ some l → litsAll (l .steps) L ≡ addAll L (litsIn a)
+unfolding lower litsAll addAll
 lower-lits B L k (Plain n o cs) l e = subst (λ (m : Emitted). litsAll (m .steps) L ≡ L) (Option·some-injective _ _ e) (reads-lits n 0 cs (add B n) L)
 lower-lits B L k (Lit n o x) l e = subst (λ (m : Emitted). litsAll (m .steps) L ≡ L) (Option·some-injective _ _ e) refl
 lower-lits B L k (LitBind n o x) l e = subst (λ (m : Emitted). litsAll (m .steps) L ≡ add L x) (Option·some-injective _ _ e) refl
@@ -189,10 +172,10 @@ lower-lits B L k (EqGlobal a g) l e = global-lits B L a g (has B a) l e
 lower-lits B L k (Pred g ds) l e = subst (λ (m : Emitted). litsAll (m .steps) L ≡ L) (Option·some-injective _ _ e) refl
 lower-lits B L k (Variadic n o cs f) l e = subst (λ (m : Emitted). litsAll (m .steps) L ≡ L) (Option·some-injective _ _ e) refl
 
-pub plan-lits : {B : Bound} {ss : List Step} {B′ : Bound} {at : ℕ → Atom} {ks : List ℕ} → Lowered at B ss B′ ks → (L : Bound) → litsAll ss L ≡ litsOf L (map at ks)
-unfolding litsOf litsAll
+pub plan-lits : {B : Bound} {ss : List Step} {B′ : Bound} {at : ℕ → Atom} {ks : List ℕ} → Lowered at B ss B′ ks → (L : Bound) → litsAll ss L ≡ addAtoms litsIn L (map at ks)
+unfolding addAtoms litsAll
 plan-lits done L = refl
-plan-lits {at = at} (more {B} k l {ss} {ks} e r) L = lits-append (l .steps) ss L ∙ plan-lits r (litsAll (l .steps) L) ∙ ap (λ C. litsOf C (map at ks)) (lower-lits B L k (at k) l e)
+plan-lits {at = at} (more {B} k l {ss} {ks} e r) L = lits-append (l .steps) ss L ∙ plan-lits r (litsAll (l .steps) L) ∙ ap (λ C. addAtoms litsIn C (map at ks)) (lower-lits B L k (at k) l e)
 
 -- the assignment that an environment is
 abbrev pub assigned : Env → Assignment
@@ -237,14 +220,14 @@ module _ (tb : Table) (d : Distinct tb) {ss : List Step} {B : Bound} {at : ℕ �
   holds τ m = all-once .sound (assigned τ) (record { at = τ; mem = m; ext = ext-asg B τ }) .1
 
   -- it gives a class to each variable in the atoms and to no other, and so with the literals
-  pub exactly : (τ : Env) → List·Memᴰ τ (runs tb ss σ) → InvOf (varsOf [] (map at ks)) (litsOf [] (map at ks)) τ
+  pub exactly : (τ : Env) → List·Memᴰ τ (runs tb ss σ) → InvOf (addAtoms varsIn [] (map at ks)) (addAtoms litsIn [] (map at ks)) τ
   exactly τ m = rw (← plan-vars p, ← plan-lits p [], ← goes-all (plan-goes p [])) (runs-inv tb ss [] [] σ new τ m)
 
   -- each match is found
-  pub finds : (α : Assignment) → HoldsAll tb α (map at ks) → Hit (runs tb ss σ) (Same (varsOf [] (map at ks)) (litsOf [] (map at ks))) α
+  pub finds : (α : Assignment) → HoldsAll tb α (map at ks) → Hit (runs tb ss σ) (Same (addAtoms varsIn [] (map at ks)) (addAtoms litsIn [] (map at ks))) α
   finds α h =
       let r = all-once .complete α (start-ext σ new α, h) in
-      record { at = r .at; mem = r .mem; ext = ext-same (varsOf [] (map at ks)) (litsOf [] (map at ks)) (r .at) α (exactly (r .at) (r .mem)) (subst (λ (C : Bound). Ext C (r .at) α) (plan-vars p) (r .ext)) }
+      record { at = r .at; mem = r .mem; ext = ext-same (addAtoms varsIn [] (map at ks)) (addAtoms litsIn [] (map at ks)) (r .at) α (exactly (r .at) (r .mem)) (subst (λ (C : Bound). Ext C (r .at) α) (plan-vars p) (r .ext)) }
 
   -- no two results are alike
   pub each-once : Pairs (λ τ υ. Alike τ υ → ⊥) (runs tb ss σ)

@@ -12,13 +12,13 @@ use lib.Seq.{ext-getD}
 use Rattle.model.specs.Lists.{Pairs, Hit, pairs-map-mem, pairs-of-map}
 use Rattle.model.specs.Tabulate.{tabulate, tabulate-length, tabulate-all}
 use Rattle.model.specs.Bools.{not-so}
-use Rattle.model.specs.Atoms.{Atom, Step, unset, Table}
+use Rattle.model.specs.Atoms.{Atom, varsIn, litsIn, Step, unset, Table}
 use Rattle.model.specs.Bound.{Bound, has}
 use Rattle.model.specs.Lowering.{Lowered}
 use Rattle.model.specs.Running.{Env, class, litAt, runs}
 use Rattle.model.specs.Matching.{Assignment, HoldsAll, InShapes, Distinct, mentions, mentionsLit, any, isSet, Line, line, assignedBy, IsMatch}
-use Rattle.model.specs.Final.{varsOf, litsOf, InvOf, assigned, Same, Alike, holds, exactly, finds, each-once}
-use Rattle.model.specs.Lines.{has-vars, has-lits, SameAtoms, any-same, holds-mem, mem-holds, shape-mem, mem-shape}
+use Rattle.model.specs.Final.{addAtoms, InvOf, assigned, Same, Alike, holds, exactly, finds, each-once}
+use Rattle.model.specs.Lines.{has-atoms, SameAtoms, any-same, holds-mem, mem-holds, shape-mem, mem-shape}
 
 not-set : (o : Option ℕ) → isSet o ≡ false → o ≡ none
 not-set none h = refl
@@ -34,14 +34,14 @@ module _ (tb : Table) (d : Distinct tb) (n m : ℕ) (qs : List Atom)
   sh′ : InShapes tb (map at ks)
   sh′ = mem-shape tb (map at ks) (λ a i. shape-mem tb qs sh a (same .back a i))
 
-  in-vars : (v : ℕ) → has (varsOf [] (map at ks)) v ≡ any (mentions v) qs
-  in-vars v = has-vars (map at ks) [] v ∙ sym (any-same (mentions v) qs (map at ks) same)
+  in-vars : (v : ℕ) → has (addAtoms varsIn [] (map at ks)) v ≡ any (mentions v) qs
+  in-vars v = has-atoms varsIn (map at ks) [] v ∙ sym (any-same (mentions v) qs (map at ks) same)
 
-  in-lits : (l : ℕ) → has (litsOf [] (map at ks)) l ≡ any (mentionsLit l) qs
-  in-lits l = has-lits (map at ks) [] l ∙ sym (any-same (mentionsLit l) qs (map at ks) same)
+  in-lits : (l : ℕ) → has (addAtoms litsIn [] (map at ks)) l ≡ any (mentionsLit l) qs
+  in-lits l = has-atoms litsIn (map at ks) [] l ∙ sym (any-same (mentionsLit l) qs (map at ks) same)
 
   module _ (τ : Env) (i : List·Memᴰ τ (runs tb ss σ)) where
-    ex : InvOf (varsOf [] (map at ks)) (litsOf [] (map at ks)) τ
+    ex : InvOf (addAtoms varsIn [] (map at ks)) (addAtoms litsIn [] (map at ks)) τ
     ex = exactly tb d p sh′ σ new τ i
 
     cls-blank : (v : ℕ) → any (mentions v) qs ≡ false → class τ v ≡ unset
@@ -71,7 +71,7 @@ module _ (tb : Table) (d : Distinct tb) (n m : ℕ) (qs : List Atom)
   pub match-is-found : (x : Line) → IsMatch tb n m qs x → List·Memᴰ x (map (line n m) (runs tb ss σ))
   match-is-found x h = Memᴰ·cast (sym here) (Memᴰ·map (line n m) (r .mem))
     where
-      r : Hit (runs tb ss σ) (Same (varsOf [] (map at ks)) (litsOf [] (map at ks))) (assignedBy x)
+      r : Hit (runs tb ss σ) (Same (addAtoms varsIn [] (map at ks)) (addAtoms litsIn [] (map at ks))) (assignedBy x)
       r = finds tb d p sh′ σ new (assignedBy x) (mem-holds tb (assignedBy x) (map at ks) (λ a j. holds-mem tb (assignedBy x) qs (h .holds) a (same .back a j)))
 
       cls-is : (v : ℕ) (b : Bool) → any (mentions v) qs ≡ b → class (r .at) v ≡ getD (x .classes) v unset

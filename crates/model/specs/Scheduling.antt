@@ -8,19 +8,9 @@ use lib.Dec.{eqb}
 use lib.ListN.{length, getD}
 use Rattle.base.specs.Choose.{pick}
 use Rattle.model.specs.Tabulate.{tabulate}
-use Rattle.model.specs.Atoms.{Atom, Plain, Lit, LitBind, Eq, EqGlobal, Pred, Variadic, Step}
+use Rattle.model.specs.Atoms.{Atom, Plain, Lit, LitBind, Eq, EqGlobal, Pred, Variadic, depsOf, Step}
 use Rattle.model.specs.Bound.{Bound, has, add, hasAll}
 use Rattle.model.specs.Lowering.{Emitted, lower}
-
--- the dependencies of a Pred
-abbrev pub depsOf : Atom → List ℕ
-depsOf (Plain n o cs) = []
-depsOf (Lit n o x) = []
-depsOf (LitBind n o l) = []
-depsOf (Eq a b) = []
-depsOf (EqGlobal a g) = []
-depsOf (Pred g ds) = ds
-depsOf (Variadic n o cs f) = []
 
 -- "Pred waits until all its dependencies are lowered; with none it lowers in the first pass."
 abbrev pub depsUsed : Bound → Atom → Bool

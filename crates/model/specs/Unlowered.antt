@@ -4,7 +4,7 @@ use mathlib.Core.Path.{_≡_, refl, sym, ap, _∙_, subst}
 use mathlib.Core.Logic.{_⊎_, inl, inr, _≢_}
 use Prim.Native.Nat.{ℕ, zero, suc, _<_}
 use native.Mathlib.Omega.{arith}
-use mathlib.Core.Bool.{Bool, true, false, _&&_, _||_, or-true}
+use mathlib.Core.Bool.{Bool, true, false, _&&_, _||_, or-true, or-false}
 use mathlib.Core.Option.{some}
 use mathlib.Core.List.{List, [], _∷_, List·Memᴰ, List·Memᴰ·head, List·Memᴰ·tail, List·Memᴰ·cases-cons, List·Memᴰ·not-nil}
 use lib.Dec.{T, eqb}
@@ -13,15 +13,14 @@ use native.Mathlib.Decide.{ℕ-discrete}
 use borrow.Author.Tests.{eq-eqb, eqb-true}
 use Rattle.model.specs.Tabulate.{At, mem-tabulate}
 use Rattle.model.specs.Bools.{first, second, either, true-false, not-so}
-use Rattle.model.specs.Atoms.{Atom, Plain, Lit, LitBind, Eq, EqGlobal, Pred, Variadic}
-use Rattle.model.specs.Bound.{Bound, has, add, hasAll, put-other, add-keeps}
+use Rattle.model.specs.Atoms.{Atom, Plain, Lit, LitBind, Eq, EqGlobal, Pred, Variadic, varsIn, depsOf}
+use Rattle.model.specs.Bound.{Bound, has, add, hasAll, isIn, put-other, add-keeps, has-all}
 use Rattle.model.specs.Lowering.{Emitted, lowerEq, lower}
-use Rattle.model.specs.Scheduling.{depsOf, State, unlowered, Chosen, Fair, atomOf, numbers, schedule}
+use Rattle.model.specs.Scheduling.{State, unlowered, Chosen, Fair, atomOf, numbers, schedule}
 use Rattle.model.specs.Refusing.{isRun}
 use Rattle.model.specs.Matching.{mentions}
 use Rattle.model.specs.Waiting.{isEq, Named, Chain, ends, links, Unbound, DependsOn, direct, through, NeverLowered, unboundEq, unboundDependency, ring, DepsBelow}
 use Rattle.model.specs.Final.{lower-vars}
-use Rattle.model.specs.Lines.{has-with}
 use Rattle.model.specs.Scheduled.{Reached, fresh, takes, unlowered-lt, Waits, eq-waits, pred-waits, waits, mem-at, number-mem, reached, left-waits}
 
 -- a variable from which a chain of Eq atoms leads to one that another kind of atom names
@@ -48,7 +47,7 @@ record Side (B : Bound) (a : Atom) : Type 0 where
 
 -- an Eq that lowers has a side that is bound
 eq-side : (B : Bound) (k : ℕ) (a : Atom) (l : Emitted) → isEq a ≡ true → lower B k a ≡ some l → Side B a
-unfolding lower
+unfolding lower isIn
 eq-side B k (Plain n o cs) l q e = absurd (subst T (sym q) tt)
 eq-side B k (Lit n o x) l q e = absurd (subst T (sym q) tt)
 eq-side B k (LitBind n o x) l q e = absurd (subst T (sym q) tt)
@@ -58,12 +57,12 @@ eq-side B k (Variadic n o cs f) l q e = absurd (subst T (sym q) tt)
 eq-side B k (Eq a b) l q e = go (has B a) (has B b) refl refl e
   where
     left : has B a ≡ true → Side B (Eq a b)
-    left h = record { var = a; names = ap (λ (t : Bool). t || eqb a b) (eq-eqb a a refl); bound = h }
+    left h = record { var = a; names = ap (λ (t : Bool). t || (eqb a b || false)) (eq-eqb a a refl); bound = h }
 
     go : (p r : Bool) → has B a ≡ p → has B b ≡ r → lowerEq p r B a b ≡ some l → Side B (Eq a b)
     go true true h g e = left h
     go true false h g e = left h
-    go false true h g e = record { var = b; names = ap (λ (t : Bool). eqb b a || t) (eq-eqb b b refl) ∙ or-true (eqb b a); bound = g }
+    go false true h g e = record { var = b; names = ap (λ (t : Bool). eqb b a || (t || false)) (eq-eqb b b refl) ∙ or-true (eqb b a); bound = g }
     go false false h g e = let z : _≡_ {A = ℕ} 0 1 = cc in absurd (omega arith)
 
 all-mem : (U : Bound) (d : ℕ) (ds : List ℕ) → hasAll U ds ≡ true → List·Memᴰ d ds → has U d ≡ true
@@ -95,7 +94,7 @@ module _ (qs : List Atom) where
   grounded : {st : State} → Reached (atomOf qs) (numbers qs) st → (v : ℕ) → has (st .bound) v ≡ true → Grounded qs v
   grounded fresh v h = absurd (subst T (sym h) tt)
   grounded (takes {st = s} i l r m u d e) v h =
-      go (either (has (s .bound) v) (mentions v (atomOf qs i)) (sym (has-with (atomOf qs i) (s .bound) v) ∙ ap (λ (B : Bound). has B v) (sym (lower-vars (s .bound) i (atomOf qs i) l e)) ∙ h)) (isEq (atomOf qs i)) refl (λ w k. grounded r w k)
+      go (either (has (s .bound) v) (mentions v (atomOf qs i)) (sym (has-all (varsIn (atomOf qs i)) (s .bound) v) ∙ ap (λ (B : Bound). has B v) (sym (lower-vars (s .bound) i (atomOf qs i) l e)) ∙ h)) (isEq (atomOf qs i)) refl (λ w k. grounded r w k)
     where
       within : List·Memᴰ (atomOf qs i) qs
       within = number-mem qs i m
@@ -108,7 +107,7 @@ module _ (qs : List Atom) where
   -- what is lowered is bound
   used-bound : {st : State} → Reached (atomOf qs) (numbers qs) st → (i : ℕ) → has (st .used) i ≡ true → (v : ℕ) → mentions v (atomOf qs i) ≡ true → has (st .bound) v ≡ true
   used-bound fresh i h v n = absurd (subst T (sym h) tt)
-  used-bound (takes {st = s} j l r m u d e) i h v n = ap (λ (B : Bound). has B v) (lower-vars (s .bound) j (atomOf qs j) l e) ∙ has-with (atomOf qs j) (s .bound) v ∙ at (ℕ-discrete i j) (λ q. used-bound r i q v n)
+  used-bound (takes {st = s} j l r m u d e) i h v n = ap (λ (B : Bound). has B v) (lower-vars (s .bound) j (atomOf qs j) l e) ∙ has-all (varsIn (atomOf qs j)) (s .bound) v ∙ at (ℕ-discrete i j) (λ q. used-bound r i q v n)
     where
       at : Dec (i ≡ j) → (has (s .used) i ≡ true → has (s .bound) v ≡ true) → (has (s .bound) v || mentions v (atomOf qs j)) ≡ true
       at (yes q) g = ap (λ (b : Bool). has (s .bound) v || b) (ap (λ (k : ℕ). mentions v (atomOf qs k)) (sym q) ∙ n) ∙ or-true (has (s .bound) v)
@@ -141,7 +140,8 @@ module _ (qs : List Atom) where
 
 -- the sides of an Eq that waits are unbound; what waits names nothing else
 waits-unbound : (U B : Bound) (a : Atom) → Waits U B a → (v : ℕ) → mentions v a ≡ true → has B v ≡ false
-waits-unbound U B a (eq-waits c d p q) v n = go (either (eqb v c) (eqb v d) n)
+unfolding isIn
+waits-unbound U B a (eq-waits c d p q) v n = go (either (eqb v c) (eqb v d) (ap (λ (t : Bool). eqb v c || t) (sym (or-false (eqb v d))) ∙ n))
   where
     go : (eqb v c ≡ true) ⊎ (eqb v d ≡ true) → has B v ≡ false
     go (inl e) = ap (has B) (eqb-true v c e) ∙ p
@@ -150,14 +150,16 @@ waits-unbound U B a (pred-waits g ds h) v n = absurd (subst T (sym n) tt)
 
 -- what waits and is named is an Eq
 waits-eq : (U B : Bound) (a : Atom) → Waits U B a → (v : ℕ) → mentions v a ≡ true → isEq a ≡ true
+unfolding isIn
 waits-eq U B a (eq-waits c d p q) v n = refl
 waits-eq U B a (pred-waits g ds h) v n = absurd (subst T (sym n) tt)
 
 eq-names : (a : Atom) → isEq a ≡ true → (v : ℕ) × (mentions v a ≡ true)
+unfolding isIn
 eq-names (Plain n o cs) q = absurd (subst T (sym q) tt)
 eq-names (Lit n o x) q = absurd (subst T (sym q) tt)
 eq-names (LitBind n o x) q = absurd (subst T (sym q) tt)
-eq-names (Eq a b) q = (a, ap (λ (t : Bool). t || eqb a b) (eq-eqb a a refl))
+eq-names (Eq a b) q = (a, ap (λ (t : Bool). t || (eqb a b || false)) (eq-eqb a a refl))
 eq-names (EqGlobal a g) q = absurd (subst T (sym q) tt)
 eq-names (Pred g ds) q = absurd (subst T (sym q) tt)
 eq-names (Variadic n o cs f) q = absurd (subst T (sym q) tt)
