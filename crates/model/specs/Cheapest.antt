@@ -124,3 +124,13 @@ module _ (at : ℕ → Atom) (js : List ℕ) {X C : Type 0} (cost : X → State 
       none-bid : (b : Option (Bid C)) → bidder b ≡ none → b ≡ none
       none-bid none e = refl
       none-bid (some b) e = let z : _≡_ {A = ℕ} 0 1 = cc in absurd (omega arith)
+
+-- a choice stays fair where what is remembered is brought up to date before and behind it: emitters are recorded after an eager round and again after the atom is emitted
+pub fair-around : (at : ℕ → Atom) (js : List ℕ) {X : Type 0} (choose : X → State → Chosen X) (f : X → State → X) (g : State → Chosen X → X) → Fair at js choose
+    → Fair at js (λ x s. record { at = choose (f x s) s .at; next = g s (choose (f x s) s) })
+fair-around at js choose f g fair = record {
+  known = λ x s. fair .known (f x s) s;
+  unused = λ x s. fair .unused (f x s) s;
+  scanning = λ x s. fair .scanning (f x s) s;
+  last = λ x s. fair .last (f x s) s;
+}

@@ -16,7 +16,7 @@ use Rattle.model.specs.Tabulate.{At, mem-tabulate, tabulate-mem}
 use Rattle.model.specs.Atoms.{Atom, Plain, Lit, LitBind, Eq, EqGlobal, Pred, Variadic, Step}
 use Rattle.model.specs.Bound.{Bound, has, add, hasAll, put-same, put-other, add-keeps}
 use Rattle.model.specs.Lowering.{Emitted, lowerEq, lowerEqGlobal, lower, Lowered, done, more}
-use Rattle.model.specs.Scheduling.{depsUsed, isFree, onlyIf, tryEagerLower, scans, State, unplanned, took, settle, unlowered, Chosen, tryAt, eagerPass, lowerEager, emitAt, goOn, scheduleLoop, Fair, atomOf, numbers, schedule}
+use Rattle.model.specs.Scheduling.{depsUsed, isFree, onlyIf, tryEagerLower, scans, State, unplanned, took, settle, unlowered, Chosen, tryAt, eagerPass, passesUpTo, lowerEager, emitAt, goOn, roundsUpTo, scheduleFrom, Fair, atomOf, numbers, schedule}
 
 -- what is taken eagerly lowers, a Pred behind its dependencies
 eager-takes : (U B : Bound) (k : ℕ) (a : Atom) (l : Emitted) → tryEagerLower U B k a ≡ some l → (depsUsed U a ≡ true) × (lower B k a ≡ some l)
@@ -139,24 +139,24 @@ module _ (atomAt : ℕ → Atom) (js : List ℕ) where
   pick-reached true s t p q = p
   pick-reached false s t p q = q
 
-  passes-reached : (f : ℕ) (st : State) → Reached atomAt js st → Reached atomAt js (lowerEager atomAt js f st)
-  unfolding lowerEager
+  passes-reached : (f : ℕ) (st : State) → Reached atomAt js st → Reached atomAt js (passesUpTo atomAt js f st)
+  unfolding passesUpTo
   passes-reached zero st p = p
   passes-reached (suc f) st p = let q = pass-reached js st (λ i m. m) p in pick-reached (eqb (unlowered (eagerPass atomAt js js st .used) js) (unlowered (st .used) js)) _ _ q (passes-reached f (eagerPass atomAt js js st) q)
 
   module _ {X : Type 0} (choose : X → State → Chosen X) (fair : Fair atomAt js choose) where
-    rounds-reached : (f : ℕ) (x : X) (st : State) → Reached atomAt js st → Reached atomAt js (scheduleLoop atomAt js choose f x st)
-    unfolding scheduleLoop
+    rounds-reached : (f : ℕ) (x : X) (st : State) → Reached atomAt js st → Reached atomAt js (roundsUpTo atomAt js choose f x st)
+    unfolding roundsUpTo
     rounds-reached zero x st p = p
     rounds-reached (suc f) x st p = at (choose x s .at) refl (λ y t. rounds-reached f y t)
       where
         s : State
-        s = lowerEager atomAt js (suc (unlowered (st .used) js)) st
+        s = lowerEager atomAt js st
 
         q : Reached atomAt js s
         q = passes-reached (suc (unlowered (st .used) js)) st p
 
-        at : (o : Option ℕ) → choose x s .at ≡ o → ((y : X) (t : State) → Reached atomAt js t → Reached atomAt js (scheduleLoop atomAt js choose f y t)) → Reached atomAt js (goOn atomAt js (scheduleLoop atomAt js choose f) o (choose x s .next) s)
+        at : (o : Option ℕ) → choose x s .at ≡ o → ((y : X) (t : State) → Reached atomAt js t → Reached atomAt js (roundsUpTo atomAt js choose f y t)) → Reached atomAt js (goOn atomAt js (roundsUpTo atomAt js choose f) o (choose x s .next) s)
         at none e k = q
         at (some i) e k = k (choose x s .next) (emitAt atomAt js i s) (settle-reached false (lower (s .bound) i (atomAt i)) i s (fair .unused x s i e) (λ l h. (scans-deps (s .used) (atomAt i) (fair .scanning x s i e), h)) (fair .known x s i e) q)
 
@@ -203,31 +203,31 @@ module _ (atomAt : ℕ → Atom) (js : List ℕ) where
           at j (inl h) = subst (Idle st) (sym h) (q .1)
           at j (inr m) = subst (λ (t : State). Idle t j) (q .0) (r .1 j m)
 
-  passes-left : (f : ℕ) (st : State) → unlowered (lowerEager atomAt js f st .used) js ≤ unlowered (st .used) js
-  unfolding lowerEager
+  passes-left : (f : ℕ) (st : State) → unlowered (passesUpTo atomAt js f st .used) js ≤ unlowered (st .used) js
+  unfolding passesUpTo
   passes-left zero st = omega arith
   passes-left (suc f) st = at (eqb (unlowered (eagerPass atomAt js js st .used) js) (unlowered (st .used) js)) (passes-left f (eagerPass atomAt js js st))
     where
-      at : (b : Bool) → unlowered (lowerEager atomAt js f (eagerPass atomAt js js st) .used) js ≤ unlowered (eagerPass atomAt js js st .used) js → unlowered (pick b (eagerPass atomAt js js st) (lowerEager atomAt js f (eagerPass atomAt js js st)) .used) js ≤ unlowered (st .used) js
+      at : (b : Bool) → unlowered (passesUpTo atomAt js f (eagerPass atomAt js js st) .used) js ≤ unlowered (eagerPass atomAt js js st .used) js → unlowered (pick b (eagerPass atomAt js js st) (passesUpTo atomAt js f (eagerPass atomAt js js st)) .used) js ≤ unlowered (st .used) js
       at true h = pass-left js st
       at false h = omega (arith, pass-left js st)
 
-  passes-idle : (f : ℕ) (st : State) → unlowered (st .used) js < f → (i : ℕ) → List·Memᴰ i js → Idle (lowerEager atomAt js f st) i
-  unfolding lowerEager
+  passes-idle : (f : ℕ) (st : State) → unlowered (st .used) js < f → (i : ℕ) → List·Memᴰ i js → Idle (passesUpTo atomAt js f st) i
+  unfolding passesUpTo
   passes-idle zero st h i m = absurd (omega arith)
   passes-idle (suc f) st h i m = at (eqb (unlowered (eagerPass atomAt js js st .used) js) (unlowered (st .used) js)) refl (λ k. passes-idle f (eagerPass atomAt js js st) k i m)
     where
-      at : (b : Bool) → eqb (unlowered (eagerPass atomAt js js st .used) js) (unlowered (st .used) js) ≡ b → (unlowered (eagerPass atomAt js js st .used) js < f → Idle (lowerEager atomAt js f (eagerPass atomAt js js st)) i) → Idle (pick b (eagerPass atomAt js js st) (lowerEager atomAt js f (eagerPass atomAt js js st))) i
+      at : (b : Bool) → eqb (unlowered (eagerPass atomAt js js st .used) js) (unlowered (st .used) js) ≡ b → (unlowered (eagerPass atomAt js js st .used) js < f → Idle (passesUpTo atomAt js f (eagerPass atomAt js js st)) i) → Idle (pick b (eagerPass atomAt js js st) (passesUpTo atomAt js f (eagerPass atomAt js js st))) i
       at true e r = let p = pass-idle js st (λ j n. n) (eqb-true _ _ e) in subst (λ (t : State). Idle t i) (sym (p .0)) (p .1 i m)
       at false e r = let ne : unlowered (eagerPass atomAt js js st .used) js ≢ unlowered (st .used) js = eqb-false _ _ e in r (omega (arith, pass-left js st))
 
   -- what is chosen is not free: emit_atom meets a Plain, Lit or LitBind with an unbound node only
-  pub chosen-waits : {X : Type 0} (choose : X → State → Chosen X) → Fair atomAt js choose → (x : X) (st : State) (i : ℕ) → choose x (lowerEager atomAt js (suc (unlowered (st .used) js)) st) .at ≡ some i
-      → isFree (lowerEager atomAt js (suc (unlowered (st .used) js)) st .used) (lowerEager atomAt js (suc (unlowered (st .used) js)) st .bound) (atomAt i) ≡ false
+  pub chosen-waits : {X : Type 0} (choose : X → State → Chosen X) → Fair atomAt js choose → (x : X) (st : State) (i : ℕ) → choose x (lowerEager atomAt js st) .at ≡ some i
+      → isFree (lowerEager atomAt js st .used) (lowerEager atomAt js st .bound) (atomAt i) ≡ false
   chosen-waits choose fair x st i e = not-free (s .used) (s .bound) i (atomAt i) (fair .scanning x s i e) (passes-idle (suc (unlowered (st .used) js)) st (omega arith) i (fair .known x s i e) (fair .unused x s i e))
     where
       s : State
-      s = lowerEager atomAt js (suc (unlowered (st .used) js)) st
+      s = lowerEager atomAt js st
 
   -- when the loop ends: what is left is not eager and does not scan
   pub record Ended (st : State) : Type 0 where
@@ -238,17 +238,72 @@ module _ (atomAt : ℕ → Atom) (js : List ℕ) where
     emit-left : (i : ℕ) (s : State) → List·Memᴰ i js → has (s .used) i ≡ false → scans (atomAt i) ≡ true → unlowered (emitAt atomAt js i s .used) js < unlowered (s .used) js
     emit-left i s m u c = let r = scans-low (s .bound) i (atomAt i) c in rw (r .1) (unlowered-lt (s .used) i js u m)
 
-    rounds-ended : (f : ℕ) (x : X) (st : State) → unlowered (st .used) js < f → Ended (scheduleLoop atomAt js choose f x st)
-    unfolding scheduleLoop
+    rounds-ended : (f : ℕ) (x : X) (st : State) → unlowered (st .used) js < f → Ended (roundsUpTo atomAt js choose f x st)
+    unfolding roundsUpTo
     rounds-ended zero x st h = absurd (omega arith)
     rounds-ended (suc f) x st h = at (choose x s .at) refl (λ y t. rounds-ended f y t)
       where
         s : State
-        s = lowerEager atomAt js (suc (unlowered (st .used) js)) st
+        s = lowerEager atomAt js st
 
-        at : (o : Option ℕ) → choose x s .at ≡ o → ((y : X) (t : State) → unlowered (t .used) js < f → Ended (scheduleLoop atomAt js choose f y t)) → Ended (goOn atomAt js (scheduleLoop atomAt js choose f) o (choose x s .next) s)
+        at : (o : Option ℕ) → choose x s .at ≡ o → ((y : X) (t : State) → unlowered (t .used) js < f → Ended (roundsUpTo atomAt js choose f y t)) → Ended (goOn atomAt js (roundsUpTo atomAt js choose f) o (choose x s .next) s)
         at none e k = record { idle = λ i m. passes-idle (suc (unlowered (st .used) js)) st (omega arith) i m; noscan = fair .last x s e }
         at (some i) e k = k (choose x s .next) (emitAt atomAt js i s) (omega (arith, emit-left i s (fair .known x s i e) (fair .unused x s i e) (fair .scanning x s i e), passes-left (suc (unlowered (st .used) js)) st))
+
+  -- the bounds do not matter: what lower_eager and the loop do next
+  passes-same : (f g : ℕ) (st : State) → unlowered (st .used) js < f → unlowered (st .used) js < g → passesUpTo atomAt js f st ≡ passesUpTo atomAt js g st
+  unfolding passesUpTo
+  passes-same zero g st h k = absurd (omega arith)
+  passes-same (suc f) zero st h k = absurd (omega arith)
+  passes-same (suc f) (suc g) st h k = at (eqb (unlowered (s .used) js) (unlowered (st .used) js)) refl (λ p q. passes-same f g s p q)
+    where
+      s : State
+      s = eagerPass atomAt js js st
+
+      at : (b : Bool) → eqb (unlowered (s .used) js) (unlowered (st .used) js) ≡ b → (unlowered (s .used) js < f → unlowered (s .used) js < g → passesUpTo atomAt js f s ≡ passesUpTo atomAt js g s) → pick b s (passesUpTo atomAt js f s) ≡ pick b s (passesUpTo atomAt js g s)
+      at true e r = refl
+      at false e r = let ne : unlowered (s .used) js ≢ unlowered (st .used) js = eqb-false _ _ e in r (omega (arith, pass-left js st)) (omega (arith, pass-left js st))
+
+  pub lower-eager-is : (st : State) → lowerEager atomAt js st ≡ pick (eqb (unlowered (eagerPass atomAt js js st .used) js) (unlowered (st .used) js)) (eagerPass atomAt js js st) (lowerEager atomAt js (eagerPass atomAt js js st))
+  unfolding passesUpTo
+  lower-eager-is st = at (eqb (unlowered (s .used) js) (unlowered (st .used) js)) refl
+    where
+      s : State
+      s = eagerPass atomAt js js st
+
+      at : (b : Bool) → eqb (unlowered (s .used) js) (unlowered (st .used) js) ≡ b → pick b s (passesUpTo atomAt js (unlowered (st .used) js) s) ≡ pick b s (lowerEager atomAt js s)
+      at true e = refl
+      at false e = let ne : unlowered (s .used) js ≢ unlowered (st .used) js = eqb-false _ _ e in passes-same (unlowered (st .used) js) (suc (unlowered (s .used) js)) s (omega (arith, pass-left js st)) (omega arith)
+
+  module _ {X : Type 0} (choose : X → State → Chosen X) (fair : Fair atomAt js choose) where
+    rounds-same : (f g : ℕ) (x : X) (st : State) → unlowered (st .used) js < f → unlowered (st .used) js < g → roundsUpTo atomAt js choose f x st ≡ roundsUpTo atomAt js choose g x st
+    unfolding roundsUpTo
+    rounds-same zero g x st h k = absurd (omega arith)
+    rounds-same (suc f) zero x st h k = absurd (omega arith)
+    rounds-same (suc f) (suc g) x st h k = at (choose x s .at) refl (λ y t p q. rounds-same f g y t p q)
+      where
+        s : State
+        s = lowerEager atomAt js st
+
+        at : (o : Option ℕ) → choose x s .at ≡ o → ((y : X) (t : State) → unlowered (t .used) js < f → unlowered (t .used) js < g → roundsUpTo atomAt js choose f y t ≡ roundsUpTo atomAt js choose g y t)
+            → goOn atomAt js (roundsUpTo atomAt js choose f) o (choose x s .next) s ≡ goOn atomAt js (roundsUpTo atomAt js choose g) o (choose x s .next) s
+        at none e r = refl
+        at (some i) e r =
+            let p = emit-left choose fair i s (fair .known x s i e) (fair .unused x s i e) (fair .scanning x s i e) in
+            r (choose x s .next) (emitAt atomAt js i s) (omega (arith, passes-left (suc (unlowered (st .used) js)) st)) (omega (arith, passes-left (suc (unlowered (st .used) js)) st))
+
+    pub schedule-from-is : (x : X) (st : State) → scheduleFrom atomAt js choose x st ≡ goOn atomAt js (scheduleFrom atomAt js choose) (choose x (lowerEager atomAt js st) .at) (choose x (lowerEager atomAt js st) .next) (lowerEager atomAt js st)
+    unfolding roundsUpTo
+    schedule-from-is x st = at (choose x s .at) refl
+      where
+        s : State
+        s = lowerEager atomAt js st
+
+        at : (o : Option ℕ) → choose x s .at ≡ o → goOn atomAt js (roundsUpTo atomAt js choose (unlowered (st .used) js)) o (choose x s .next) s ≡ goOn atomAt js (scheduleFrom atomAt js choose) o (choose x s .next) s
+        at none e = refl
+        at (some i) e =
+            let p = emit-left choose fair i s (fair .known x s i e) (fair .unused x s i e) (fair .scanning x s i e) in
+            rounds-same (unlowered (st .used) js) (suc (unlowered (emitAt atomAt js i s .used) js)) (choose x s .next) (emitAt atomAt js i s) (omega (arith, passes-left (suc (unlowered (st .used) js)) st)) (omega arith)
 
 -- an atom that waits at the end is an Eq with both sides unbound, or a Pred with a dependency that waits
 pub data Waits (U B : Bound) : Atom → Type 0 where

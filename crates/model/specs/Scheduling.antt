@@ -80,10 +80,14 @@ module _ (atomAt : ℕ → Atom) (js : List ℕ) where
   eagerPass [] st = st
   eagerPass (i ∷ ks) st = eagerPass ks (tryAt i st)
 
-  -- lower_eager: "Eager passes run from atom 0 and repeat until one lowers nothing"
-  unfoldable pub lowerEager : ℕ → State → State
-  lowerEager zero st = st
-  lowerEager (suc f) st = let s = eagerPass js st in let r = lowerEager f s in pick (eqb (unlowered (s .used) js) (unlowered (st .used) js)) s r
+  -- "Eager passes run from atom 0 and repeat until one lowers nothing"; f bounds their number
+  unfoldable pub passesUpTo : ℕ → State → State
+  passesUpTo zero st = st
+  passesUpTo (suc f) st = let s = eagerPass js st in let r = passesUpTo f s in pick (eqb (unlowered (s .used) js) (unlowered (st .used) js)) s r
+
+  -- lower_eager: each pass but the last lowers an atom
+  abbrev pub lowerEager : State → State
+  lowerEager st = passesUpTo (suc (unlowered (st .used) js)) st
 
   abbrev pub emitAt : ℕ → State → State
   emitAt i st = settle false (lower (st .bound) i (atomAt i)) i st
@@ -92,10 +96,14 @@ module _ (atomAt : ℕ → Atom) (js : List ℕ) where
   goOn k none x s = s
   goOn k (some i) x s = k x (emitAt i s)
 
-  -- the loop: an eager round, then the atom chosen
-  unfoldable pub scheduleLoop : {X : Type 0} → (X → State → Chosen X) → ℕ → X → State → State
-  scheduleLoop choose zero x st = st
-  scheduleLoop choose (suc f) x st = let s = lowerEager (suc (unlowered (st .used) js)) st in let c = choose x s in goOn (scheduleLoop choose f) (c .at) (c .next) s
+  -- the loop: an eager round, then the atom chosen; f bounds the rounds
+  unfoldable pub roundsUpTo : {X : Type 0} → (X → State → Chosen X) → ℕ → X → State → State
+  roundsUpTo choose zero x st = st
+  roundsUpTo choose (suc f) x st = let s = lowerEager st in let c = choose x s in goOn (roundsUpTo choose f) (c .at) (c .next) s
+
+  -- each round but the last lowers an atom
+  abbrev pub scheduleFrom : {X : Type 0} → (X → State → Chosen X) → X → State → State
+  scheduleFrom choose x st = roundsUpTo choose (suc (unlowered (st .used) js)) x st
 
   -- what a choice by any costs keeps to: a scanning atom not used yet, as long as there is one
   pub record Fair {X : Type 0} (choose : X → State → Chosen X) : Type 0 where
@@ -113,4 +121,4 @@ numbers qs = tabulate (length qs) (λ i. i)
 
 -- the scheduler on a query
 abbrev pub schedule : {X : Type 0} → List Atom → (X → State → Chosen X) → X → State
-schedule qs choose x = scheduleLoop (atomOf qs) (numbers qs) choose (suc (unlowered [] (numbers qs))) x unplanned
+schedule qs choose x = scheduleFrom (atomOf qs) (numbers qs) choose x unplanned
