@@ -261,6 +261,10 @@ module _ (qs : List Atom) {X : Type 0} (choose : X → State → Chosen X) (x : 
       against (unboundDependency {j = j} p u) h = used-bounded j (deps-used qs (reached qs choose x fair) i j h p .0) u
       against (ring {j = j} p q) h = let k = deps-used qs (reached qs choose x fair) i j h p .0 in deps-used qs (reached qs choose x fair) j j k q .1 refl
 
+  -- its sides are "finally unbound"
+  pub finally-unbound : (i : ℕ) → i < length qs → Unbound qs (atomOf qs i) → (v : ℕ) → mentions v (atomOf qs i) ≡ true → has (schedule qs choose x .bound) v ≡ false
+  finally-unbound i l u = waits-unbound U B (atomOf qs i) (left-waits qs choose x fair i l (not-so (has U i) (λ h. used-bounded i h u)))
+
   -- where nothing is never lowered, all atoms are lowered
   pub all-lowered : DepsBelow qs → ((i : ℕ) → i < length qs → NeverLowered qs i → ⊥) → (i : ℕ) → i < length qs → has (schedule qs choose x .used) i ≡ true
   all-lowered below clear i l = go (has U i) refl
