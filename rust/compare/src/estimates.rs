@@ -1,4 +1,5 @@
 //! The mean of draws and its guard against plain Rust.
+use crate::bits;
 use crate::splitmix::{START, SplitMix64};
 use rimdovek_sys::Settings;
 
@@ -105,11 +106,7 @@ fn check(draws: &[f64], settings: Settings) -> Result<u8, String> {
     let mut mean = BEFORE;
     let status = rimdovek_sys::estimate_draws_into(draws, settings, &mut mean);
     let (plain_mean, accepted) = plain(draws, settings);
-    let says = match (accepted, plain_mean.is_nan()) {
-        (false, _) => (1, BEFORE),
-        (true, true) => (0, 0x7ff8_0000_0000_0000),
-        (true, false) => (0, plain_mean.to_bits()),
-    };
+    let says = if accepted { (0, bits::of(plain_mean)) } else { (1, BEFORE) };
     if (status, mean) == says {
         return Ok(status);
     }

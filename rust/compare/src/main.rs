@@ -1,4 +1,5 @@
 //! Compares the proved numbers, through the static library, with the machine's and with plain Rust. `run` beside this folder calls it.
+mod bits;
 mod estimates;
 mod operands;
 mod roots;

@@ -1,10 +1,10 @@
 //! The square root against the machine's.
+use crate::bits;
 use crate::operands::{FAMILIES, Family};
 
-/// The machine's root by its bits. The sign of a NaN that the machine makes is left open, so every NaN counts as 7ff8000000000000.
+/// The machine's root by its bits.
 pub fn machine(bits: u64) -> u64 {
-    let root = f64::from_bits(bits).sqrt();
-    if root.is_nan() { 0x7ff8_0000_0000_0000 } else { root.to_bits() }
+    bits::of(f64::from_bits(bits).sqrt())
 }
 
 pub fn compare(count: u64) -> Result<(), String> {

@@ -1,4 +1,5 @@
 //! The selectivity of a path against plain Rust.
+use crate::bits;
 use crate::splitmix::SplitMix64;
 
 /// "Selectivity is 0.5 without a fan-out or with denominator 0, else f/denominator held to 0..1."
@@ -32,14 +33,10 @@ fn family(name: &str, mut pairs: impl Iterator<Item = (Option<f64>, u32)>) -> Re
     Ok(())
 }
 
-/// The proved answer, where it equals the plain one. A NaN is 7ff8000000000000 on the proved side.
+/// The proved answer, where it equals the plain one.
 fn check(fanout: Option<f64>, denom: u32) -> Result<f64, String> {
     let (ours, theirs) = (rimdovek_sys::path_selectivity(fanout, denom), plain(fanout, denom));
-    let same = match theirs.is_nan() {
-        true => ours.to_bits() == 0x7ff8_0000_0000_0000,
-        false => ours.to_bits() == theirs.to_bits(),
-    };
-    if same {
+    if ours.to_bits() == bits::of(theirs) {
         return Ok(ours);
     }
     let fanout = fanout.map(f64::to_bits);

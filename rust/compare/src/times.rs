@@ -1,5 +1,4 @@
 //! Nanoseconds a call, on both sides.
-use crate::roots;
 use crate::splitmix::SplitMix64;
 use std::hint::black_box;
 use std::time::Instant;
@@ -24,7 +23,10 @@ fn median(operands: &[u64], call: impl Fn(u64) -> u64) -> f64 {
 pub fn print() {
     let mut random = SplitMix64(41);
     let operands: Vec<u64> = (0..CALLS).map(|_| random.draw() >> 1).collect();
-    let (ours, theirs) = (median(&operands, rimdovek_sys::sqrt), median(&operands, roots::machine));
+    let (ours, theirs) = (
+        median(&operands, rimdovek_sys::sqrt),
+        median(&operands, |bits| f64::from_bits(bits).sqrt().to_bits()),
+    );
     println!("{ours:>11.2}  ns a call, sqrt, proved");
     println!("{theirs:>11.2}  ns a call, sqrt, machine");
     let both = |state| rimdovek_sys::splitmix64_state(state) ^ rimdovek_sys::splitmix64_draw(state);
