@@ -41,6 +41,7 @@ pub fn compare(count: u64) -> Result<(), String> {
     let mut random = SplitMix64(31);
     family("probe lengths", count >> 11, &mut random, probe_lengths)?;
     family("any doubles", count >> 11, &mut random, any_doubles)?;
+    named()?;
     at_the_threshold(count >> 12, &mut random)?;
     refused(&mut random)?;
     minus_zeros()
@@ -54,6 +55,45 @@ fn family(name: &str, count: u64, random: &mut SplitMix64, draw: fn(&mut SplitMi
         rejected += u64::from(check(&draws, settings(random))?);
     }
     println!("{count:>11}  estimates, draws of {name}, {rejected} of them rejected");
+    Ok(())
+}
+
+/// Draws at the edges of the format, each sample with every guard and threshold.
+fn named() -> Result<(), String> {
+    let (inf, nan, least) = (f64::INFINITY, f64::NAN, 5e-324);
+    let samples: [&[f64]; 14] = [
+        &[nan],
+        &[-nan, 1.0],
+        &[inf, -inf],
+        &[inf, 1.0],
+        &[-inf, 1.0],
+        &[f64::MAX, f64::MAX],
+        &[-1.0, 1.0],
+        &[-1.0],
+        &[0.0, -0.0],
+        &[least],
+        &[least, 0.0, 0.0, 0.0],
+        &[1.0; 64],
+        &[0.1, 0.2, 0.3],
+        &[1.0, 1e16, -1e16],
+    ];
+    let mut seen = 0;
+    for draws in samples {
+        for bootstrap in [0, 1, 2, 8, 256] {
+            for cv_threshold in [0.0, -0.0, 0.5, 1.0, -1.0, inf, -inf, nan] {
+                check(
+                    draws,
+                    Settings {
+                        k: 64,
+                        bootstrap,
+                        cv_threshold,
+                    },
+                )?;
+                seen += 1;
+            }
+        }
+    }
+    println!("{seen:>11}  estimates, named draws");
     Ok(())
 }
 
