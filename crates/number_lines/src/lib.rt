@@ -1,4 +1,5 @@
-// Lines of one number each, for the programs that run vectors: 16 hexadecimal digits and byte 0a.
+// Lines of one number each, for the programs that run vectors: 16 hexadecimal digits and byte 0a. The crate `hex` takes its place once it is here
+// (`hex_line`, `long_at`).
 ghost use mathlib.Core.Path.{_≡_};
 ghost use Prim.Native.Nat.{_+_, _≤_};
 ghost use lib.ListN.{length};
