@@ -30,7 +30,7 @@ fn print_draws(text: &[u8]) -> usize
 {
     let mut at: usize = 0;
     while text.len() - at > 16 {
-        let Line::Number(state) = number_lines::line_at(text, at) else {
+        let Line::Number(state) = number_lines::number(&text[at..at + 17]) else {
             return at;
         };
         print_five(state);

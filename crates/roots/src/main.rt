@@ -14,7 +14,7 @@ fn print_roots(text: &[u8]) -> usize
 {
     let mut at: usize = 0;
     while text.len() - at > 16 {
-        let Line::Number(bits) = number_lines::line_at(text, at) else {
+        let Line::Number(bits) = number_lines::number(&text[at..at + 17]) else {
             return at;
         };
         print_root(bits);

@@ -17,8 +17,20 @@ loop-holds c = search needs
 sub-loop : tie.Need-sub-loop Inv-loop μ-loop
 sub-loop c = search needs
 
-line-at-requires : tie.Need-line-at-requires Inv-loop μ-loop
-line-at-requires c κs = search needs
+add-number : tie.Need-add-number Inv-loop μ-loop
+add-number c = search needs
+
+sub-number : tie.Need-sub-number Inv-loop μ-loop
+sub-number c = search needs
+
+part-number-start : tie.Need-part-number-start Inv-loop μ-loop
+part-number-start c = search needs
+
+part-number-end : tie.Need-part-number-end Inv-loop μ-loop
+part-number-end c = search needs
+
+number-requires : tie.Need-number-requires Inv-loop μ-loop
+number-requires c κs = search needs
 
 enum-known-bits : tie.Need-enum-known-bits Inv-loop μ-loop
 enum-known-bits c = search needs
@@ -52,7 +64,11 @@ print-roots-spec =
     μ-loop
     loop-holds
     sub-loop
-    line-at-requires
+    add-number
+    sub-number
+    part-number-start
+    part-number-end
+    number-requires
     enum-known-bits
     enum-told
     returns

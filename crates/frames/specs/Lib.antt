@@ -1,0 +1,6 @@
+pub mod Limits
+pub mod Fields
+pub mod Kinds
+pub mod Rows
+pub mod Frames
+pub mod First

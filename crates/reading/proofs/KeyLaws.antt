@@ -1,0 +1,125 @@
+-- Keys compared and frames found, a byte and a line at a time. Assumes nothing.
+use Prim.Native.Nat.{ℕ, zero, suc, _+_, _-_, _*_, _/_, _<_, _≤_}
+use mathlib.Core.Path.{_≡_, refl, sym, _∙_, ap}
+use mathlib.Core.Bool.{Bool, true, false}
+use mathlib.Core.List.{List, [], _∷_, map}
+use native.Mathlib.Numerals.{add-one}
+use native.Mathlib.Omega.{arith}
+use lib.ListN.{length, getD, take, drop, length-drop, drop-of-length-le}
+use lib.Seq.{drop-cons, take-all, take-length}
+use lib.Dec.{eqb, leb, ltb}
+use borrow.Author.Tests.{eq-eqb, ne-eqb, le-leb, ltb-false}
+use Rattle.base.specs.Choose.{pick}
+use Rattle.hex.specs.Digits.{bytesOf}
+use Rattle.hex.specs.Bytes.{bytes-length, bytes-take}
+use Rattle.hex.specs.Lines.{split, withLine, endOf}
+use Rattle.hex.specs.Cuts.{Line}
+use Rattle.reading.specs.Walk.{walk-line, frames-step, frames-none, frames-end}
+use Rattle.frames.specs.Kinds.{kindAt}
+use Rattle.frames.specs.First.{framesOf}
+use Rattle.reading.specs.Keys.{begins, find, isFound, keyGiven}
+
+-- ---- a key's bytes
+
+pick-false : (t : Bool) → pick t false false ≡ false
+pick-false true = refl
+pick-false false = refl
+
+shorter : (key f : List ℕ) → length f < length key → begins key f ≡ false
+unfolding begins
+shorter [] f h = absurd (omega arith)
+shorter (k ∷ key) [] h = refl
+shorter (k ∷ key) (b ∷ f) h = rw (shorter key f (omega arith)) (pick-false (eqb k b))
+
+-- i bytes agree, and the others decide
+pub record Begun (k l : List ℕ) (i : ℕ) : Type 0 where
+  pub is : begins (bytesOf k) (bytesOf l) ≡ begins (drop i (bytesOf k)) (drop i (bytesOf l))
+
+module _ (k l : List ℕ) where
+  pub begins-short : length l / 2 < length k / 2 → false ≡ begins (bytesOf k) (bytesOf l)
+  begins-short h = sym (shorter (bytesOf k) (bytesOf l) (omega (arith, bytes-length k, bytes-length l)))
+
+  module _ (i : ℕ) (q : Begun k l i) where
+    pub begins-all : length k / 2 ≤ i → true ≡ begins (bytesOf k) (bytesOf l)
+    unfolding begins
+    begins-all h = let g : length (bytesOf k) ≤ i = omega (arith, bytes-length k) in sym (q .is ∙ rw (drop-of-length-le (bytesOf k) g))
+
+    module _ (a b : ℕ) (h : i < length k / 2) (g : length k / 2 ≤ length l / 2) (d : a ≡ getD (bytesOf k) i 0) (e : b ≡ getD (bytesOf l) i 0) where
+      in-key : i < length (bytesOf k)
+      in-key = omega (arith, bytes-length k)
+
+      in-line : i < length (bytesOf l)
+      in-line = omega (arith, bytes-length l)
+
+      pub begins-again : a ≡ b → Begun k l (i + 1)
+      unfolding begins
+      begins-again p =
+          record { is = q .is ∙ rw (add-one i, drop-cons (bytesOf k) i 0 in-key, drop-cons (bytesOf l) i 0 in-line, ← d, ← e, eq-eqb _ _ p) }
+
+      pub begins-not : (a ≡ b → ⊥) → false ≡ begins (bytesOf k) (bytesOf l)
+      unfolding begins
+      begins-not p = sym (q .is ∙ rw (drop-cons (bytesOf k) i 0 in-key, drop-cons (bytesOf l) i 0 in-line, ← d, ← e, ne-eqb _ _ p))
+
+-- ---- a frame by its key
+
+-- no frame before `at` has the key
+pub record Seeking (x k : List ℕ) (at : ℕ) : Type 0 where
+  pub within : at ≤ length x
+  pub is : find (bytesOf k) (framesOf x) ≡ find (bytesOf k) (framesOf (drop at x))
+
+module _ (x k : List ℕ) (at : ℕ) (s : Seeking x k at) where
+  pub not-found : length x ≤ at → [] ≡ find (bytesOf k) (framesOf x)
+  unfolding find
+  not-found h = sym (s .is ∙ rw (frames-end x at h))
+
+  module _ (e : ℕ) (p : e ≡ endOf at (drop at x)) where
+    pub no-line-left : e ≡ length x → [] ≡ find (bytesOf k) (framesOf x)
+    unfolding find
+    no-line-left n = sym (s .is ∙ rw (frames-none x at e p n))
+
+    module _ (n : e ≡ length x → ⊥) where
+      line : Line x at e
+      line = walk-line x at e (s .within) p n
+
+      pub line-from : at ≤ e
+      line-from = line .from
+
+      pub line-within : e ≤ length x
+      line-within = omega (arith, line .within)
+
+      pub line-less : length x - (e + 1) < length x - at
+      line-less = omega (arith, line .within, line .from)
+
+      pub is-found : (b : Bool) → b ≡ begins (bytesOf k) (bytesOf (take (e - at) (drop at x))) → b ≡ true → bytesOf (take (e - at) (drop at x)) ≡ find (bytesOf k) (framesOf x)
+      unfolding find
+      is-found b q t = sym (s .is ∙ rw (frames-step x at e line, ← q, t))
+
+      pub seek-again : (b : Bool) → b ≡ begins (bytesOf k) (bytesOf (take (e - at) (drop at x))) → b ≡ false → Seeking x k (e + 1)
+      unfolding find
+      seek-again b q t =
+          record { within = omega (arith, line .within); is = s .is ∙ rw (frames-step x at e line, ← q, t) }
+
+-- ---- a key that is given twice
+
+found-length : (r : List ℕ) → leb 2 (length r) ≡ isFound (bytesOf r)
+found-length [] = refl
+found-length (a ∷ []) = refl
+found-length (a ∷ b ∷ r) = le-leb 2 (length (a ∷ b ∷ r)) (omega arith)
+
+take-least : (k m : ℕ) (f : List ℕ) → m ≡ pick (ltb k (length f)) k (length f) → take m f ≡ take k f
+take-least k m f p = rw p (go (ltb k (length f)) refl)
+  where
+    go : (t : Bool) → ltb k (length f) ≡ t → take (pick t k (length f)) f ≡ take k f
+    go true h = refl
+    go false h = take-length f ∙ sym (take-all k f (ltb-false k (length f) h))
+
+module _ (l : List ℕ) (b k : ℕ) (p : b ≡ getD (bytesOf l) 0 0) (q : k ≡ kindAt b .key) (x : List ℕ) where
+  pub no-key : k ≡ 0 → false ≡ keyGiven (framesOf x) (bytesOf l)
+  unfolding keyGiven
+  no-key z = rw (← p, ← q, eq-eqb _ _ z)
+
+  pub key-is : (w m : ℕ) (r : List ℕ) → (k ≡ 0 → ⊥) → w ≡ k → m ≡ pick (ltb w (length l / 2)) w (length l / 2) → bytesOf r ≡ find (bytesOf (take (2 * m) l)) (framesOf x) → leb 2 (length r) ≡ keyGiven (framesOf x) (bytesOf l)
+  unfolding keyGiven
+  key-is w m r z u v g =
+      let e : take m (bytesOf l) ≡ take k (bytesOf l) = take-least k m (bytesOf l) (rw (bytes-length l, ← u) v) in
+      rw (← p, ← q, ne-eqb _ _ z) (found-length r ∙ ap isFound g ∙ rw (bytes-take m l, e))

@@ -1,0 +1,13 @@
+use borrow.Author.Needs.{needs}
+use Rattle.base.specs.Choose.{tests}
+use Rattle.reading.proofs.keys.at_most.Statement.{statement}
+use Rattle.reading.proofs.keys.at_most.Tie as tie
+
+returns : tie.Need-returns
+returns c = (search needs, search tests)
+
+returns-2 : tie.Need-returns-2
+returns-2 c = (search needs, search tests)
+
+pub at-most-spec : {M : Type 1} → statement M
+at-most-spec = tie.close (tie.spec returns returns-2)

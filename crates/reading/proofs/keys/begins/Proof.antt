@@ -1,0 +1,55 @@
+use borrow.Author.Needs.{needs}
+use Prim.Native.Nat.{_-_}
+use mathlib.Core.Path.{refl}
+use Rattle.reading.proofs.KeyLaws.{Begun, begins-short, begins-all, begins-again, begins-not}
+use Rattle.reading.proofs.keys.begins.Statement.{statement}
+use Rattle.reading.proofs.keys.begins.Tie as tie
+
+abbrev Inv-loop : tie.InvT-loop
+Inv-loop key line n i₀ i = Begun key line i
+
+abbrev μ-loop : tie.MeasureT-loop
+μ-loop key line n i₀ i = n - i
+
+returns : tie.Need-returns Inv-loop μ-loop
+returns c = search begins-short
+
+loop-holds : tie.Need-loop-holds Inv-loop μ-loop
+loop-holds c = record { is = refl }
+
+byte-at-requires : tie.Need-byte-at-requires Inv-loop μ-loop
+byte-at-requires c κs = search needs
+
+byte-at-requires-2 : tie.Need-byte-at-requires-2 Inv-loop μ-loop
+byte-at-requires-2 c κs = search needs
+
+returns-2 : tie.Need-returns-2 Inv-loop μ-loop
+returns-2 c = search begins-not
+
+add-i : tie.Need-add-i Inv-loop μ-loop
+add-i c = search needs
+
+loop-less : tie.Need-loop-less Inv-loop μ-loop
+loop-less c = search needs
+
+loop-again : tie.Need-loop-again Inv-loop μ-loop
+loop-again c = begins-again _ _ _ (c .before .before .before .before .loop .inv) _ _ (c .before .before .before .loop-test .taken) (c .before .before .before .before .before .if1 .left) (c .before .before .byte-at .ensures) (c .before .byte-at2 .ensures) (c .if2 .left)
+
+returns-3 : tie.Need-returns-3 Inv-loop μ-loop
+returns-3 c = search begins-all
+
+pub begins-spec : {M : Type 1} → statement M
+begins-spec =
+    tie.close
+    (tie.spec
+    Inv-loop
+    μ-loop
+    returns
+    loop-holds
+    byte-at-requires
+    byte-at-requires-2
+    returns-2
+    add-i
+    loop-less
+    loop-again
+    returns-3)

@@ -1,0 +1,49 @@
+-- A walk over a text's frames, line by line: what the search for a line's end says of the frames that are left. Assumes nothing.
+use Prim.Native.Nat.{ℕ, suc, _+_, _-_, _<_, _≤_}
+use mathlib.Core.Path.{_≡_, refl, sym, _∙_, ap}
+use mathlib.Core.List.{List, [], _∷_, _++_, map, map-append}
+use native.Mathlib.Omega.{arith}
+use lib.ListN.{length, take, drop, length-drop, drop-of-length-le}
+use lib.Seq.{take-add}
+use Rattle.hex.specs.Digits.{bytesOf}
+use Rattle.hex.specs.Lines.{split, withLine, endOf}
+use Rattle.hex.specs.Cuts.{Line, end-line, end-none, split-append}
+use Rattle.frames.specs.First.{framesOf}
+
+-- where a 0a is found, a line ends there
+pub walk-line : (x : List ℕ) (at e : ℕ) → at ≤ length x → e ≡ endOf at (drop at x) → (e ≡ length x → ⊥) → Line x at e
+walk-line x at e h p n = go (split (drop at x) .ended) refl
+  where
+    go : (es : List (List ℕ)) → split (drop at x) .ended ≡ es → Line x at e
+    go [] q = absurd (n (omega (arith, end-none (drop at x) at q, length-drop at x, p)))
+    go (l ∷ ls) q = end-line x at e l ls q p
+
+-- the frames from `at` on: that line's, then those after it
+pub frames-step : (x : List ℕ) (at e : ℕ) → Line x at e → framesOf (drop at x) ≡ bytesOf (take (e - at) (drop at x)) ∷ framesOf (drop (e + 1) x)
+unfolding framesOf
+frames-step x at e l = rw (l .splits)
+
+-- where none is found, there are no frames left
+pub frames-none : (x : List ℕ) (at e : ℕ) → e ≡ endOf at (drop at x) → e ≡ length x → framesOf (drop at x) ≡ []
+unfolding framesOf
+frames-none x at e p n = go (split (drop at x) .ended) refl
+  where
+    go : (es : List (List ℕ)) → split (drop at x) .ended ≡ es → map bytesOf (split (drop at x) .ended) ≡ []
+    go [] q = rw q
+    go (l ∷ ls) q = let z = end-line x at e l ls q p in absurd (omega (arith, z .within))
+
+pub frames-end : (x : List ℕ) (at : ℕ) → length x ≤ at → framesOf (drop at x) ≡ []
+unfolding framesOf split
+frames-end x at h = rw (drop-of-length-le x h)
+
+-- the frames before a line's end, where whole lines stand before the line
+pub lines-before : (x : List ℕ) (at e : ℕ) → split (take at x) .rest ≡ [] → Line x at e → split (take (e + 1) x) ≡ record { ended = split (take at x) .ended ++ take (e - at) (drop at x) ∷ []; rest = [] }
+lines-before x at e w l =
+    let from = l .from in
+    let n : e + 1 ≡ at + (e + 1 - at) = omega arith in
+    let t : take (e + 1) x ≡ take at x ++ take (e + 1 - at) (drop at x) = ap (λ (m : ℕ). take m x) n ∙ take-add at (e + 1 - at) x in
+    rw (t, split-append (take at x) (take (e + 1 - at) (drop at x)) w, l .alone)
+
+pub frames-before : (x : List ℕ) (at e : ℕ) → split (take at x) .rest ≡ [] → Line x at e → framesOf (take (e + 1) x) ≡ framesOf (take at x) ++ bytesOf (take (e - at) (drop at x)) ∷ []
+unfolding framesOf
+frames-before x at e w l = rw (lines-before x at e w l) (map-append bytesOf (split (take at x) .ended) (take (e - at) (drop at x) ∷ []))

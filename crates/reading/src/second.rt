@@ -1,0 +1,99 @@
+// The second reading: each line is tested 5, 6, 7 in turn. And the whole reading of a query, a plan or a table.
+ghost use mathlib.Core.Path.{_≡_};
+ghost use mathlib.Core.List.{[]};
+ghost use Prim.Native.Nat.{ℕ, _+_, _<_, _≤_};
+ghost use lib.ListN.{length, getD, take};
+ghost use Rattle.hex.specs.Digits.{bytesOf};
+ghost use Rattle.frames.specs.First.{framesOf, firstLine};
+ghost use Rattle.frames.specs.declared.first.Reading.the-variants.{Accepted};
+ghost use Rattle.reading.specs.Second.{headerCounts, countsOf, secondFault, secondFrom, reading};
+use super::keys::key_given;
+use frames::fields::Counts;
+use frames::fields::Test;
+use frames::first::Reading;
+use frames::first::Text;
+use frames::first::first_reading;
+use frames::frame::frame_passes;
+use hex::byte_at;
+use hex::line_end;
+
+// What a header says, with that many atoms.
+fn header_counts(line: &[u8], atoms: usize) -> Counts
+    ensures { λ r. ⌜ r ≡ headerCounts (bytesOf (now (line .entry))) atoms ⌝ }
+{
+    let variables = byte_at(line, 1);
+    let globals = byte_at(line, 2);
+    let literals = byte_at(line, 3);
+    Counts {
+        variables,
+        globals,
+        literals,
+        atoms,
+    }
+}
+
+// What there is to name in a text, c of its lines being atoms.
+pub fn counts_of(t: Text, text: &[u8], c: usize) -> Counts
+    ensures { λ r. ⌜ r ≡ countsOf t (now (text .entry)) c ⌝ }
+{
+    let e = line_end(text, 0);
+    match t {
+        Text::Query => header_counts(&text[..e], c),
+        Text::Plan => header_counts(&text[..e], 64),
+        Text::Table => Counts {
+            variables: 0,
+            globals: 16,
+            literals: 0,
+            atoms: 0,
+        },
+    }
+}
+
+// The tests 5, 6 and 7 of a line: the first that it fails, or 0.
+fn second_fault(n: Counts, earlier: &[u8], line: &[u8]) -> u8
+    ensures { λ r. ⌜ r ≡ secondFault n (framesOf (now (earlier .entry))) (bytesOf (now (line .entry))) ⌝ }
+{
+    if !frame_passes(Test::Range, n, line) {
+        return 5;
+    }
+    if !frame_passes(Test::Reals, n, line) {
+        return 6;
+    }
+    if key_given(earlier, line) { 7 } else { 0 }
+}
+
+// The lines in turn, after a first reading that found that many lines and counted so many of them.
+fn second_lines(n: Counts, text: &[u8], lines: usize, counted: usize) -> Reading
+    ensures { λ r. ⌜ r ≡ secondFrom n [] 0 (framesOf (now (text .entry))) (Accepted lines counted) ⌝ }
+{
+    let mut at: usize = 0;
+    let mut k: usize = 0;
+    while at < text.len() {
+        let e = line_end(text, at);
+        if e == text.len() {
+            return Reading::Accepted(lines, counted);
+        }
+        let fault = second_fault(n, &text[..at], &text[at..e]);
+        if fault != 0 {
+            return Reading::Refused(fault, k + 1);
+        }
+        at = e + 1;
+        k += 1;
+    }
+    Reading::Accepted(lines, counted)
+}
+
+// The reading of a text of any bytes and length.
+pub fn read_text(t: Text, text: &[u8]) -> Reading
+    ensures { λ r. ⌜ r ≡ reading t (now (text .entry)) ⌝ }
+{
+    match first_reading(t, text) {
+        Reading::Refused(k, line) => Reading::Refused(k, line),
+        Reading::Accepted(lines, counted) => second_lines(
+            counts_of(t, text, counted),
+            text,
+            lines,
+            counted,
+        ),
+    }
+}
