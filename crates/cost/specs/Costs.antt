@@ -16,7 +16,8 @@ use Rattle.model.specs.Atoms.{Operand, local, global, Atom, Plain, Lit, LitBind
 use Rattle.model.specs.Bound.{Bound, has}
 use Rattle.model.specs.Lowering.{pvIsBound}
 use Rattle.cost.specs.Emitters.{Emitter, Emitters, emitterOf}
-use Rattle.cost.specs.Sampling.{Key, measure, valueOf, Tally, afterEstimate}
+use Rattle.cost.specs.Sampling.{measure, valueOf, Tally, afterEstimate}
+use Rattle.cost.specs.declared.sampling.Key.{Key}
 
 -- a sampled value, where there is one, and what is remembered behind it
 pub record Sampled′ : Type 0 where

@@ -14,16 +14,9 @@ use Rattle.measure.specs.declared.SamplerConfig.{SamplerConfig}
 use Rattle.measure.specs.declared.Estimate.{Estimate}
 use Rattle.measure.specs.declared.Estimate.the-variants.{Accepted, Rejected}
 use Rattle.query.specs.Statistics.{driverSample, keyClasses, probeLen}
+use Rattle.cost.specs.declared.sampling.Key.{Key}
 
 -- "One memo entry per (emitter, site, probe operator, path), refusals included." A site and a path have a position each.
-pub record Key : Type 0 where
-  pub emitter : ℕ
-  pub site : ℕ
-  pub position : ℕ
-  pub op : ℕ
-  pub path : ℕ
-  pub place : ℕ
-
 abbrev pub sameKey : Key → Key → Bool
 sameKey x y =
     eqb (x .emitter) (y .emitter) && (eqb (x .site) (y .site) && (eqb (x .position) (y .position) && (eqb (x .op) (y .op) && (eqb (x .path) (y .path) && eqb (x .place) (y .place)))))
