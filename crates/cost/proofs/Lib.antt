@@ -1,1 +1,2 @@
 pub mod SamplingLaws
+pub mod EmitterLaws

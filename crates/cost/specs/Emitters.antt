@@ -1,6 +1,6 @@
 -- The atom each variable was bound by, and where in that atom's node it sits. "`record_emitters` goes by atom number, not by lowering
 -- order. .. The first emitter of a variable stays; globals have none."
-use Prim.Native.Nat.{ℕ, suc}
+use Prim.Native.Nat.{ℕ, zero, suc, _/_, _%_}
 use mathlib.Core.Bool.{Bool, true, false, Bool·beq}
 use mathlib.Core.Option.{Option, none, some}
 use mathlib.Core.List.{List, [], _∷_}
@@ -20,6 +20,11 @@ Emitters = List (Option Emitter)
 
 abbrev pub emitterOf : Emitters → ℕ → Option Emitter
 emitterOf em v = getD em v none
+
+-- an emitter packed into a number: 0 for none, else one more than atom, site and position, in places of 256
+abbrev pub decode : ℕ → Option Emitter
+decode zero = none
+decode (suc c) = some (record { atom = c / 1024; site = c / 256 % 4; position = c % 256 })
 
 -- the variable v gets the emitter e, where it has none
 abbrev pub orKeep : Option Emitter → Emitters → ℕ → Option Emitter → Emitters
