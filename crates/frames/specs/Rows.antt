@@ -1,6 +1,6 @@
--- The table by kind as the program keeps it: one row of twelve numbers a kind, a field by its code. Each row is made from the table of
+-- The table by kind as the program keeps it: one row of twelve bytes a kind, a field by its code. Each row is made from the table of
 -- Kinds, and a field is had back from its code.
-use Prim.Native.Nat.{ℕ, _+_, _-_, _*_, _<_}
+use Prim.Native.Nat.{ℕ, zero, suc, _+_, _-_, _*_, _/_, _%_, _<_}
 use mathlib.Core.Path.{_≡_, refl, sym, _∙_, ap}
 use mathlib.Core.List.{List, [], _∷_, _++_, map}
 use lib.ListN.{getD, length, take, replicate, List·getD-map}
@@ -54,6 +54,16 @@ sixFields r = take 6 (r .fields ++ replicate 6 none)
 -- a kind's row
 abbrev pub rowOf : Kind → List ℕ
 rowOf r = r .text ∷ r .key ∷ fixedLength r ∷ width (r .item) ∷ length (r .fields) ∷ map code (r .item ∷ sixFields r)
+
+-- six numbers of a list as the bytes of one number, the first lowest; and the j-th of them
+abbrev pub sixAt : List ℕ → ℕ → ℕ
+sixAt l i =
+    getD l i 0
+    + 256 * (getD l (i + 1) 0 + 256 * (getD l (i + 2) 0 + 256 * (getD l (i + 3) 0 + 256 * (getD l (i + 4) 0 + 256 * getD l (i + 5) 0))))
+
+abbrev pub byteOf : ℕ → ℕ → ℕ
+byteOf n zero = n % 256
+byteOf n (suc j) = byteOf (n / 256) j
 
 -- every field of the table has a code of its own
 abbrev layoutOf : Kind → List Field
