@@ -7,3 +7,4 @@ pub mod StepsRead
 pub mod StepsPass
 pub mod Texts
 pub mod PlanRead
+pub mod Fitting
