@@ -8,3 +8,4 @@ pub mod StepsPass
 pub mod Texts
 pub mod PlanRead
 pub mod Fitting
+pub mod Longest
