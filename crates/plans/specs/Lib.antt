@@ -9,3 +9,4 @@ pub mod Texts
 pub mod PlanRead
 pub mod Fitting
 pub mod Longest
+pub mod Examples
