@@ -1,0 +1,76 @@
+use borrow.Author.Needs.{needs}
+use Prim.Native.Nat.{_-_}
+use mathlib.Core.Path.{refl}
+use native.Mathlib.Omega.{arith}
+use Rattle.hex.specs.Digits.{bytesOf}
+use Rattle.frames.specs.First.{framesOf}
+use Rattle.cost.proofs.SamplingLaws.{Summed, summed-none, summed-again, summed-all, summed-small}
+use Rattle.cost.proofs.sampling.probe_sum.Statement.{statement}
+use Rattle.cost.proofs.sampling.probe_sum.Tie as tie
+use Rattle.cost.proofs.sampling.probe_sum.Reads as reads
+use Rattle.cost.proofs.sampling.probe_sum.Lts as lts
+use Rattle.cost.proofs.sampling.probe_len.Reads as probe-len-reads
+use Rattle.hex.proofs.short_at.Reads as short-at-reads
+
+abbrev Inv-loop : tie.InvT-loop
+Inv-loop text line n x sum₀ i₀ sum i = Summed (framesOf text) x (bytesOf line) n sum i
+
+abbrev μ-loop : tie.MeasureT-loop
+μ-loop text line n x sum₀ i₀ sum i = n - i
+
+-- src/sampling.rt:66:5
+loop-holds : tie.Need-loop-holds Inv-loop μ-loop
+loop-holds c = search summed-none
+
+-- src/sampling.rt:67:40
+mul-short-at : tie.Need-mul-short-at Inv-loop μ-loop
+mul-short-at c = search needs
+
+-- src/sampling.rt:67:36
+add-short-at : tie.Need-add-short-at Inv-loop μ-loop
+add-short-at c = search needs
+
+-- src/sampling.rt:67:13
+short-at-requires : tie.Need-short-at-requires Inv-loop μ-loop
+short-at-requires c κs = search needs
+
+-- src/sampling.rt:68:16
+probe-len-requires : tie.Need-probe-len-requires Inv-loop μ-loop
+probe-len-requires c κs = search needs
+
+-- src/sampling.rt:68:9
+add-sum : tie.Need-add-sum Inv-loop μ-loop
+add-sum c = search needs
+
+-- src/sampling.rt:69:9
+add-i : tie.Need-add-i Inv-loop μ-loop
+add-i c = search needs
+
+-- src/sampling.rt:66:5
+loop-less : tie.Need-loop-less Inv-loop μ-loop
+loop-less c = search needs
+
+-- src/sampling.rt:66:5
+loop-again : tie.Need-loop-again Inv-loop μ-loop
+loop-again c = search summed-again
+
+-- src/sampling.rt:60:1
+returns : tie.Need-returns Inv-loop μ-loop
+returns c = (search summed-all, search summed-small)
+
+pub probe-sum-spec : {M : Type 1} → statement M
+probe-sum-spec =
+    tie.close
+    (tie.spec
+    Inv-loop
+    μ-loop
+    loop-holds
+    mul-short-at
+    add-short-at
+    short-at-requires
+    probe-len-requires
+    add-sum
+    add-i
+    loop-less
+    loop-again
+    returns)

@@ -1,0 +1,2 @@
+// What the scheduler goes by: the atoms of a query, emitters, samples and costs. Most of it is definitions yet, in specs/.
+pub mod sampling;

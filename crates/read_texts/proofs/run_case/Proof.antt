@@ -1,0 +1,62 @@
+-- `read_texts::run_case` meets its contract: the part that is read is as long as it says. Assumes nothing.
+use borrow.Author.Needs.{needs}
+use Rattle.read_texts.proofs.Laws.{taken}
+use Rattle.read_texts.proofs.run_case.Statement.{statement}
+use Rattle.read_texts.proofs.run_case.Tie as tie
+
+returns : tie.Need-returns
+returns c = search needs
+
+byte-at-requires : tie.Need-byte-at-requires
+byte-at-requires c κs = search needs
+
+text-of-requires : tie.Need-text-of-requires
+text-of-requires c κs = search needs
+
+sub-decode : tie.Need-sub-decode
+sub-decode c = search needs
+
+part-decode-start : tie.Need-part-decode-start
+part-decode-start c = search needs
+
+part-decode-end : tie.Need-part-decode-end
+part-decode-end c = search needs
+
+decode-requires : tie.Need-decode-requires
+decode-requires c κs = search needs
+
+slice-reshare-prefix-read-text : tie.Need-slice-reshare-prefix-read-text
+slice-reshare-prefix-read-text c = search needs
+
+slice-aggregate-read-text : tie.Need-slice-aggregate-read-text
+slice-aggregate-read-text c = search taken
+
+read-text-requires : tie.Need-read-text-requires
+read-text-requires c κs = search needs
+
+print-answer-requires : tie.Need-print-answer-requires
+print-answer-requires c κs = search needs
+
+same-length : tie.Need-same-length
+same-length c = search needs
+
+returns-2 : tie.Need-returns-2
+returns-2 c = search needs
+
+pub run-case-spec : {M : Type 1} → statement M
+run-case-spec =
+    tie.close
+    (tie.spec
+    returns
+    byte-at-requires
+    text-of-requires
+    sub-decode
+    part-decode-start
+    part-decode-end
+    decode-requires
+    slice-reshare-prefix-read-text
+    slice-aggregate-read-text
+    read-text-requires
+    print-answer-requires
+    same-length
+    returns-2)

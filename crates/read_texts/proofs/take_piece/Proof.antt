@@ -1,0 +1,56 @@
+-- `read_texts::take_piece` meets its contract. The loop's invariant: what is kept stays within the line's room. Assumes nothing.
+use Prim.Native.Nat.{_-_}
+use borrow.Author.Needs.{needs}
+use lib.ListN.{length}
+use Rattle.read_texts.proofs.Laws.{Kept}
+use Rattle.read_texts.proofs.take_piece.Statement.{statement}
+use Rattle.read_texts.proofs.take_piece.Tie as tie
+
+abbrev Inv-loop : tie.InvT-loop
+Inv-loop piece line₀ text₀ n kept₀ i₀ line text kept i = Kept line₀ text₀ line text kept
+
+abbrev μ-loop : tie.MeasureT-loop
+μ-loop piece line₀ text₀ n kept₀ i₀ line text kept i = length piece - i
+
+loop-holds : tie.Need-loop-holds Inv-loop μ-loop
+loop-holds c = search needs
+
+shared-slice-read-take-byte : tie.Need-shared-slice-read-take-byte Inv-loop μ-loop
+shared-slice-read-take-byte c = search needs
+
+take-byte-requires : tie.Need-take-byte-requires Inv-loop μ-loop
+take-byte-requires c κs = search needs
+
+add-i : tie.Need-add-i Inv-loop μ-loop
+add-i c = search needs
+
+loop-less : tie.Need-loop-less Inv-loop μ-loop
+loop-less c = search needs
+
+loop-again : tie.Need-loop-again Inv-loop μ-loop
+loop-again c = search needs
+
+same-length : tie.Need-same-length Inv-loop μ-loop
+same-length c = search needs
+
+same-length-2 : tie.Need-same-length-2 Inv-loop μ-loop
+same-length-2 c = search needs
+
+returns : tie.Need-returns Inv-loop μ-loop
+returns c = search needs
+
+pub take-piece-spec : {M : Type 1} → statement M
+take-piece-spec =
+    tie.close
+    (tie.spec
+    Inv-loop
+    μ-loop
+    loop-holds
+    shared-slice-read-take-byte
+    take-byte-requires
+    add-i
+    loop-less
+    loop-again
+    same-length
+    same-length-2
+    returns)

@@ -1,0 +1,136 @@
+// Reads texts and writes the answer for each. A case is a line of standard input: two digits say which text it is (00 a query, 01 a plan,
+// else a table), and two more stand for each of its bytes. The answer is `accepted` with lines and those counted, or `refused` with
+// number and line.
+ghost use mathlib.Core.Path.{_≡_};
+ghost use Prim.Native.Nat.{_+_, _≤_};
+ghost use lib.ListN.{length, take};
+ghost use Rattle.hex.specs.Digits.{bytesOf};
+use frames::first::Reading;
+use frames::first::Text;
+use reading::second::read_text;
+
+fn print_two(word: &[u8], a: usize, b: usize) {
+    io::write_all(1, word);
+    io::print_decimal(1, a as u64);
+    io::write_all(1, b" ");
+    io::print_decimal(1, b as u64);
+    io::write_all(1, b"\n");
+}
+
+fn print_answer(answer: Reading) {
+    match answer {
+        Reading::Accepted(lines, counted) => print_two(b"accepted ", lines, counted),
+        Reading::Refused(number, line) => print_two(b"refused ", number as usize, line),
+    }
+}
+
+fn text_of(b: u8) -> Text {
+    match b {
+        0 => Text::Query,
+        1 => Text::Plan,
+        _ => Text::Table,
+    }
+}
+
+// Puts the bytes of a line of digits at the start of `text`, and answers how many fit.
+fn decode(line: &[u8], text: &mut [u8]) -> usize
+    ensures { λ r. ⌜ r ≤ length (now (text .exit)) ⌝ }
+    ensures { λ r. ⌜ take r (now (text .exit)) ≡ take r (bytesOf (now (line .entry))) ⌝ }
+{
+    let mut i: usize = 0;
+    while i < text.len() {
+        if line.len() / 2 <= i {
+            return i;
+        }
+        text[i] = hex::byte_at(line, i);
+        i += 1;
+    }
+    i
+}
+
+fn run_case(line: &[u8], text: &mut [u8]) {
+    if line.len() < 2 {
+        return;
+    }
+    let t = text_of(hex::byte_at(line, 0));
+    let n = decode(&line[2..], text);
+    print_answer(read_text(t, &text[..n]));
+}
+
+// One byte more of standard input: it is kept in `line`, of which n are there, or ends the case.
+fn take_byte(b: u8, line: &mut [u8], text: &mut [u8], n: usize) -> usize
+    requires { ⌜ n ≤ length (now line) ⌝ }
+    ensures { λ r. ⌜ r ≤ length (now (line .exit)) ⌝ }
+{
+    if b == 10 {
+        run_case(&line[..n], text);
+        return 0;
+    }
+    if n < line.len() {
+        line[n] = b;
+        return n + 1;
+    }
+    n
+}
+
+fn take_piece(piece: &[u8], line: &mut [u8], text: &mut [u8], n: usize) -> usize
+    requires { ⌜ n ≤ length (now line) ⌝ }
+    ensures { λ r. ⌜ r ≤ length (now (line .exit)) ⌝ }
+{
+    let mut kept = n;
+    let mut i: usize = 0;
+    while i < piece.len() {
+        kept = take_byte(piece[i], line, text, kept);
+        i += 1;
+    }
+    kept
+}
+
+enum Input {
+    Kept(usize),
+    Ended,
+}
+
+fn read_piece(line: &mut [u8], text: &mut [u8], n: usize) -> Input {
+    let mut piece = io::buffer();
+    let got = io::read_full(0, &mut piece);
+    if got == 0 {
+        return Input::Ended;
+    }
+    if n <= line.len() {
+        return Input::Kept(take_piece(&piece[..got], line, text, n));
+    }
+    Input::Ended
+}
+
+// A proved loop has to end, and nothing says that the input does: the loop counts its turns down.
+fn run_all(line: &mut [u8], text: &mut [u8]) {
+    let mut kept: usize = 0;
+    let mut turns = u64::MAX;
+    while turns > 0 {
+        let Input::Kept(n) = read_piece(line, text, kept) else {
+            return;
+        };
+        kept = n;
+        turns -= 1;
+    }
+}
+
+// Room for the digits of a case, and for its bytes.
+fn line_room() -> [u8; 140000]
+    ensures { λ r. ⌜ 140000 ≡ length r ⌝ }
+{
+    [0; 140000]
+}
+
+fn text_room() -> [u8; 70000]
+    ensures { λ r. ⌜ 70000 ≡ length r ⌝ }
+{
+    [0; 70000]
+}
+
+fn main() {
+    let mut line = line_room();
+    let mut text = text_room();
+    run_all(&mut line, &mut text);
+}

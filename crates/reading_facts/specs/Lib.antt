@@ -1,0 +1,5 @@
+pub mod Answers
+pub mod LetterCase
+pub mod Whole
+pub mod Ascii
+pub mod Examples

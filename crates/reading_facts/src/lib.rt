@@ -1,0 +1,1 @@
+// What holds of every reading of a text; it stands in specs/.
