@@ -1,22 +1,22 @@
 -- The steps of atoms within their limits fit, in whatever order the atoms are lowered: `lowered-fit`; so the plan of a query fits. Proved by
 -- cases on the atom and by induction over the lowering sequence.
 use Prim.Native.Nat.{ℕ, suc, _+_, _<_, _≤_}
-use mathlib.Core.Path.{_≡_, refl, sym, _∙_, ap, subst}
+use mathlib.Core.Path.{_≡_, refl, sym, subst}
 use mathlib.Core.Logic.{_⊎_, inl, inr}
 use mathlib.Core.Bool.{Bool, true, false}
-use mathlib.Core.Option.{Option, none, some, Option·some-injective}
+use mathlib.Core.Option.{some, Option·some-injective}
 use mathlib.Core.List.{List, [], _∷_, _++_, List·Memᴰ, List·Memᴰ·head, List·Memᴰ·tail, List·Memᴰ·cases-cons, List·Memᴰ·not-nil}
 use native.Mathlib.Omega.{arith}
-use lib.ListN.{length, length-append}
-use Rattle.frames.specs.Limits.{atomsMost, itemsMost, lookupsMost}
+use lib.ListN.{length}
+use Rattle.frames.specs.Limits.{itemsMost}
 use Rattle.frames.specs.declared.fields.Counts.{Counts}
 use Rattle.model.specs.Lists.{one}
 use Rattle.model.specs.Tabulate.{tabulate-mem}
-use Rattle.model.specs.Atoms.{Operand, local, global, Form, Atom, Plain, Lit, LitBind, Eq, EqGlobal, Pred, Variadic, Lookup, ByOp, ByChildPos, ByRepr, ByContains, Step, Join, ExtractChild, CheckChildEq, CheckEq, CheckEqGlobal, BindGlobal, CopyBinding, Expand, ExtractLitVal, CheckLit, CheckPred}
+use Rattle.model.specs.Atoms.{Operand, local, global, Atom, Plain, Lit, LitBind, Eq, EqGlobal, Pred, Variadic, Lookup, ByOp, ByChildPos, ByContains, Step, Join}
 use Rattle.model.specs.Bound.{Bound, has, add}
 use Rattle.model.specs.Lowering.{pvIsBound, pvMarkBound, readChild, emitReadChildren, childLookups, containsLookups, joinLookups, Emitted, lowerEq, lowerEqGlobal, lower, Lowered, done, more}
 use Rattle.model.specs.Scheduling.{State, Chosen, Fair, atomOf, numbers, schedule}
-use Rattle.model.specs.Scheduled.{Ordered, ordered, number-mem, reached}
+use Rattle.model.specs.Scheduled.{ordered, number-mem, reached}
 use Rattle.plans.specs.StepFrames.{Each, Byte, OperandFits, OperandsFit, LookupFits, FormFits, StepFits}
 
 -- an atom within the limits and the counts n, as the frame of an accepted query is
@@ -28,6 +28,28 @@ AtomFits n (Eq a b) = (a < n .variables) × (b < n .variables)
 AtomFits n (EqGlobal a g) = (a < n .variables) × (g < n .globals)
 AtomFits n (Pred g ds) = Byte g × (length ds ≤ itemsMost) × Each (λ d. d < n .atoms) ds
 AtomFits n (Variadic v o cs f) = (v < n .variables) × Byte o × OperandsFit n cs × FormFits cs f
+
+-- counts with room for more atoms: a plan's are 64
+abbrev pub withAtoms : Counts → ℕ → Counts
+withAtoms n m = record { variables = n .variables; globals = n .globals; literals = n .literals; atoms = m }
+
+operands-more : (n : Counts) (m : ℕ) (cs : List Operand) → Each (OperandFits n) cs → Each (OperandFits (withAtoms n m)) cs
+operands-more n m [] h = tt
+operands-more n m (local v ∷ cs) h = (h .0, operands-more n m cs (h .1))
+operands-more n m (global g ∷ cs) h = (h .0, operands-more n m cs (h .1))
+
+pub atom-more : (n : Counts) (m : ℕ) → n .atoms ≤ m → (a : Atom) → AtomFits n a → AtomFits (withAtoms n m) a
+atom-more n m k (Plain v o cs) h = (h .0, h .1, (h .2 .0, operands-more n m cs (h .2 .1)))
+atom-more n m k (Lit v o x) h = h
+atom-more n m k (LitBind v o l) h = h
+atom-more n m k (Eq a b) h = h
+atom-more n m k (EqGlobal a g) h = h
+atom-more n m k (Pred g ds) h = (h .0, h .1, atoms-more ds (h .2))
+  where
+    atoms-more : (ds : List ℕ) → Each (λ d. d < n .atoms) ds → Each (λ d. d < m) ds
+    atoms-more [] h = tt
+    atoms-more (d ∷ ds) h = let q = h .0 in (omega arith, atoms-more ds (h .1))
+atom-more n m k (Variadic v o cs f) h = (h .0, h .1, (h .2 .0, operands-more n m cs (h .2 .1)), h .3)
 
 pub each-append : {X : Type 0} (P : X → Type 0) (l m : List X) → Each P l → Each P m → Each P (l ++ m)
 each-append P [] m h k = k

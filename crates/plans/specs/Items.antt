@@ -1,13 +1,12 @@
 -- A frame's items, one after another behind its fields: read back, tested and counted one by one. Proved by induction over the items.
-use Prim.Native.Nat.{ℕ, suc, _+_, _*_}
+use Prim.Native.Nat.{ℕ, _+_, _*_}
 use mathlib.Core.Path.{_≡_, refl, sym, _∙_, ap}
-use mathlib.Core.Bool.{Bool, true, false}
+use mathlib.Core.Bool.{Bool, true}
 use mathlib.Core.List.{List, [], _∷_, _++_, flatMap, append-assoc}
 use native.Mathlib.Omega.{arith}
 use native.Mathlib.Nat.{add-zero}
 use lib.ListN.{length, getD, replicate, length-append}
 use lib.Seq.{getD-append-add}
-use Rattle.base.specs.Choose.{pick}
 use Rattle.frames.specs.Fields.{width}
 use Rattle.frames.specs.Frames.{passAll}
 use Rattle.frames.specs.declared.fields.Field.{Field}

@@ -1,22 +1,22 @@
 -- How long a plan can be: 17 steps and 321 bytes for each atom, so 1,088 steps and 20,565 bytes for the most atoms. Proved by cases on the
 -- atom and by induction over what the scheduler reaches, for a measure of steps that adds up.
 use Prim.Native.Nat.{ℕ, suc, _+_, _*_, _<_, _≤_}
-use mathlib.Core.Path.{_≡_, refl, sym, _∙_, ap, subst}
+use mathlib.Core.Path.{_≡_, refl, ap, subst}
 use mathlib.Core.Bool.{Bool, true, false}
-use mathlib.Core.Option.{Option, none, some, Option·some-injective}
-use mathlib.Core.List.{List, [], _∷_, _++_, map, flatMap, List·Memᴰ}
+use mathlib.Core.Option.{some, Option·some-injective}
+use mathlib.Core.List.{List, [], _∷_, _++_, map, List·Memᴰ}
 use native.Mathlib.Omega.{arith}
 use native.Mathlib.Nat.{mul-le-mul-left, mul-suc}
 use lib.ListN.{length, drop}
 use Rattle.base.specs.Choose.{pick}
-use Rattle.frames.specs.Limits.{variablesMost, globalsMost, literalsMost, atomsMost, itemsMost}
+use Rattle.frames.specs.Limits.{variablesMost, globalsMost, literalsMost, atomsMost}
 use Rattle.frames.specs.First.{framesOf}
 use Rattle.frames.specs.declared.fields.Counts.{Counts}
 use Rattle.frames.specs.declared.first.Text.the-variants.{Plan}
 use Rattle.frames.specs.declared.first.Reading.the-variants.{Accepted}
 use Rattle.reading.specs.Second.{reading}
 use Rattle.model.specs.Tabulate.{tabulate-length}
-use Rattle.model.specs.Atoms.{Operand, local, global, Form, A, AC, ACI, Atom, Plain, Lit, LitBind, Eq, EqGlobal, Pred, Variadic, Lookup, ByOp, ByRepr, Step, Join, ExtractChild, CheckChildEq, CheckEq, CheckEqGlobal, BindGlobal, CopyBinding, Expand, ExtractLitVal, CheckLit, CheckPred}
+use Rattle.model.specs.Atoms.{Operand, local, global, Form, A, AC, ACI, Atom, Plain, Lit, LitBind, Eq, EqGlobal, Pred, Variadic, Lookup, Step, Join, Expand}
 use Rattle.model.specs.Bound.{Bound, has, add}
 use Rattle.model.specs.Lowering.{pvIsBound, pvMarkBound, readChild, emitReadChildren, childLookups, containsLookups, joinLookups, Emitted, lowerEq, lowerEqGlobal, lower}
 use Rattle.model.specs.Scheduling.{State, Chosen, Fair, unlowered, atomOf, numbers, schedule}

@@ -1,33 +1,29 @@
 -- The text of a plan whose steps fit is accepted by the reading of plans, and its frames give the steps back: `plan-accepted`, `plan-steps`.
 -- Proved by induction over the steps, each passing both readings.
-use Prim.Native.Nat.{ℕ, zero, suc, _+_, _*_, _/_, _%_, _<_, _≤_}
-use mathlib.Core.Path.{_≡_, refl, sym, _∙_, ap, subst}
-use mathlib.Core.Bool.{Bool, true, false}
+use Prim.Native.Nat.{ℕ, suc, _+_, _/_, _%_, _<_, _≤_}
+use mathlib.Core.Path.{_≡_, refl, _∙_}
+use mathlib.Core.Bool.{true, false}
 use mathlib.Core.List.{List, [], _∷_, _++_, map}
 use native.Mathlib.Omega.{arith}
 use native.Mathlib.Nat.{add-zero}
-use lib.ListN.{length, getD, drop, length-map}
-use lib.Dec.{eqb, leb, ltb}
+use lib.ListN.{length, drop, length-map}
 use lib.Pow.{areBytes}
 use borrow.Author.Tests.{lt-ltb, le-ltb, le-leb, eq-eqb, ne-eqb}
-use Rattle.base.specs.Choose.{pick}
-use Rattle.hex.specs.Digits.{bytesOf, digitsOf, shortAt}
-use Rattle.hex.specs.Lines.{split}
+use Rattle.hex.specs.Digits.{bytesOf, digitsOf}
 use Rattle.frames.specs.Limits.{textMost, variablesMost, globalsMost, literalsMost, atomsMost}
 use Rattle.frames.specs.Fields.{fieldPasses, fieldFits, fieldIn, fieldReal}
 use Rattle.frames.specs.Kinds.{kinds, kindAt}
-use Rattle.frames.specs.Frames.{frameLength, passAll, framePasses}
+use Rattle.frames.specs.Frames.{frameLength, passAll}
 use Rattle.frames.specs.First.{framesOf, noCounts, frameFault, lineFault, firstLines, firstFrom, firstLine, stepsSay, stepsRight, firstReading}
 use Rattle.frames.specs.declared.fields.Counts.{Counts}
-use Rattle.frames.specs.declared.fields.Test.the-variants.{Limits, Range, Reals}
 use Rattle.frames.specs.declared.first.Text.the-variants.{Plan}
 use Rattle.frames.specs.declared.first.Reading.{Reading}
-use Rattle.frames.specs.declared.first.Reading.the-variants.{Accepted, Refused}
+use Rattle.frames.specs.declared.first.Reading.the-variants.{Accepted}
 use Rattle.reading.specs.Keys.{keyGiven}
-use Rattle.reading.specs.Second.{headerCounts, countsOf, secondFault, secondFrom, reading}
+use Rattle.reading.specs.Second.{countsOf, secondFault, secondFrom, reading}
 use Rattle.model.specs.Atoms.{Step}
 use Rattle.plans.specs.StepFrames.{frameOf, headerOf, stepOf, Each, CountsFit, StepFits}
-use Rattle.plans.specs.PlanText.{textOf, textLength, planFrames, planText}
+use Rattle.plans.specs.PlanText.{textLength, planFrames, planText}
 use Rattle.plans.specs.StepsRead.{read-back}
 use Rattle.plans.specs.StepsPass.{step-belongs, step-length, step-limits, step-range, step-reals, step-keyless, step-bytes}
 use Rattle.plans.specs.Texts.{digits-hex, text-split, line-read, text-frames, text-first, text-length, text-least}

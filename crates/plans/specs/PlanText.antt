@@ -1,5 +1,5 @@
 -- The text of a plan: "Lines of hexadecimal, one frame a line, each ended by byte 0a. .. lower case written."
-use Prim.Native.Nat.{ℕ, suc, _+_, _*_}
+use Prim.Native.Nat.{ℕ, _+_, _*_}
 use mathlib.Core.List.{List, [], _∷_, _++_, map}
 use lib.ListN.{length}
 use Rattle.hex.specs.Digits.{digitsOf}

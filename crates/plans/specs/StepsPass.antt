@@ -1,31 +1,28 @@
 -- The frame of a step that fits belongs to the plan, has its kind's length and passes the limits and the range. Proved by cases on the step.
-use Prim.Native.Nat.{ℕ, _+_, _*_, _/_, _%_, _<_, _≤_}
-use mathlib.Core.Path.{_≡_, refl, sym, _∙_, ap}
-use mathlib.Core.Bool.{Bool, true, false, _&&_}
+use Prim.Native.Nat.{ℕ, _/_, _%_, _<_, _≤_}
+use mathlib.Core.Path.{_≡_, refl}
+use mathlib.Core.Bool.{true, false}
 use mathlib.Core.Option.{Option, none, some}
-use mathlib.Core.List.{List, [], _∷_, _++_, map, flatMap}
+use mathlib.Core.List.{List, [], _∷_, _++_, flatMap}
 use native.Mathlib.Omega.{arith}
 use lib.ListN.{length, getD}
 use lib.Seq.{getD-append-add}
-use lib.Dec.{eqb, leb, ltb}
+use lib.Dec.{leb, ltb}
 use lib.Pow.{areBytes}
-use borrow.Author.Tests.{lt-ltb, le-leb, eq-eqb}
-use Rattle.base.specs.Choose.{pick}
+use borrow.Author.Tests.{lt-ltb, le-leb}
 use Rattle.frames.specs.Limits.{itemsMost, lookupsMost}
-use Rattle.frames.specs.Fields.{width, fieldFits, fieldIn, fieldReal, fieldPasses, operandIn, lookupFits, lookupIn, endsFit, restFits}
+use Rattle.frames.specs.Fields.{fieldFits, fieldIn, fieldReal, fieldPasses, operandIn, lookupFits, lookupIn, endsFit, restFits}
 use Rattle.frames.specs.Kinds.{kinds, kindAt}
 use Rattle.frames.specs.Frames.{frameLength, passAll, framePasses}
-use Rattle.frames.specs.First.{belongs, noCounts}
-use Rattle.frames.specs.declared.fields.Field.{Field}
+use Rattle.frames.specs.First.{belongs}
 use Rattle.frames.specs.declared.fields.Field.the-variants.{Operand as OperandField, Element as ElementField, Lookup as LookupField}
 use Rattle.frames.specs.declared.fields.Counts.{Counts}
-use Rattle.frames.specs.declared.fields.Test.{Test}
 use Rattle.frames.specs.declared.fields.Test.the-variants.{Limits, Range, Reals}
 use Rattle.frames.specs.declared.first.Text.the-variants.{Plan}
 use Rattle.reading.specs.Keys.{keyGiven}
 use Rattle.model.specs.Bools.{both, first, second}
-use Rattle.model.specs.Atoms.{Operand, local, global, Form, A, AC, ACI, Lookup, ByOp, ByChildPos, ByRepr, ByContains, Step, Join, ExtractChild, CheckChildEq, CheckEq, CheckEqGlobal, BindGlobal, CopyBinding, Expand, ExtractLitVal, CheckLit, CheckPred}
-use Rattle.plans.specs.StepFrames.{tagOf, indexOf, operandBytes, lookupBytes, Element, elementsOf, elementBytes, flagOf, orZero, endsFlags, wordBytes, frameOf, Each, Byte, CountsFit, OperandFits, LookupFits, HandleFits, FormFits, StepFits}
+use Rattle.model.specs.Atoms.{Operand, local, global, A, AC, ACI, Lookup, ByOp, ByChildPos, ByRepr, ByContains, Step, Join, ExtractChild, CheckChildEq, CheckEq, CheckEqGlobal, BindGlobal, CopyBinding, Expand, ExtractLitVal, CheckLit, CheckPred}
+use Rattle.plans.specs.StepFrames.{tagOf, indexOf, operandBytes, lookupBytes, Element, elementsOf, elementBytes, flagOf, orZero, endsFlags, frameOf, Each, Byte, CountsFit, OperandFits, LookupFits, HandleFits, StepFits}
 use Rattle.plans.specs.Items.{items-length, items-pass, behind}
 use Rattle.plans.specs.StepsRead.{lookup-wide}
 

@@ -1,15 +1,16 @@
 -- A step that is written is read back: `read-back`. Proved by cases on the step, by the laws of items.
-use Prim.Native.Nat.{ℕ, _+_, _*_, _/_, _%_, _<_}
-use mathlib.Core.Path.{_≡_, refl, sym, _∙_, ap}
+use Prim.Native.Nat.{ℕ, _+_, _%_}
+use mathlib.Core.Path.{_≡_, refl, _∙_, ap}
 use mathlib.Core.Option.{Option, none, some}
 use mathlib.Core.List.{List, [], _∷_, _++_, map, flatMap}
 use native.Mathlib.Omega.{arith}
-use lib.ListN.{length, getD}
+use lib.ListN.{length}
 use lib.Seq.{getD-append-add}
 use lib.Dec.{eqb, leb}
+use Rattle.hex.specs.Digits.{wordAt}
 use Rattle.frames.specs.declared.fields.Counts.{Counts}
-use Rattle.model.specs.Atoms.{Operand, local, global, Form, A, AC, ACI, Lookup, ByOp, ByChildPos, ByRepr, ByContains, Step, Join, ExtractChild, CheckChildEq, CheckEq, CheckEqGlobal, BindGlobal, CopyBinding, Expand, ExtractLitVal, CheckLit, CheckPred}
-use Rattle.plans.specs.StepFrames.{tagOf, indexOf, operandBytes, lookupBytes, Element, elementsOf, elementBytes, flagOf, orZero, endsFlags, wordBytes, frameOf, operandAt, lookupAt, elementAt, someIf, itemsAt, restAt, decomposeAC, stepOf, StepFits}
+use Rattle.model.specs.Atoms.{Operand, local, global, A, AC, ACI, Lookup, ByOp, ByChildPos, ByRepr, ByContains, Step, Join, ExtractChild, CheckChildEq, CheckEq, CheckEqGlobal, BindGlobal, CopyBinding, Expand, ExtractLitVal, CheckLit, CheckPred}
+use Rattle.plans.specs.StepFrames.{operandBytes, lookupBytes, Element, elementsOf, elementBytes, flagOf, orZero, endsFlags, wordBytes, frameOf, operandAt, lookupAt, elementAt, someIf, itemsAt, stepOf, StepFits}
 use Rattle.plans.specs.Items.{items-read, behind}
 
 -- what begins behind p
@@ -95,8 +96,8 @@ suf-read (some x) none = refl
 suf-read (some x) (some y) = refl
 
 -- a value from its four bytes
-word-read : (x : ℕ) → (x / 0x100_0000 * 0x100 + x / 0x1_0000 % 0x100) * 0x1_0000 + (x / 0x100 % 0x100 * 0x100 + x % 0x100) ≡ x
-word-read x = omega arith
+word-read : (k v x : ℕ) → wordAt (k ∷ v ∷ wordBytes x) 2 ≡ x
+word-read k v x = omega arith
 
 pub read-back : (n : Counts) (s : Step) → StepFits n s → stepOf (frameOf s) ≡ s
 unfolding frameOf stepOf
@@ -113,5 +114,5 @@ read-back n (Expand v cs (AC ms r)) h =
     rw (elements-read (elementsOf cs ms) (0x48 ∷ v ∷ flagOf r ∷ orZero r ∷ length (elementsOf cs ms) ∷ []), operands-of cs ms, multiplicities-of cs ms (h .2 .0), rest-read r)
 read-back n (Expand v cs (ACI r)) h = rw (operands-read cs (0x49 ∷ v ∷ flagOf r ∷ orZero r ∷ length cs ∷ []), rest-read r)
 read-back n (ExtractLitVal v l) h = refl
-read-back n (CheckLit v x) h = rw (word-read x)
+read-back n (CheckLit v x) h = rw (word-read 0x4b v x)
 read-back n (CheckPred g) h = refl

@@ -1,17 +1,17 @@
 -- The text of frames has their lines, is read back to them, and is as long as their digits and line ends. Proved by induction over the frames.
-use Prim.Native.Nat.{ℕ, zero, suc, _+_, _*_, _/_, _%_, _<_, _≤_}
+use Prim.Native.Nat.{ℕ, _+_, _*_, _/_, _%_, _<_, _≤_}
 use mathlib.Core.Path.{_≡_, refl, sym, _∙_, ap, subst}
-use mathlib.Core.Bool.{Bool, true, false}
+use mathlib.Core.Bool.{true, false}
 use mathlib.Core.List.{List, [], _∷_, _++_, map}
 use native.Mathlib.Omega.{arith}
 use native.Mathlib.Nat.{zero-add}
-use lib.ListN.{length, getD, take, length-append, List·getD-map, getD-replicate}
+use lib.ListN.{length, take, length-append, List·getD-map, getD-replicate}
 use lib.Seq.{take-append-seam}
 use lib.Dec.{T, eqb, ltb}
 use lib.Pow.{areBytes}
 use borrow.Author.Tests.{ltb-true, ne-eqb, eq-eqb}
 use Rattle.hex.specs.Digits.{digitValue, bytesOf, hexDigits, hexDigit, digitsOf}
-use Rattle.hex.specs.Lines.{split, withLine, withByte, allDigits, isHex, endOf}
+use Rattle.hex.specs.Lines.{split, withLine, allDigits, isHex, endOf}
 use Rattle.hex.specs.Bytes.{bytes-read}
 use Rattle.hex.specs.Cuts.{end-is}
 use Rattle.frames.specs.First.{framesOf, firstLine}
