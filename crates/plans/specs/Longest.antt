@@ -19,7 +19,7 @@ use Rattle.model.specs.Tabulate.{tabulate-length}
 use Rattle.model.specs.Atoms.{Operand, local, global, Form, A, AC, ACI, Atom, Plain, Lit, LitBind, Eq, EqGlobal, Pred, Variadic, Lookup, Step, Join, Expand}
 use Rattle.model.specs.Bound.{Bound, has, add}
 use Rattle.model.specs.Lowering.{pvIsBound, pvMarkBound, readChild, emitReadChildren, childLookups, containsLookups, joinLookups, Emitted, lowerEq, lowerEqGlobal, lower}
-use Rattle.model.specs.Scheduling.{State, Chosen, Fair, unlowered, atomOf, numbers, schedule}
+use Rattle.model.specs.Scheduling.{State, unplanned, Chosen, Fair, unlowered, atomOf, numbers, schedule}
 use Rattle.model.specs.Scheduled.{Reached, fresh, takes, unlowered-lt, number-mem, reached}
 use Rattle.plans.specs.StepFrames.{operandBytes, lookupBytes, elementsOf, elementBytes, frameOf, stepOf, Each}
 use Rattle.plans.specs.PlanText.{textLength, planText}
@@ -68,7 +68,7 @@ unlowered-most U (i ∷ js) = at (has U i) (unlowered-most U js)
     at false h = omega arith
 
 module _ (size : Step → ℕ) (c : ℕ) (atomAt : ℕ → Atom) (js : List ℕ) (most : (i : ℕ) → List·Memᴰ i js → (B : Bound) (l : Emitted) → lower B i (atomAt i) ≡ some l → total size (l .steps) ≤ c) where
-  reached-total : (st : State) → Reached atomAt js st → total size (st .steps) + c * unlowered (st .used) js ≤ c * unlowered [] js
+  reached-total : (st : State) → Reached atomAt js st → total size (st .steps) + c * unlowered (st .used) js ≤ c * unlowered (unplanned .used) js
   unfolding total
   reached-total st fresh = omega arith
   reached-total st (takes {st = s} i l r m u d e) =
@@ -163,7 +163,7 @@ module _ (n : Counts) (qs : List Atom) {X : Type 0} (choose : X → State → Ch
   schedule-total : (size : Step → ℕ) (c : ℕ) → ((B : Bound) (k : ℕ) (a : Atom) (l : Emitted) → AtomFits n a → lower B k a ≡ some l → total size (l .steps) ≤ c) → total size (schedule qs choose x .steps) ≤ c * length qs
   schedule-total size c most =
       let h = reached-total size c (atomOf qs) (numbers qs) (λ i m B l. most B i (atomOf qs i) l (each-mem (AtomFits n) qs fit (atomOf qs i) (number-mem qs i m))) (schedule qs choose x) (reached qs choose x fair) in
-      let k = mul-le-mul-left c (unlowered-most [] (numbers qs)) in
+      let k = mul-le-mul-left c (unlowered-most (unplanned .used) (numbers qs)) in
       omega (arith, ap (λ (m : ℕ). c * m) (tabulate-length (length qs) (λ i. i)))
 
   pub schedule-steps : length (schedule qs choose x .steps) ≤ 17 * length qs
