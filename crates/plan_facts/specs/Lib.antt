@@ -1,0 +1,2 @@
+pub mod AtomFrames
+pub mod QueryPlans

@@ -1,0 +1,118 @@
+-- A step that is written is read back: `read-back`. Proved by cases on the step, by the laws of items.
+use Prim.Native.Nat.{ℕ, _+_, _%_}
+use mathlib.Core.Path.{_≡_, refl, _∙_, ap}
+use mathlib.Core.Option.{Option, none, some}
+use mathlib.Core.List.{List, [], _∷_, _++_, map, flatMap}
+use native.Mathlib.Omega.{arith}
+use lib.ListN.{length}
+use lib.Seq.{getD-append-add}
+use lib.Dec.{eqb, leb}
+use Rattle.hex.specs.Digits.{wordAt}
+use Rattle.frames.specs.declared.fields.Counts.{Counts}
+use Rattle.model.specs.Atoms.{Operand, local, global, A, AC, ACI, Lookup, ByOp, ByChildPos, ByRepr, ByContains, Step, Join, ExtractChild, CheckChildEq, CheckEq, CheckEqGlobal, BindGlobal, CopyBinding, Expand, ExtractLitVal, CheckLit, CheckPred}
+use Rattle.plans.specs.StepFrames.{operandBytes, lookupBytes, Element, elementsOf, elementBytes, flagOf, orZero, endsFlags, wordBytes, frameOf, operandAt, lookupAt, elementAt, someIf, itemsAt, stepOf, StepFits}
+use Rattle.plans.specs.Items.{items-read, behind}
+
+-- what begins behind p
+operand-behind : (p r : List ℕ) → operandAt (p ++ r) (length p) ≡ operandAt r 0
+operand-behind p r = rw (behind p r, getD-append-add p r 1 0)
+
+lookup-behind : (p r : List ℕ) → lookupAt (p ++ r) (length p) ≡ lookupAt r 0
+lookup-behind p r =
+    let e : length p + 1 + 1 ≡ length p + 2 = omega arith in
+    rw (e, behind p r, getD-append-add p r 1 0, getD-append-add p r 2 0, getD-append-add p r 3 0)
+
+element-behind : (p r : List ℕ) → elementAt (p ++ r) (length p) ≡ elementAt r 0
+element-behind p r = rw (behind p r, getD-append-add p r 1 0, getD-append-add p r 2 0)
+
+operand-at : (c : Operand) (p q : List ℕ) → operandAt (p ++ (operandBytes c ++ q)) (length p) ≡ c
+operand-at c p q = operand-behind p (operandBytes c ++ q) ∙ go c
+  where
+    go : (c : Operand) → operandAt (operandBytes c ++ q) 0 ≡ c
+    go (local v) = refl
+    go (global g) = refl
+
+lookup-at : (l : Lookup) (p q : List ℕ) → lookupAt (p ++ (lookupBytes l ++ q)) (length p) ≡ l
+lookup-at l p q = lookup-behind p (lookupBytes l ++ q) ∙ go l
+  where
+    go : (l : Lookup) → lookupAt (lookupBytes l ++ q) 0 ≡ l
+    go (ByOp o) = refl
+    go (ByChildPos (local v) i) = refl
+    go (ByChildPos (global g) i) = refl
+    go (ByRepr n) = refl
+    go (ByContains (local v)) = refl
+    go (ByContains (global g)) = refl
+
+element-at : (e : Element) (p q : List ℕ) → elementAt (p ++ (elementBytes e ++ q)) (length p) ≡ e
+element-at e p q = element-behind p (elementBytes e ++ q) ∙ go (e .operand)
+  where
+    go : (c : Operand) → elementAt (elementBytes (record { operand = c; multiplicity = e .multiplicity }) ++ q) 0 ≡ record { operand = c; multiplicity = e .multiplicity }
+    go (local v) = refl
+    go (global g) = refl
+
+-- as many items as n says, behind the fields p
+operands-read : (cs : List Operand) (p : List ℕ) → itemsAt operandAt 2 (p ++ flatMap operandBytes cs) (length p) (length cs) ≡ cs
+operands-read = items-read operandBytes 2 (λ c. refl) operandAt operand-at
+
+pub lookup-wide : (l : Lookup) → length (lookupBytes l) ≡ 4
+lookup-wide (ByOp o) = refl
+lookup-wide (ByChildPos c i) = refl
+lookup-wide (ByRepr n) = refl
+lookup-wide (ByContains c) = refl
+
+lookups-read : (ls : List Lookup) (p : List ℕ) → itemsAt lookupAt 4 (p ++ flatMap lookupBytes ls) (length p) (length ls) ≡ ls
+lookups-read = items-read lookupBytes 4 lookup-wide lookupAt lookup-at
+
+elements-read : (es : List Element) (p : List ℕ) → itemsAt elementAt 3 (p ++ flatMap elementBytes es) (length p) (length es) ≡ es
+elements-read = items-read elementBytes 3 (λ e. refl) elementAt element-at
+
+-- operands and multiplicities from their elements
+operands-of : (cs : List Operand) (ms : List ℕ) → map (λ e. e .operand) (elementsOf cs ms) ≡ cs
+operands-of [] ms = refl
+operands-of (c ∷ cs) [] = ap {B = List Operand} (λ l. c ∷ l) (operands-of cs [])
+operands-of (c ∷ cs) (m ∷ ms) = ap {B = List Operand} (λ l. c ∷ l) (operands-of cs ms)
+
+multiplicities-of : (cs : List Operand) (ms : List ℕ) → length ms ≡ length cs → map (λ e. e .multiplicity) (elementsOf cs ms) ≡ ms
+multiplicities-of [] [] h = refl
+multiplicities-of [] (m ∷ ms) h = absurd (omega arith)
+multiplicities-of (c ∷ cs) [] h = absurd (omega arith)
+multiplicities-of (c ∷ cs) (m ∷ ms) h = ap {B = List ℕ} (λ l. m ∷ l) (multiplicities-of cs ms (omega arith))
+
+-- flags
+rest-read : (r : Option ℕ) → someIf (eqb (flagOf r) 1) (orZero r) ≡ r
+rest-read none = refl
+rest-read (some x) = refl
+
+pre-read : (p s : Option ℕ) → someIf (eqb (endsFlags p s % 2) 1) (orZero p) ≡ p
+pre-read none none = refl
+pre-read none (some y) = refl
+pre-read (some x) none = refl
+pre-read (some x) (some y) = refl
+
+suf-read : (p s : Option ℕ) → someIf (leb 2 (endsFlags p s)) (orZero s) ≡ s
+suf-read none none = refl
+suf-read none (some y) = refl
+suf-read (some x) none = refl
+suf-read (some x) (some y) = refl
+
+-- a value from its four bytes
+word-read : (k v x : ℕ) → wordAt (k ∷ v ∷ wordBytes x) 2 ≡ x
+word-read k v x = omega arith
+
+pub read-back : (n : Counts) (s : Step) → StepFits n s → stepOf (frameOf s) ≡ s
+unfolding frameOf stepOf
+read-back n (Join t k ls) h = rw (lookups-read ls (0x40 ∷ t ∷ k ∷ length ls ∷ []))
+read-back n (ExtractChild t p i) h = refl
+read-back n (CheckChildEq p i (local v)) h = refl
+read-back n (CheckChildEq p i (global g)) h = refl
+read-back n (CheckEq a b) h = refl
+read-back n (CheckEqGlobal a g) h = refl
+read-back n (BindGlobal t g) h = refl
+read-back n (CopyBinding t o) h = refl
+read-back n (Expand v cs (A p s)) h = rw (operands-read cs (0x47 ∷ v ∷ endsFlags p s ∷ orZero p ∷ orZero s ∷ length cs ∷ []), pre-read p s, suf-read p s)
+read-back n (Expand v cs (AC ms r)) h =
+    rw (elements-read (elementsOf cs ms) (0x48 ∷ v ∷ flagOf r ∷ orZero r ∷ length (elementsOf cs ms) ∷ []), operands-of cs ms, multiplicities-of cs ms (h .2 .0), rest-read r)
+read-back n (Expand v cs (ACI r)) h = rw (operands-read cs (0x49 ∷ v ∷ flagOf r ∷ orZero r ∷ length cs ∷ []), rest-read r)
+read-back n (ExtractLitVal v l) h = refl
+read-back n (CheckLit v x) h = rw (word-read 0x4b v x)
+read-back n (CheckPred g) h = refl

@@ -1,0 +1,1 @@
+// The plan as text: definitions and theorems alone; they stand in specs/.
