@@ -24,6 +24,8 @@ struct Making {
     atoms: usize,
     items: usize,
     percent_global: usize,
+    /// Each atom has a node of its own where there are enough, so that Joins go by children and elements.
+    own_nodes: bool,
 }
 
 pub fn loose(r: &mut Random, size: usize) -> Query {
@@ -44,15 +46,18 @@ pub fn loose(r: &mut Random, size: usize) -> Query {
         atoms: size,
         items: r.pick(&[1, 2, 3, 3, 4, 16]),
         percent_global: r.pick(&[0, 5, 20, 60]),
+        own_nodes: r.chance(45),
     };
     query(r, &making, variables)
 }
 
-/// Every atom as long as can be.
+/// Every atom as long as can be; with globals alone and nodes of their own, the plan too.
 pub fn largest(r: &mut Random) -> Query {
-    let kinds = r.pick(&[&[1][..], &[11, 12], &[1, 7, 8, 9, 10, 11, 12, 13, 14]]);
+    let kinds = r.pick(&[&[1][..], &[1], &[11, 12], &[1, 7, 8, 9, 10, 11, 12, 13, 14]]);
     let ops = r.between(1, 8);
     let ops = (0..ops).map(|_| r.byte()).collect();
+    let percent_global = r.pick(&[0, 10, 100]);
+    let own_nodes = r.chance(70);
     let making = Making {
         kinds,
         ops,
@@ -61,17 +66,18 @@ pub fn largest(r: &mut Random) -> Query {
         literals: 16,
         atoms: 64,
         items: 16,
-        percent_global: 10,
+        percent_global,
+        own_nodes,
     };
     let mut query = query(r, &making, 64);
-    query.atoms.iter_mut().for_each(|atom| lengthen(r, atom));
+    query.atoms.iter_mut().for_each(|atom| lengthen(r, &making, atom));
     query
 }
 
 fn query(r: &mut Random, making: &Making, variables: usize) -> Query {
     let mut atoms: Vec<Atom> = Vec::new();
     for number in 0..making.atoms {
-        let again = number > 0 && r.chance(7);
+        let again = number > 0 && making.percent_global < 100 && r.chance(7);
         let next = if again {
             atoms[r.below(number)].clone()
         } else {
@@ -88,7 +94,7 @@ fn query(r: &mut Random, making: &Making, variables: usize) -> Query {
     }
 }
 
-fn lengthen(r: &mut Random, atom: &mut Atom) {
+fn lengthen(r: &mut Random, making: &Making, atom: &mut Atom) {
     match atom {
         Atom::Plain { children: list, .. }
         | Atom::AExact { children: list, .. }
@@ -96,8 +102,8 @@ fn lengthen(r: &mut Random, atom: &mut Atom) {
         | Atom::ASuffix { fixed: list, .. }
         | Atom::ABoth { fixed: list, .. }
         | Atom::ACIExact { elems: list, .. }
-        | Atom::ACISub { elems: list, .. } => list.resize_with(16, || Operand::Local(r.below(64) as u8)),
-        Atom::ACExact { elems, .. } | Atom::ACSub { elems, .. } => elems.resize_with(16, || (Operand::Local(r.below(64) as u8), r.byte())),
+        | Atom::ACISub { elems: list, .. } => list.resize_with(16, || operand(r, making)),
+        Atom::ACExact { elems, .. } | Atom::ACSub { elems, .. } => elems.resize_with(16, || (operand(r, making), r.byte())),
         _ => {}
     }
 }
@@ -108,7 +114,12 @@ fn atom(r: &mut Random, making: &Making, number: usize) -> Atom {
     if kind == 6 || making.variables == 0 {
         return pred(r, making, number);
     }
-    let node = variable(r, making);
+    let own = making.own_nodes && number < making.variables && !matches!(kind, 4 | 5) && !r.chance(10);
+    let node = if own {
+        (making.variables - 1 - number) as u8
+    } else {
+        variable(r, making)
+    };
     let op = r.pick(&making.ops);
     match kind {
         3 if making.literals > 0 => Atom::LitBind {
@@ -189,14 +200,26 @@ fn operands(r: &mut Random, making: &Making, node: u8) -> Vec<Operand> {
     let mut list: Vec<Operand> = Vec::new();
     for place in 0..length(r, making) {
         let next = match r.below(100) {
-            0..5 => Operand::Local(node),
+            0..5 if making.percent_global < 100 => Operand::Local(node),
             5..13 if place > 0 => list[r.below(place)],
-            _ if making.globals > 0 && r.chance(making.percent_global) => Operand::Global(r.below(making.globals) as u8),
-            _ => Operand::Local(variable(r, making)),
+            _ => operand(r, making),
         };
         list.push(next);
     }
     list
+}
+
+/// With own nodes, the lower half of the variables is for operands.
+fn operand(r: &mut Random, making: &Making) -> Operand {
+    if making.globals > 0 && r.chance(making.percent_global) {
+        return Operand::Global(r.below(making.globals) as u8);
+    }
+    let part = if making.own_nodes && !r.chance(20) {
+        making.variables.div_ceil(2)
+    } else {
+        making.variables
+    };
+    Operand::Local(r.below(part) as u8)
 }
 
 fn multiples(r: &mut Random, making: &Making, node: u8) -> Vec<(Operand, u8)> {

@@ -77,8 +77,8 @@ fn settings(r: &mut Random) -> Settings {
     let resamples = r.below(257) as u16;
     let part = fraction(r);
     Settings {
-        k: r.pick(&[0, 1, 2, 3, 8, 32, 64, any]),
-        bootstrap: r.pick(&[0, 0, 1, 2, 3, 8, 32, 256, resamples]),
+        k: r.pick(&[0, 1, 2, 3, 8, 8, 16, 32, 32, 64, 64, any]),
+        bootstrap: r.pick(&[0, 0, 1, 2, 3, 8, 8, 32, 32, 256, resamples]),
         cv_threshold: r.pick(&[
             0.0,
             -0.0,
@@ -103,9 +103,9 @@ fn making(r: &mut Random, large: bool) -> Making {
     Making {
         nodes: (0..nodes).map(|_| if r.chance(5) { 0xffff } else { r.next() as u16 }).collect(),
         classes: (0..classes).map(|_| (r.next() as u16).min(0xfffe)).collect(),
-        most_nodes: r.pick(&[0, 1, 4, 8, 16, 64]),
+        most_nodes: r.pick(&[0, 1, 4, 8, 8, 16, 16, 64, 64]),
         most_classes: r.pick(&[1, 1, 2, 4, 32]),
-        percent: r.pick(&[0, 40, 80, 100, 100]),
+        percent: r.pick(&[0, 40, 80, 100, 100, 100, 100, 100]),
         lengths: r.pick(&[
             Lengths::Equal(0),
             Lengths::Equal(3),

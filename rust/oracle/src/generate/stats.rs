@@ -6,7 +6,7 @@ use std::collections::BTreeSet;
 
 /// Some of the statistics.
 pub fn add(r: &mut Random, query: &mut Query) {
-    let percent = r.pick(&[30, 70, 100]);
+    let percent = r.pick(&[30, 70, 100, 100]);
     let how = cardinalities(r);
     put(r, query, percent, how);
     if r.chance(10) {
