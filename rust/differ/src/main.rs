@@ -4,6 +4,8 @@ mod counts;
 mod never;
 #[cfg(feature = "ours")]
 mod ours;
+#[cfg(feature = "ours")]
+mod shrink;
 mod vectors;
 
 use counts::Counts;
@@ -66,7 +68,7 @@ fn query(seed: u64, counts: &mut Counts) -> Result<(), String> {
     }
     let run = Run::new(&made.query).map_err(told)?;
     #[cfg(feature = "ours")]
-    ours::compare(seed, &made.text, &run).map_err(told)?;
+    ours::compare(seed, &made.text, &run).map_err(|message| told(message) + &ours::smaller(seed, made.query.clone()))?;
     counts.add(&made.query, &made.text, &run);
     Ok(())
 }

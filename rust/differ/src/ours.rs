@@ -1,5 +1,6 @@
 //! The proved planner against a run of the Rust.
-use oracle::Run;
+use crate::shrink::shrink;
+use oracle::{Query, Run, to_text};
 use rimdovek_sys::{Planned, plan};
 
 /// Bytes past the plan must keep this value.
@@ -15,6 +16,14 @@ pub fn compare(seed: u64, text: &[u8], run: &Run) -> Result<(), String> {
         short(&mut [LENT; ROOM][..run.answer.text.len() - 1], text)?;
     }
     Ok(())
+}
+
+/// The difference that a smaller query shows.
+pub fn smaller(seed: u64, query: Query) -> String {
+    let difference = |query: &Query| Run::new(query).and_then(|run| compare(seed, to_text(query).as_bytes(), &run)).err();
+    let small = shrink(query, |query| difference(query).is_some());
+    let message = difference(&small).unwrap_or_else(|| "none in the canonical text".to_string());
+    format!("smaller: {message}\n{}", to_text(&small))
 }
 
 fn same(out: &mut [u8], text: &[u8], run: &Run) -> Result<(), String> {

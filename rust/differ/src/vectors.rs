@@ -7,13 +7,15 @@ use std::path::Path;
 /// Generated texts longer than this are left out, so that the files stay of moderate size.
 const LONGEST: usize = 1_600;
 
-/// The document's example, the empty query, a tie, an Eq that leaves a variable without emitter, self-reference, never-lowered atoms.
-const FIXED: [&str; 6] = [
+/// The document's example, the empty query, a tie, an Eq that leaves a variable without emitter and the same with the Eq after the Plain,
+/// self-reference, never-lowered atoms.
+const FIXED: [&str; 7] = [
     "00040000\n0100010200010002\n010202010003\n10010000000a\n100200000064\n",
     "00000000\n",
     "00020000\n01000100\n01010100\n10010000000a\n",
-    "00040000\n040001\n010201010000\n010301010001\n1001000003e8\n20400000 3ff0000000000000\n",
-    "00010000\n01000101 0000\n",
+    "00040100\n040001\n010201010000\n050200\n010301010001\n1001000003e8\n204000003ff0000000000000\n2101010005\n2200050100010007\n23000700000100000003\n",
+    "00040100\n010201010000\n040001\n050200\n010301010001\n1001000003e8\n204000003ff0000000000000\n2100010005\n2200050100010007\n23000700000100000003\n",
+    "00010000\n010001010000\n",
     "00030000\n040001\n06070100\n06080102\n060900\n",
 ];
 
