@@ -89,79 +89,59 @@ fn settings(f: &mut Fields) -> Option<Settings> {
 }
 
 fn atom(kind: u8, f: &mut Fields) -> Option<Atom> {
-    let a = f.byte()?;
     if kind == 6 {
-        return Some(Atom::Pred {
-            guard: a,
-            deps: f.list(Fields::byte)?,
-        });
+        let (guard, deps) = (f.byte()?, f.list(Fields::byte)?);
+        return Some(Atom::Pred { guard, deps });
     }
-    let (node, op) = (a, f.byte()?);
+    let [node, op] = f.bytes()?;
     Some(match kind {
-        1 => Atom::Plain {
-            node,
-            op,
-            children: f.operands()?,
-        },
-        2 => Atom::Lit {
-            node,
-            op,
-            sort: f.byte()?,
-            value: f.long()?,
-        },
-        3 => Atom::LitBind {
-            node,
-            op,
-            literal: f.byte()?,
-        },
+        2 => {
+            let (sort, value) = (f.byte()?, f.long()?);
+            Atom::Lit { node, op, sort, value }
+        }
+        3 => {
+            let literal = f.byte()?;
+            Atom::LitBind { node, op, literal }
+        }
         4 => Atom::Eq(node, op),
         5 => Atom::EqGlobal(node, op),
-        7 => Atom::AExact {
-            node,
-            op,
-            children: f.operands()?,
-        },
-        8 => Atom::APrefix {
-            node,
-            op,
-            pre: f.byte()?,
-            fixed: f.operands()?,
-        },
-        9 => Atom::ASuffix {
-            node,
-            op,
-            suf: f.byte()?,
-            fixed: f.operands()?,
-        },
-        10 => Atom::ABoth {
-            node,
-            op,
-            pre: f.byte()?,
-            suf: f.byte()?,
-            fixed: f.operands()?,
-        },
-        11 => Atom::ACExact {
-            node,
-            op,
-            elems: f.multiples()?,
-        },
-        12 => Atom::ACSub {
-            node,
-            op,
-            rest: f.byte()?,
-            elems: f.multiples()?,
-        },
-        13 => Atom::ACIExact {
-            node,
-            op,
-            elems: f.operands()?,
-        },
-        14 => Atom::ACISub {
-            node,
-            op,
-            rest: f.byte()?,
-            elems: f.operands()?,
-        },
-        _ => return None,
+        11 => {
+            let elems = f.multiples()?;
+            Atom::ACExact { node, op, elems }
+        }
+        12 => {
+            let (rest, elems) = (f.byte()?, f.multiples()?);
+            Atom::ACSub { node, op, rest, elems }
+        }
+        8 | 9 | 10 | 14 => handled(kind, node, op, f)?,
+        _ => exact(kind, node, op, f.operands()?)?,
     })
+}
+
+/// Kinds with a handle or two before the operands.
+fn handled(kind: u8, node: u8, op: u8, f: &mut Fields) -> Option<Atom> {
+    let pre = f.byte()?;
+    let suf = if kind == 10 { f.byte()? } else { pre };
+    let fixed = f.operands()?;
+    Some(match kind {
+        8 => Atom::APrefix { node, op, pre, fixed },
+        9 => Atom::ASuffix { node, op, suf, fixed },
+        10 => Atom::ABoth { node, op, pre, suf, fixed },
+        _ => {
+            let (rest, elems) = (pre, fixed);
+            Atom::ACISub { node, op, rest, elems }
+        }
+    })
+}
+
+fn exact(kind: u8, node: u8, op: u8, children: Vec<Operand>) -> Option<Atom> {
+    match kind {
+        1 => Some(Atom::Plain { node, op, children }),
+        7 => Some(Atom::AExact { node, op, children }),
+        13 => {
+            let elems = children;
+            Some(Atom::ACIExact { node, op, elems })
+        }
+        _ => None,
+    }
 }

@@ -168,75 +168,71 @@ fn guard(handle: u8) -> PredGuard<u8, u32> {
 }
 
 fn atom(atom: &Atom) -> RAtom<u8, u8, u32> {
-    let sequence = |handle: &u8| SeqVarId::new((*handle).into());
-    match atom {
-        Atom::Plain { node, op, children } => RAtom::Plain {
-            node: var(*node),
-            op: *op,
-            children: operands(children),
-        },
-        Atom::Lit { node, op, sort, value } => RAtom::Lit {
-            node: var(*node),
-            op: *op,
-            sort: *sort,
-            value: *value,
-        },
-        Atom::LitBind { node, op, literal } => RAtom::LitBind {
-            node: var(*node),
-            op: *op,
-            val: LitValVarId::new((*literal).into()),
-        },
-        Atom::Eq(a, b) => RAtom::Eq(var(*a), var(*b)),
-        Atom::EqGlobal(local, global) => RAtom::EqGlobal(var(*local), GlobalVarId::new((*global).into())),
-        Atom::Pred { guard: handle, deps } => RAtom::Pred {
-            guard: guard(*handle),
-            deps: deps.iter().map(|d| (*d).into()).collect(),
-        },
-        Atom::AExact { node, op, children } => RAtom::AExact {
-            node: var(*node),
-            op: *op,
-            children: operands(children),
-        },
-        Atom::APrefix { node, op, pre, fixed } => RAtom::APrefix {
-            node: var(*node),
-            op: *op,
-            pre: sequence(pre),
-            fixed: operands(fixed),
-        },
-        Atom::ASuffix { node, op, suf, fixed } => RAtom::ASuffix {
-            node: var(*node),
-            op: *op,
-            fixed: operands(fixed),
-            suf: sequence(suf),
-        },
-        Atom::ABoth { node, op, pre, suf, fixed } => RAtom::ABoth {
-            node: var(*node),
-            op: *op,
-            pre: sequence(pre),
-            fixed: operands(fixed),
-            suf: sequence(suf),
-        },
-        Atom::ACExact { node, op, elems } => RAtom::ACExact {
-            node: var(*node),
-            op: *op,
-            elems: multiples(elems),
-        },
-        Atom::ACSub { node, op, rest, elems } => RAtom::ACSub {
-            node: var(*node),
-            op: *op,
-            elems: multiples(elems),
-            rest: MsetVarId::new((*rest).into()),
-        },
-        Atom::ACIExact { node, op, elems } => RAtom::ACIExact {
-            node: var(*node),
-            op: *op,
-            elems: operands(elems),
-        },
-        Atom::ACISub { node, op, rest, elems } => RAtom::ACISub {
-            node: var(*node),
-            op: *op,
-            elems: operands(elems),
-            rest: SetVarId::new((*rest).into()),
-        },
+    match *atom {
+        Atom::Plain { node, op, ref children } => {
+            let (node, children) = (var(node), operands(children));
+            RAtom::Plain { node, op, children }
+        }
+        Atom::Lit { node, op, sort, value } => {
+            let node = var(node);
+            RAtom::Lit { node, op, sort, value }
+        }
+        Atom::LitBind { node, op, literal } => {
+            let (node, val) = (var(node), LitValVarId::new(literal.into()));
+            RAtom::LitBind { node, op, val }
+        }
+        Atom::Eq(a, b) => RAtom::Eq(var(a), var(b)),
+        Atom::EqGlobal(local, global) => RAtom::EqGlobal(var(local), GlobalVarId::new(global.into())),
+        Atom::Pred { guard: handle, ref deps } => {
+            let (guard, deps) = (guard(handle), deps.iter().map(|dep| (*dep).into()).collect());
+            RAtom::Pred { guard, deps }
+        }
+        Atom::ACExact { node, op, ref elems } => {
+            let (node, elems) = (var(node), multiples(elems));
+            RAtom::ACExact { node, op, elems }
+        }
+        Atom::ACSub { node, op, rest, ref elems } => {
+            let (node, elems, rest) = (var(node), multiples(elems), MsetVarId::new(rest.into()));
+            RAtom::ACSub { node, op, elems, rest }
+        }
+        _ => listed(atom),
+    }
+}
+
+/// The variadic kinds with plain operands.
+fn listed(atom: &Atom) -> RAtom<u8, u8, u32> {
+    let sequence = |handle: u8| SeqVarId::new(handle.into());
+    match *atom {
+        Atom::AExact { node, op, ref children } => {
+            let (node, children) = (var(node), operands(children));
+            RAtom::AExact { node, op, children }
+        }
+        Atom::APrefix { node, op, pre, ref fixed } => {
+            let (node, pre, fixed) = (var(node), sequence(pre), operands(fixed));
+            RAtom::APrefix { node, op, pre, fixed }
+        }
+        Atom::ASuffix { node, op, suf, ref fixed } => {
+            let (node, fixed, suf) = (var(node), operands(fixed), sequence(suf));
+            RAtom::ASuffix { node, op, fixed, suf }
+        }
+        Atom::ABoth {
+            node,
+            op,
+            pre,
+            suf,
+            ref fixed,
+        } => {
+            let (node, pre, fixed, suf) = (var(node), sequence(pre), operands(fixed), sequence(suf));
+            RAtom::ABoth { node, op, pre, fixed, suf }
+        }
+        Atom::ACIExact { node, op, ref elems } => {
+            let (node, elems) = (var(node), operands(elems));
+            RAtom::ACIExact { node, op, elems }
+        }
+        Atom::ACISub { node, op, rest, ref elems } => {
+            let (node, elems, rest) = (var(node), operands(elems), SetVarId::new(rest.into()));
+            RAtom::ACISub { node, op, elems, rest }
+        }
+        _ => unreachable!("the other kinds are made above"),
     }
 }

@@ -102,7 +102,9 @@ fn making(r: &mut Random, large: bool) -> Making {
     let classes = r.between(1, 8);
     Making {
         nodes: (0..nodes).map(|_| if r.chance(5) { 0xffff } else { r.next() as u16 }).collect(),
-        classes: (0..classes).map(|_| (r.next() as u16).min(0xfffe)).collect(),
+        classes: (0..classes)
+            .map(|_| if r.chance(5) { 0xfffe } else { (r.next() as u16).min(0xfffe) })
+            .collect(),
         most_nodes: r.pick(&[0, 1, 4, 8, 8, 16, 16, 64, 64]),
         most_classes: r.pick(&[1, 1, 2, 4, 32]),
         percent: r.pick(&[0, 40, 80, 100, 100, 100, 100, 100]),
