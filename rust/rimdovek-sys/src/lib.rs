@@ -9,6 +9,8 @@ mod c {
         pub safe fn rimdovek_path_selectivity(measured: bool, fanout: u64, denom: u32) -> u64;
         // A slice is a pointer and then a length.
         pub fn rimdovek_estimate_draws(draws: *const f64, draws_len: usize, k: usize, bootstrap: usize, cv: u64, mean: *mut u64) -> u8;
+        #[cfg(feature = "plan")]
+        pub fn rimdovek_plan(query: *const u8, query_len: usize, out: *mut u8, out_len: usize) -> u64;
     }
 }
 
@@ -73,5 +75,44 @@ pub fn estimate_draws_into(draws: &[f64], settings: Settings, mean: &mut u64) ->
             settings.cv_threshold.to_bits(),
             mean,
         )
+    }
+}
+
+/// The planner's answer.
+#[cfg(feature = "plan")]
+#[derive(Clone, Copy, Debug, PartialEq, Eq)]
+pub enum Planned {
+    Accepted {
+        written: usize,
+        steps: u16,
+        tallied: u16,
+        rejected: u16,
+    },
+    /// The document's number, the text (0 query), the line.
+    Refused { number: u8, text: u8, line: u16 },
+}
+
+/// The plan of a query text, written into the lent output; nothing is written on a refusal.
+///
+/// The C function answers by one number. Accepted: from the highest bit, 0, fifteen bits of bytes written (no plan is longer than 20,565),
+/// and steps, tallied and rejected of sixteen each. Refused: 1 as the highest bit; number, text and line in the lowest four bytes, the line
+/// taking two.
+#[cfg(feature = "plan")]
+pub fn plan(query: &[u8], out: &mut [u8]) -> Planned {
+    // SAFETY: both pointers are of references that outlive the call, and the lengths are the slices'.
+    let answer = unsafe { c::rimdovek_plan(query.as_ptr(), query.len(), out.as_mut_ptr(), out.len()) };
+    let word = |place: u32| (answer >> (16 * place)) as u16;
+    if answer >> 63 == 1 {
+        return Planned::Refused {
+            number: (answer >> 24) as u8,
+            text: (answer >> 16) as u8,
+            line: word(0),
+        };
+    }
+    Planned::Accepted {
+        written: word(3).into(),
+        steps: word(2),
+        tallied: word(1),
+        rejected: word(0),
     }
 }

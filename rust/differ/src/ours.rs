@@ -1,0 +1,66 @@
+//! The proved planner against a run of the Rust.
+use crate::shrink::shrink;
+use oracle::{Query, Run, to_text};
+use rimdovek_sys::{Planned, plan};
+
+/// Bytes past the plan must keep this value.
+const LENT: u8 = 0xa5;
+/// Above the longest plan.
+const ROOM: usize = 20_600;
+
+pub fn compare(seed: u64, text: &[u8], run: &Run) -> Result<(), String> {
+    let mut out = [LENT; ROOM];
+    let room = if seed % 8 == 0 { run.answer.text.len() } else { ROOM };
+    same(&mut out[..room], text, run)?;
+    if seed % 8 == 1 {
+        short(&mut [LENT; ROOM][..run.answer.text.len() - 1], text)?;
+    }
+    Ok(())
+}
+
+/// The difference that a smaller query shows.
+pub fn smaller(seed: u64, query: Query) -> String {
+    let difference = |query: &Query| Run::new(query).and_then(|run| compare(seed, to_text(query).as_bytes(), &run)).err();
+    let small = shrink(query, |query| difference(query).is_some());
+    let message = difference(&small).unwrap_or_else(|| "none in the canonical text".to_string());
+    format!("smaller: {message}\n{}", to_text(&small))
+}
+
+fn same(out: &mut [u8], text: &[u8], run: &Run) -> Result<(), String> {
+    let answer = &run.answer;
+    let says = Planned::Accepted {
+        written: answer.text.len(),
+        steps: answer.steps,
+        tallied: answer.tallied,
+        rejected: answer.rejected,
+    };
+    let planned = plan(text, out);
+    let (plan, rest) = out.split_at(answer.text.len());
+    if plan != answer.text.as_bytes() {
+        let plan = String::from_utf8_lossy(plan);
+        return Err(format!("the Rust plans\n{}and ours ({planned:?})\n{plan}for", answer.text));
+    }
+    if planned != says {
+        return Err(format!("the answer is {planned:?}, not {says:?}, for"));
+    }
+    if rest.iter().any(|byte| *byte != LENT) {
+        return Err("bytes past the plan are changed, for".to_string());
+    }
+    Ok(())
+}
+
+/// An output a byte too short is refused and kept.
+fn short(out: &mut [u8], text: &[u8]) -> Result<(), String> {
+    let planned = plan(text, out);
+    if planned
+        != (Planned::Refused {
+            number: 8,
+            text: 0,
+            line: 0,
+        })
+        || out.iter().any(|byte| *byte != LENT)
+    {
+        return Err(format!("an output of {} bytes gives {planned:?}, for", out.len()));
+    }
+    Ok(())
+}
