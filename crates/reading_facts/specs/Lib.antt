@@ -1,5 +1,6 @@
 pub mod Answers
 pub mod LetterCase
+pub mod Passes
 pub mod Whole
 pub mod Ascii
 pub mod Examples

@@ -27,6 +27,7 @@ use Rattle.frames.specs.declared.first.Text.the-variants.{Query, Plan, Table}
 use Rattle.frames.specs.declared.first.Reading.{Reading}
 use Rattle.frames.specs.declared.first.Reading.the-variants.{Accepted, Refused}
 use Rattle.reading.specs.Keys.{begins, find, isFound, keyOf, keyGiven}
+use Rattle.reading_facts.specs.Passes.{both-hold}
 use Rattle.reading.specs.Second.{countsOf, secondFault, secondFrom, second, reading}
 
 -- ---- what is said of an accepted text
@@ -330,16 +331,12 @@ pub record Header (f : List ℕ) : Type 0 where
   pub globals : getD f 2 0 ≤ globalsMost
   pub literals : getD f 3 0 ≤ literalsMost
 
-left : (a b : Bool) → pick a b false ≡ true → (a ≡ true) × (b ≡ true)
-left true b p = (refl, p)
-left false b p = let z : _≡_ {A = ℕ} 0 1 = cc in absurd (omega arith)
-
 three : (f : List ℕ) (r s : Bool) → pick (pick (leb (getD f 1 0) variablesMost) (pick (leb (getD f 2 0) globalsMost) (pick (leb (getD f 3 0) literalsMost) r false) false) false) s false ≡ true → Header f
 three f r s p =
-    let a = left _ s p in
-    let b = left (leb (getD f 1 0) variablesMost) _ (a .0) in
-    let d = left (leb (getD f 2 0) globalsMost) _ (b .1) in
-    let e = left (leb (getD f 3 0) literalsMost) r (d .1) in
+    let a = both-hold _ s p in
+    let b = both-hold (leb (getD f 1 0) variablesMost) _ (a .0) in
+    let d = both-hold (leb (getD f 2 0) globalsMost) _ (b .1) in
+    let e = both-hold (leb (getD f 3 0) literalsMost) r (d .1) in
     record { variables = leb-true _ _ (b .0); globals = leb-true _ _ (d .0); literals = leb-true _ _ (e .0) }
 
 pub header-fits : (f : List ℕ) → (isHeader (getD f 0 0) ≡ true) → framePasses (fieldPasses Limits noCounts) f ≡ true → Header f
@@ -351,8 +348,8 @@ header-fits f p q = go (getD f 0 0) refl (eqb (getD f 0 0) 0) refl p
     go b e false r s = let z : getD f 0 0 ≡ 0x3f = e ∙ eqb-true b 0x3f s in three f _ _ (rw z at q)
 
 header-first : (t : Text) (b : ℕ) → (t ≡ Table → ⊥) → belongs t true b ≡ true → isHeader b ≡ true
-header-first Query b h p = left (eqb (kindAt b .text) query) (isHeader b) p .1
-header-first Plan b h p = left (eqb (kindAt b .text) plan) (isHeader b) p .1
+header-first Query b h p = both-hold (eqb (kindAt b .text) query) (isHeader b) p .1
+header-first Plan b h p = both-hold (eqb (kindAt b .text) plan) (isHeader b) p .1
 header-first Table b h p = absurd (h refl)
 
 -- an accepted query or plan has a header, and what that gives is within the limits
