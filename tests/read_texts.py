@@ -1,5 +1,6 @@
 #!/usr/bin/env python3
-"""The reading of query, plan and table texts, modelled from document 01's words alone, and the cases that the program read_texts runs.
+"""The reading of query, plan and table texts, modelled from the words of document 01 and not from the code, and the cases that the program
+read_texts runs. Where the document leaves room, the readings are those of docs/DECISIONS.md.
 
     tests/read_texts.py                  writes crates/read_texts/stdin and stdout; the seed is fixed, so the same files come out
     tests/read_texts.py --against FILE.. compares the model with the cases of other files (JSON lines; texts in base64)

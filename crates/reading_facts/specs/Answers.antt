@@ -7,13 +7,13 @@ use native.Mathlib.Omega.{arith}
 use lib.ListN.{length, getD, length-map}
 use borrow.Author.Tests.{lt-ltb, le-ltb, ne-eqb, ltb-true, ltb-false}
 use lib.Dec.{ltb, eqb}
-use Rattle.base.specs.Choose.{pick, pick-elim}
+use Rattle.base.specs.Choose.{pick-elim}
 use Rattle.hex.specs.Digits.{bytesOf}
 use Rattle.hex.specs.Lines.{split, isHex}
 use Rattle.frames.specs.Limits.{textMost}
 use Rattle.frames.specs.Fields.{fieldPasses}
 use Rattle.frames.specs.Frames.{framePasses, frameLength}
-use Rattle.frames.specs.First.{framesOf, belongs, hasRoom, counted, noCounts, frameFault, lineFault, orElse, atEnd, firstLines, firstFrom, stepsSay, stepsRight, emptyText, firstReading}
+use Rattle.frames.specs.First.{framesOf, belongs, hasRoom, counted, noCounts, frameFault, lineFault, orElse, firstLines, firstFrom, stepsSay, stepsRight}
 use Rattle.frames.specs.declared.fields.Counts.{Counts}
 use Rattle.frames.specs.declared.fields.Test.the-variants.{Limits, Range, Reals}
 use Rattle.frames.specs.declared.first.Text.{Text}

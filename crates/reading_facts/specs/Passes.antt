@@ -9,7 +9,7 @@ use lib.ListN.{length, getD, take, replicate}
 use Rattle.base.specs.Choose.{pick}
 use Rattle.frames.specs.Fields.{width}
 use Rattle.frames.specs.Kinds.{none, widths, fixedLength, itemsOf}
-use Rattle.frames.specs.Frames.{kindOf, passAll, itemFields, framePasses}
+use Rattle.frames.specs.Frames.{kindOf, passAll, framePasses}
 use Rattle.frames.specs.declared.fields.Field.{Field}
 
 -- both of two tests, the second made where the first holds

@@ -1,8 +1,8 @@
 -- What holds of an accepted text: its size and counts are within the limits, each of its frames passes the tests 2 to 6, and no two of
 -- its frames have the same key. Assumes nothing.
 use Prim.Native.Nat.{ℕ, zero, suc, _+_, _*_, _%_, _≤_, _<_}
-use mathlib.Core.Path.{_≡_, refl, sym, _∙_, ap, subst}
-use mathlib.Core.Bool.{Bool, true, false, not}
+use mathlib.Core.Path.{_≡_, refl, sym, _∙_, ap}
+use mathlib.Core.Bool.{Bool, true, false}
 use mathlib.Core.List.{List, [], _∷_, _++_, map, append-assoc, append-nil}
 use native.Mathlib.Omega.{arith}
 use native.Mathlib.Nat.{add-zero, zero-add, add-suc, suc-add}
@@ -16,10 +16,10 @@ use Rattle.hex.specs.Digits.{digitValue, bytesOf}
 use Rattle.hex.specs.Lines.{split, isHex, endOf}
 use Rattle.hex.specs.Cuts.{cut, end-is, all-rest}
 use Rattle.frames.specs.Limits.{textMost, variablesMost, globalsMost, literalsMost, atomsMost, rowsMost}
-use Rattle.frames.specs.Fields.{fieldPasses, fieldFits}
-use Rattle.frames.specs.Kinds.{kinds, kindAt, query, plan}
+use Rattle.frames.specs.Fields.{fieldPasses}
+use Rattle.frames.specs.Kinds.{kindAt, query, plan}
 use Rattle.frames.specs.Frames.{kindOf, frameLength, passAll, framePasses}
-use Rattle.frames.specs.First.{framesOf, textNumber, isHeader, belongs, isCounted, countedMost, counted, hasRoom, noCounts, frameFault, lineFault, orElse, atEnd, firstLines, firstFrom, firstLine, stepsSay, stepsRight, emptyText, firstReading}
+use Rattle.frames.specs.First.{framesOf, isHeader, belongs, isCounted, countedMost, counted, hasRoom, noCounts, frameFault, lineFault, orElse, atEnd, firstLines, firstFrom, firstLine, stepsSay, stepsRight, emptyText, firstReading}
 use Rattle.frames.specs.declared.fields.Counts.{Counts}
 use Rattle.frames.specs.declared.fields.Test.the-variants.{Limits, Range, Reals}
 use Rattle.frames.specs.declared.first.Text.{Text}
