@@ -2,5 +2,6 @@ pub mod Answers
 pub mod LetterCase
 pub mod Passes
 pub mod Whole
+pub mod Lookups
 pub mod Ascii
 pub mod Examples
