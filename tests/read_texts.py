@@ -1,5 +1,6 @@
 #!/usr/bin/env python3
-"""The reading of query, plan and table texts, modelled from document 01's words alone, and the cases that the program read_texts runs.
+"""The reading of query, plan and table texts, modelled from the words of document 01 and not from the code, and the cases that the program
+read_texts runs. Where the document leaves room, the readings are those of docs/DECISIONS.md.
 
     tests/read_texts.py                  writes crates/read_texts/stdin and stdout; the seed is fixed, so the same files come out
     tests/read_texts.py --against FILE.. compares the model with the cases of other files (JSON lines; texts in base64)
@@ -222,23 +223,20 @@ def read(text, x):
 
 # ---- the cases
 
-HEADER = {QUERY: bytes([0, 64, 16, 16]), TABLE: b''}
-
-def plan_header(steps):
-    return bytes([0x3f, 64, 16, 16]) + steps.to_bytes(2, 'big') + bytes(4)
-
 def text_bytes(*frames):
     return b''.join(f.hex().encode() + b'\n' for f in frames)
 
 def build(text, frames, steps=None):
-    if text == PLAN:
-        return text_bytes(plan_header(len(frames) if steps is None else steps), *frames)
-    return text_bytes(*([HEADER[QUERY]] if text == QUERY else []), *frames)
+    """A text of these frames, with room to name 64 variables, 16 globals and 16 literals."""
+    counts = bytes([64, 16, 16])
+    steps = (len(frames) if steps is None else steps).to_bytes(2, 'big')
+    header = {QUERY: [b'\x00' + counts], PLAN: [b'\x3f' + counts + steps + bytes(4)], TABLE: []}
+    return text_bytes(*header[text], *frames)
 
 ONE = struct.pack('>d', 1.0)
 
 def good(kind, items=1):
-    """A frame of the kind that passes after the headers above: 0 in every field but reals."""
+    """A frame of the kind that passes in a text built so: 0 in every field but reals."""
     _, fields, item = KINDS[kind]
     f = bytes([kind])
     for name, w in fields:
@@ -322,9 +320,14 @@ def kind_cases():
         if kind not in (0x00, 0x3f):
             for changed in (f, f[:-1], f + b'\0', f[:1]):
                 yield from ((text, x) for x in places(text, changed))
-            edges = list(field_edges(kind, f))
-            yield from ((text, build(text, [*AROUND[text][:1], e, *AROUND[text][1:]])) for e in edges)
-            for e in edges[-2:]:
+            digits = f.hex().encode()
+            yield from ((text, x.replace(digits, digits[:-1])) for x in places(text, f))
+            told = {}
+            for e in field_edges(kind, f):
+                x = build(text, [AROUND[text][0], e, *AROUND[text][1:]])
+                yield text, x
+                told.setdefault(read(text, x), e)
+            for e in told.values():
                 yield from ((text, x) for x in places(text, e))
         for other in FRAMES:
             if other != text:

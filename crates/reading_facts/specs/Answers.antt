@@ -1,18 +1,19 @@
 -- "A refusal returns number, text (query, plan, table) and line from 1": a reading's answer in the document's terms. Assumes nothing.
-use Prim.Native.Nat.{ℕ, zero, suc, _≤_, _+_}
+use Prim.Native.Nat.{ℕ, zero, suc, _+_, _<_, _≤_}
 use mathlib.Core.Path.{_≡_, refl}
 use mathlib.Core.Bool.{Bool, true, false}
 use mathlib.Core.List.{List, [], _∷_}
 use native.Mathlib.Omega.{arith}
-use lib.ListN.{length, getD}
+use lib.ListN.{length, getD, length-map}
+use borrow.Author.Tests.{lt-ltb, le-ltb, ne-eqb, ltb-true, ltb-false}
 use lib.Dec.{ltb, eqb}
-use Rattle.base.specs.Choose.{pick, pick-elim}
+use Rattle.base.specs.Choose.{pick-elim}
 use Rattle.hex.specs.Digits.{bytesOf}
 use Rattle.hex.specs.Lines.{split, isHex}
 use Rattle.frames.specs.Limits.{textMost}
 use Rattle.frames.specs.Fields.{fieldPasses}
 use Rattle.frames.specs.Frames.{framePasses, frameLength}
-use Rattle.frames.specs.First.{framesOf, belongs, hasRoom, counted, noCounts, frameFault, lineFault, orElse, atEnd, firstLines, firstFrom, stepsSay, stepsRight, emptyText, firstReading}
+use Rattle.frames.specs.First.{framesOf, belongs, hasRoom, counted, noCounts, frameFault, lineFault, orElse, firstLines, firstFrom, stepsSay, stepsRight}
 use Rattle.frames.specs.declared.fields.Counts.{Counts}
 use Rattle.frames.specs.declared.fields.Test.the-variants.{Limits, Range, Reals}
 use Rattle.frames.specs.declared.first.Text.{Text}
@@ -46,19 +47,45 @@ accepted-once t x n c n′ c′ p q = (cc, cc)
 pub never-both : (t : Text) (x : List ℕ) (n c k l : ℕ) → reading t x ≡ Accepted n c → reading t x ≡ Refused k l → ⊥
 never-both t x n c k l p q = let z : _≡_ {A = ℕ} 0 1 = cc in omega arith
 
--- ---- the numbers that a reading gives are 1 to 7
+-- ---- "line 0 for an empty query or plan (2), a text too long (4)"
 
-Numbered : Reading → Type 0
-Numbered (Accepted n c) = ℕ
-Numbered (Refused k l) = (1 ≤ k) × (k ≤ 7)
+pub too-long : (t : Text) (x : List ℕ) → textMost < length x → reading t x ≡ Refused 4 0
+unfolding reading
+too-long t x h = rw (lt-ltb textMost (length x) h)
+
+pub empty-query : reading Query [] ≡ Refused 2 0
+unfolding reading
+empty-query = refl
+
+pub empty-plan : reading Plan [] ≡ Refused 2 0
+unfolding reading
+empty-plan = refl
+
+-- "Table (may be empty)"
+pub empty-table : reading Table [] ≡ Accepted 0 0
+unfolding reading split
+empty-table = refl
+
+-- ---- any other text is refused by a number from 1 to 7, at a line from 1; a last line that is not ended counts
+
+-- a refusal by such a number, at one of m lines
+pub record Told (m k l : ℕ) : Type 0 where
+  pub low : 1 ≤ k
+  pub high : k ≤ 7
+  pub from : 1 ≤ l
+  pub to : l ≤ m
+
+Tells : ℕ → Reading → Type 0
+Tells m (Accepted n c) = Unit {0}
+Tells m (Refused k l) = Told m k l
 
 small : ℕ → Type 0
 small k = k ≤ 7
 
-or-numbered : (k n : ℕ) (a : Reading) → k ≤ 7 → Numbered a → Numbered (orElse k n a)
-unfolding Numbered
-or-numbered zero n a h g = g
-or-numbered (suc k) n a h g = (omega arith, h)
+or-tells : (m k n : ℕ) (a : Reading) → small k → n < m → Tells m a → Tells m (orElse k n a)
+unfolding Tells small
+or-tells m zero n a h i g = g
+or-tells m (suc k) n a h i g = record { low = omega arith; high = h; from = omega arith; to = i }
 
 frame-number : (t : Text) (first : Bool) (c : ℕ) (f : List ℕ) → small (frameFault t first c f)
 unfolding frameFault small
@@ -75,33 +102,6 @@ line-number : (t : Text) (first : Bool) (c : ℕ) (l : List ℕ) → small (line
 unfolding lineFault small
 line-number t first c l = pick-elim small (isHex l) _ _ (λ _. frame-number t first c (bytesOf l)) (λ _. omega arith)
 
-first-numbered : (t : Text) (n c : ℕ) (ls : List (List ℕ)) (r : List ℕ) → Numbered (firstLines t n c ls r)
-unfolding firstLines Numbered small
-first-numbered t n c [] [] = 0
-first-numbered t n c [] (b ∷ r) = (omega arith, omega arith)
-first-numbered t n c (l ∷ ls) r =
-    or-numbered (lineFault t (eqb n 0) c l) n _ (line-number t (eqb n 0) c l) (first-numbered t (suc n) (counted t c (getD (bytesOf l) 0 0)) ls r)
-
-steps-numbered : (t : Text) (x : List ℕ) (a : Reading) → Numbered a → Numbered (stepsRight t x a)
-unfolding Numbered
-steps-numbered Query x a h = h
-steps-numbered Table x a h = h
-steps-numbered Plan x (Accepted n c) h = pick-elim Numbered (eqb (stepsSay x + 1) n) _ _ (λ _. 0) (λ _. (omega arith, omega arith))
-steps-numbered Plan x (Refused k l) h = h
-
-empty-numbered : (t : Text) → Numbered (emptyText t)
-unfolding Numbered
-empty-numbered Query = (omega arith, omega arith)
-empty-numbered Plan = (omega arith, omega arith)
-empty-numbered Table = 0
-
-first-reading-numbered : (t : Text) (x : List ℕ) → Numbered (firstReading t x)
-unfolding firstReading Numbered
-first-reading-numbered t x =
-    pick-elim Numbered (ltb textMost (length x)) _ _ (λ _. (omega arith, omega arith))
-    (λ _. pick-elim Numbered (eqb (length x) 0) _ _ (λ _. empty-numbered t)
-    (λ _. steps-numbered t x (firstFrom t 0 0 x) (first-numbered t 0 0 (split x .ended) (split x .rest))))
-
 second-number : (n : Counts) (es : List (List ℕ)) (f : List ℕ) → small (secondFault n es f)
 unfolding secondFault small
 second-number n es f =
@@ -111,23 +111,59 @@ second-number n es f =
     (λ _. omega arith))
     (λ _. omega arith)
 
-second-numbered : (n : Counts) (es : List (List ℕ)) (k : ℕ) (fs : List (List ℕ)) (a : Reading) → Numbered a → Numbered (secondFrom n es k fs a)
-unfolding secondFrom Numbered small
-second-numbered n es k [] a h = h
-second-numbered n es k (f ∷ fs) a h = or-numbered (secondFault n es f) k _ (second-number n es f) (second-numbered n _ (suc k) fs a h)
+module _ (m : ℕ) where
+  first-tells : (t : Text) (n c : ℕ) (ls : List (List ℕ)) (r : List ℕ) → n + length ls < m → Tells m (firstLines t n c ls r)
+  unfolding firstLines Tells
+  first-tells t n c [] [] h = tt
+  first-tells t n c [] (b ∷ r) h = record { low = omega arith; high = omega arith; from = omega arith; to = omega arith }
+  first-tells t n c (l ∷ ls) r h =
+      or-tells m (lineFault t (eqb n 0) c l) n _ (line-number t (eqb n 0) c l) (omega arith)
+      (first-tells t (suc n) (counted t c (getD (bytesOf l) 0 0)) ls r (omega arith))
 
-numbered : (t : Text) (x : List ℕ) (a : Reading) → Numbered a → Numbered (second t x a)
-unfolding Numbered
-numbered t x (Accepted n c) h = second-numbered (countsOf t x c) [] 0 (framesOf x) (Accepted n c) h
-numbered t x (Refused k l) h = h
+  steps-tells : (t : Text) (x : List ℕ) (a : Reading) → 1 ≤ m → Tells m a → Tells m (stepsRight t x a)
+  unfolding Tells
+  steps-tells Query x a i h = h
+  steps-tells Table x a i h = h
+  steps-tells Plan x (Accepted n c) i h =
+      pick-elim (Tells m) (eqb (stepsSay x + 1) n) _ _ (λ _. tt)
+      (λ _. record { low = omega arith; high = omega arith; from = omega arith; to = i })
+  steps-tells Plan x (Refused k l) i h = h
 
-all-numbered : (t : Text) (x : List ℕ) → Numbered (reading t x)
-unfolding reading
-all-numbered t x = numbered t x (firstReading t x) (first-reading-numbered t x)
+  second-tells : (n : Counts) (es : List (List ℕ)) (k : ℕ) (fs : List (List ℕ)) (a : Reading) → k + length fs ≤ m → Tells m a → Tells m (secondFrom n es k fs a)
+  unfolding secondFrom Tells
+  second-tells n es k [] a i h = h
+  second-tells n es k (f ∷ fs) a i h =
+      or-tells m (secondFault n es f) k _ (second-number n es f) (omega arith) (second-tells n _ (suc k) fs a (omega arith) h)
+
+  both-tell : (t : Text) (x : List ℕ) (a : Reading) → length (framesOf x) ≤ m → Tells m a → Tells m (second t x a)
+  unfolding Tells
+  both-tell t x (Accepted n c) i h = second-tells (countsOf t x c) [] 0 (framesOf x) (Accepted n c) (omega arith) h
+  both-tell t x (Refused k l) i h = h
+
+reading-tells : (t : Text) (x : List ℕ) → 1 ≤ length x → length x ≤ textMost → Tells (length (framesOf x) + 1) (reading t x)
+unfolding reading framesOf
+reading-tells t x h i =
+    let m = length (framesOf x) + 1 in
+    let e : length (split x .ended) < m = omega (arith, length-map (split x .ended) bytesOf) in
+    rw (le-ltb textMost (length x) i, ne-eqb (length x) 0 (λ z. omega arith))
+    (both-tell m t x (stepsRight t x (firstFrom t 0 0 x)) (omega arith) (steps-tells m t x (firstFrom t 0 0 x) (omega arith) (first-tells m t 0 0 (split x .ended) (split x .rest) (omega arith))))
+
+pub refused-line : (t : Text) (x : List ℕ) (k l : ℕ) → 1 ≤ length x → length x ≤ textMost → reading t x ≡ Refused k l → Told (length (framesOf x) + 1) k l
+unfolding Tells
+refused-line t x k l h i p = rw p at (reading-tells t x h i)
 
 pub refused-number : (t : Text) (x : List ℕ) (k l : ℕ) → reading t x ≡ Refused k l → (1 ≤ k) × (k ≤ 7)
-unfolding Numbered
-refused-number t x k l p = rw p at (all-numbered t x)
+refused-number t x k l p = go (ltb textMost (length x)) refl
+  where
+    short : (t : Text) (y : List ℕ) → length y ≤ textMost → reading t y ≡ Refused k l → (1 ≤ k) × (k ≤ 7)
+    short Query [] h q = let z : 2 ≡ k = cc empty-query in (omega arith, omega arith)
+    short Plan [] h q = let z : 2 ≡ k = cc empty-plan in (omega arith, omega arith)
+    short Table [] h q = let z : _≡_ {A = ℕ} 0 1 = cc empty-table in absurd (omega arith)
+    short t (b ∷ y) h q = let e = refused-line t (b ∷ y) k l (omega arith) h q in (e .low, e .high)
+
+    go : (a : Bool) → ltb textMost (length x) ≡ a → (1 ≤ k) × (k ≤ 7)
+    go true q = let z : 4 ≡ k = cc (too-long t x (ltb-true textMost (length x) q)) in (omega arith, omega arith)
+    go false q = short t x (ltb-false textMost (length x) q) p
 
 -- number 0 says accepted
 pub number-none : (t : Text) (x : List ℕ) → numberOf t (reading t x) ≡ 0 → (n : ℕ) × (c : ℕ) × (reading t x ≡ Accepted n c)

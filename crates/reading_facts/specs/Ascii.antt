@@ -1,6 +1,6 @@
 -- A quoted text's characters, as numbers: the bytes of an ASCII text.
 use Prim.Native.Nat.{ℕ, zero, suc}
-use Prim.Native.Char.{Char, code}
+use Prim.Native.Char.{code}
 use Prim.Native.String.{String, [] as empty, _∷_ as _then_}
 use mathlib.Core.List.{List, [], _∷_, _++_}
 

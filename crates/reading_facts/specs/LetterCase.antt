@@ -1,20 +1,19 @@
 -- "Either letter case is read": a text in lower case gets the same answer. Assumes nothing.
 use Prim.Native.Nat.{ℕ, zero, suc}
-use mathlib.Core.Path.{_≡_, refl, sym, _∙_, ap}
-use mathlib.Core.Bool.{Bool, true, false}
+use mathlib.Core.Path.{_≡_, refl, ap}
+use mathlib.Core.Bool.{Bool}
 use mathlib.Core.List.{List, [], _∷_, map}
-use lib.ListN.{length, getD, take}
+use lib.ListN.{getD, take}
 use lib.Dec.{eqb}
-use Rattle.base.specs.Choose.{pick}
 use Rattle.hex.specs.Digits.{bytesOf}
-use Rattle.hex.specs.Lines.{split, isHex, endOf}
+use Rattle.hex.specs.Lines.{split, endOf}
 use Rattle.hex.specs.Case.{lowered, lower, bytes-lower, length-lower, hex-lower, end-lowered, split-lower}
-use Rattle.frames.specs.First.{framesOf, counted, lineFault, orElse, firstLines, firstFrom, firstLine, stepsSay, stepsRight, firstReading}
+use Rattle.frames.specs.First.{framesOf, counted, lineFault, firstLines, firstFrom, firstLine, stepsRight, firstReading}
 use Rattle.frames.specs.declared.first.Text.{Text}
 use Rattle.frames.specs.declared.first.Text.the-variants.{Query, Plan, Table}
 use Rattle.frames.specs.declared.first.Reading.{Reading}
 use Rattle.frames.specs.declared.first.Reading.the-variants.{Accepted, Refused}
-use Rattle.reading.specs.Second.{countsOf, secondFrom, second, reading}
+use Rattle.reading.specs.Second.{countsOf, second, reading}
 
 line-lower : (t : Text) (first : Bool) (c : ℕ) (l : List ℕ) → lineFault t first c (lower l) ≡ lineFault t first c l
 unfolding lineFault

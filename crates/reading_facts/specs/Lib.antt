@@ -1,5 +1,7 @@
 pub mod Answers
 pub mod LetterCase
+pub mod Passes
 pub mod Whole
+pub mod Lookups
 pub mod Ascii
 pub mod Examples

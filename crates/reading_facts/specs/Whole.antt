@@ -1,8 +1,8 @@
 -- What holds of an accepted text: its size and counts are within the limits, each of its frames passes the tests 2 to 6, and no two of
 -- its frames have the same key. Assumes nothing.
 use Prim.Native.Nat.{ℕ, zero, suc, _+_, _*_, _%_, _≤_, _<_}
-use mathlib.Core.Path.{_≡_, refl, sym, _∙_, ap, subst}
-use mathlib.Core.Bool.{Bool, true, false, not}
+use mathlib.Core.Path.{_≡_, refl, sym, _∙_, ap}
+use mathlib.Core.Bool.{Bool, true, false}
 use mathlib.Core.List.{List, [], _∷_, _++_, map, append-assoc, append-nil}
 use native.Mathlib.Omega.{arith}
 use native.Mathlib.Nat.{add-zero, zero-add, add-suc, suc-add}
@@ -16,10 +16,10 @@ use Rattle.hex.specs.Digits.{digitValue, bytesOf}
 use Rattle.hex.specs.Lines.{split, isHex, endOf}
 use Rattle.hex.specs.Cuts.{cut, end-is, all-rest}
 use Rattle.frames.specs.Limits.{textMost, variablesMost, globalsMost, literalsMost, atomsMost, rowsMost}
-use Rattle.frames.specs.Fields.{fieldPasses, fieldFits}
-use Rattle.frames.specs.Kinds.{kinds, kindAt, query, plan}
+use Rattle.frames.specs.Fields.{fieldPasses}
+use Rattle.frames.specs.Kinds.{kindAt, query, plan}
 use Rattle.frames.specs.Frames.{kindOf, frameLength, passAll, framePasses}
-use Rattle.frames.specs.First.{framesOf, textNumber, isHeader, belongs, isCounted, countedMost, counted, hasRoom, noCounts, frameFault, lineFault, orElse, atEnd, firstLines, firstFrom, firstLine, stepsSay, stepsRight, emptyText, firstReading}
+use Rattle.frames.specs.First.{framesOf, isHeader, belongs, isCounted, countedMost, counted, hasRoom, noCounts, frameFault, lineFault, orElse, atEnd, firstLines, firstFrom, firstLine, stepsSay, stepsRight, emptyText, firstReading}
 use Rattle.frames.specs.declared.fields.Counts.{Counts}
 use Rattle.frames.specs.declared.fields.Test.the-variants.{Limits, Range, Reals}
 use Rattle.frames.specs.declared.first.Text.{Text}
@@ -27,6 +27,7 @@ use Rattle.frames.specs.declared.first.Text.the-variants.{Query, Plan, Table}
 use Rattle.frames.specs.declared.first.Reading.{Reading}
 use Rattle.frames.specs.declared.first.Reading.the-variants.{Accepted, Refused}
 use Rattle.reading.specs.Keys.{begins, find, isFound, keyOf, keyGiven}
+use Rattle.reading_facts.specs.Passes.{both-hold}
 use Rattle.reading.specs.Second.{countsOf, secondFault, secondFrom, second, reading}
 
 -- ---- what is said of an accepted text
@@ -58,6 +59,7 @@ pub record Whole (t : Text) (x : List ℕ) (n c : ℕ) : Type 0 where
   pub steps : t ≡ Plan → stepsSay x + 1 ≡ n
   pub formed : (i : ℕ) → i < n → Formed t (eqb i 0) (getD (framesOf x) i [])
   pub named : (i : ℕ) → i < n → Named (countsOf t x c) (getD (framesOf x) i [])
+  pub fresh : (i j : ℕ) → i < j → j < n → (kindOf (getD (framesOf x) j []) .key ≡ 0 → ⊥) → begins (keyOf (getD (framesOf x) j [])) (getD (framesOf x) i []) ≡ false
   pub apart : (i j : ℕ) → i < j → j < n → (kindOf (getD (framesOf x) j []) .key ≡ 0 → ⊥) → keyOf (getD (framesOf x) i []) ≡ keyOf (getD (framesOf x) j []) → ⊥
 
 -- ---- a choice that ends in no fault
@@ -212,14 +214,14 @@ second-passes n es k (f ∷ fs) a m c p =
 
 -- ---- keys
 
-begins-self : (k : ℕ) (f : List ℕ) → begins (take k f) f ≡ true
+pub begins-self : (k : ℕ) (f : List ℕ) → begins (take k f) f ≡ true
 unfolding begins
 begins-self zero f = refl
 begins-self (suc k) [] = refl
 begins-self (suc k) (b ∷ f) = rw (eq-eqb b b refl) (begins-self k f)
 
 -- a key of some bytes that no frame was found by begins none of them
-not-found : (b : ℕ) (key : List ℕ) (es : List (List ℕ)) → isFound (find (b ∷ key) es) ≡ false → (i : ℕ) → i < length es → begins (b ∷ key) (getD es i []) ≡ false
+pub not-found : (b : ℕ) (key : List ℕ) (es : List (List ℕ)) → isFound (find (b ∷ key) es) ≡ false → (i : ℕ) → i < length es → begins (b ∷ key) (getD es i []) ≡ false
 unfolding find begins
 not-found b key [] p i h = absurd (omega arith)
 not-found b key (f ∷ es) p i h = go (begins (b ∷ key) f) refl (λ q. not-found b key es q) p i h
@@ -233,30 +235,26 @@ not-found b key (f ∷ es) p i h = go (begins (b ∷ key) f) refl (λ q. not-fou
     go false q more r zero h = q
     go false q more r (suc i) h = more r i (omega arith)
 
--- so no earlier frame has the key of a fresh one
-fresh-apart : (es : List (List ℕ)) (f g : List ℕ) (i : ℕ) → i < length es → getD es i [] ≡ f → keyGiven es g ≡ false → (kindOf g .key ≡ 0 → ⊥) → 1 ≤ length g → keyOf f ≡ keyOf g → ⊥
+-- so no earlier frame begins with the key of a fresh one
+fresh-begins : (es : List (List ℕ)) (g : List ℕ) (i : ℕ) → i < length es → keyGiven es g ≡ false → (kindOf g .key ≡ 0 → ⊥) → 1 ≤ length g → begins (keyOf g) (getD es i []) ≡ false
 unfolding keyGiven
-fresh-apart es f g i h e p k l q = go (keyOf g) refl
+fresh-begins es g i h p k l = go (keyOf g) refl (rw (ne-eqb (kindOf g .key) 0 k) at p)
   where
-    unkeyed : isFound (find (keyOf g) es) ≡ false
-    unkeyed = rw (ne-eqb (kindOf g .key) 0 k) at p
-
-    begun : begins (keyOf g) (getD es i []) ≡ true
-    begun = rw (e, ← q) (begins-self (kindOf f .key) f)
-
     some : (m : ℕ) (y : List ℕ) → (m ≡ 0 → ⊥) → 1 ≤ length y → take m y ≡ [] → ⊥
     some zero y a b d = a refl
     some (suc m) [] a b d = omega arith
     some (suc m) (z ∷ y) a b d = let w : _≡_ {A = ℕ} 0 1 = cc in omega arith
 
-    go : (y : List ℕ) → keyOf g ≡ y → ⊥
-    go [] r = some (kindOf g .key) g k l r
-    go (b ∷ y) r =
-        let u : isFound (find (b ∷ y) es) ≡ false = rw r at unkeyed in
-        let v : begins (b ∷ y) (getD es i []) ≡ true = rw r at begun in
-        let w = not-found b y es u i h in
-        let z : _≡_ {A = ℕ} 0 1 = cc in
-        omega arith
+    go : (y : List ℕ) → keyOf g ≡ y → isFound (find y es) ≡ false → begins y (getD es i []) ≡ false
+    go [] r u = absurd (some (kindOf g .key) g k l r)
+    go (b ∷ y) r u = not-found b y es u i h
+
+-- nor has it
+not-same : (f g : List ℕ) → begins (keyOf g) f ≡ false → keyOf f ≡ keyOf g → ⊥
+not-same f g p q =
+    let v : begins (keyOf g) f ≡ true = rw (← q) (begins-self (kindOf f .key) f) in
+    let z : _≡_ {A = ℕ} 0 1 = cc in
+    omega arith
 
 -- ---- the whole
 
@@ -281,10 +279,8 @@ both t x n c f p s =
       steps = f .steps;
       formed = λ i h. formed i (omega arith);
       named = λ i h. s .named i (omega arith);
-      apart = λ i j h k m q.
-          let l : j < length (framesOf x) = omega arith in
-          let w : i < length (take j (framesOf x)) = rw (length-take-le j (framesOf x) (omega arith)) h in
-          fresh-apart (take j (framesOf x)) (getD (framesOf x) i []) (getD (framesOf x) j []) i w (getD-take j (framesOf x) i [] h) (s .fresh j l) m (long (formed j l)) q;
+      fresh = new;
+      apart = λ i j h k m q. not-same (getD (framesOf x) i []) (getD (framesOf x) j []) (new i j h k m) q;
     }
   where
     formed : (i : ℕ) → i < length (framesOf x) → Formed t (eqb i 0) (getD (framesOf x) i [])
@@ -292,6 +288,12 @@ both t x n c f p s =
 
     long : {b : Bool} {g : List ℕ} → Formed t b g → 1 ≤ length g
     long f = omega (arith, f .long)
+
+    new : (i j : ℕ) → i < j → j < n → (kindOf (getD (framesOf x) j []) .key ≡ 0 → ⊥) → begins (keyOf (getD (framesOf x) j [])) (getD (framesOf x) i []) ≡ false
+    new i j h k m =
+        let l : j < length (framesOf x) = omega (arith, p .lines) in
+        let w : i < length (take j (framesOf x)) = rw (length-take-le j (framesOf x) (omega arith)) h in
+        rw (getD-take j (framesOf x) i [] h) at (fresh-begins (take j (framesOf x)) (getD (framesOf x) j []) i w (s .fresh j l) m (long (formed j l)))
 
 pub accepted : (t : Text) (x : List ℕ) (n c : ℕ) → reading t x ≡ Accepted n c → Whole t x n c
 unfolding reading framesOf
@@ -330,16 +332,12 @@ pub record Header (f : List ℕ) : Type 0 where
   pub globals : getD f 2 0 ≤ globalsMost
   pub literals : getD f 3 0 ≤ literalsMost
 
-left : (a b : Bool) → pick a b false ≡ true → (a ≡ true) × (b ≡ true)
-left true b p = (refl, p)
-left false b p = let z : _≡_ {A = ℕ} 0 1 = cc in absurd (omega arith)
-
 three : (f : List ℕ) (r s : Bool) → pick (pick (leb (getD f 1 0) variablesMost) (pick (leb (getD f 2 0) globalsMost) (pick (leb (getD f 3 0) literalsMost) r false) false) false) s false ≡ true → Header f
 three f r s p =
-    let a = left _ s p in
-    let b = left (leb (getD f 1 0) variablesMost) _ (a .0) in
-    let d = left (leb (getD f 2 0) globalsMost) _ (b .1) in
-    let e = left (leb (getD f 3 0) literalsMost) r (d .1) in
+    let a = both-hold _ s p in
+    let b = both-hold (leb (getD f 1 0) variablesMost) _ (a .0) in
+    let d = both-hold (leb (getD f 2 0) globalsMost) _ (b .1) in
+    let e = both-hold (leb (getD f 3 0) literalsMost) r (d .1) in
     record { variables = leb-true _ _ (b .0); globals = leb-true _ _ (d .0); literals = leb-true _ _ (e .0) }
 
 pub header-fits : (f : List ℕ) → (isHeader (getD f 0 0) ≡ true) → framePasses (fieldPasses Limits noCounts) f ≡ true → Header f
@@ -351,8 +349,8 @@ header-fits f p q = go (getD f 0 0) refl (eqb (getD f 0 0) 0) refl p
     go b e false r s = let z : getD f 0 0 ≡ 0x3f = e ∙ eqb-true b 0x3f s in three f _ _ (rw z at q)
 
 header-first : (t : Text) (b : ℕ) → (t ≡ Table → ⊥) → belongs t true b ≡ true → isHeader b ≡ true
-header-first Query b h p = left (eqb (kindAt b .text) query) (isHeader b) p .1
-header-first Plan b h p = left (eqb (kindAt b .text) plan) (isHeader b) p .1
+header-first Query b h p = both-hold (eqb (kindAt b .text) query) (isHeader b) p .1
+header-first Plan b h p = both-hold (eqb (kindAt b .text) plan) (isHeader b) p .1
 header-first Table b h p = absurd (h refl)
 
 -- an accepted query or plan has a header, and what that gives is within the limits
