@@ -6,7 +6,7 @@ use mathlib.Core.Bool.{Bool, true, false}
 use mathlib.Core.List.{List, [], _∷_, _++_, map, append-assoc, append-nil}
 use native.Mathlib.Omega.{arith}
 use native.Mathlib.Nat.{add-zero, zero-add, add-suc, suc-add}
-use lib.ListN.{length, getD, take}
+use lib.ListN.{length, getD, take, length-map}
 use lib.Seq.{getD-take, length-take-le}
 use lib.Dec.{T, ltb, leb, eqb}
 use lib.Pow.{areBytes}
@@ -57,6 +57,7 @@ pub record Whole (t : Text) (x : List ℕ) (n c : ℕ) : Type 0 where
   pub few : c ≤ countedMost t
   pub some : (t ≡ Table → ⊥) → 1 ≤ n
   pub steps : t ≡ Plan → stepsSay x + 1 ≡ n
+  pub hex : (i : ℕ) → i < n → isHex (getD (split x .ended) i []) ≡ true
   pub formed : (i : ℕ) → i < n → Formed t (eqb i 0) (getD (framesOf x) i [])
   pub named : (i : ℕ) → i < n → Named (countsOf t x c) (getD (framesOf x) i [])
   pub fresh : (i j : ℕ) → i < j → j < n → (kindOf (getD (framesOf x) j []) .key ≡ 0 → ⊥) → begins (keyOf (getD (framesOf x) j [])) (getD (framesOf x) i []) ≡ false
@@ -132,6 +133,13 @@ lines-pass t m c [] r n e p = passed-end t m c r n e p
 lines-pass t m c (l ∷ ls) r n e p =
     let a = or-passes (lineFault t (eqb m 0) c l) m _ n e p in
     passed-more t m c (bytesOf l) (map bytesOf ls) r n e (line-passes t (eqb m 0) c l (a .0)) (lines-pass t (suc m) (counted t c (getD (bytesOf l) 0 0)) ls r n e (a .1))
+
+lines-hex : (t : Text) (m c : ℕ) (ls : List (List ℕ)) (r : List ℕ) (n e : ℕ) → firstLines t m c ls r ≡ Accepted n e → (i : ℕ) → i < length ls → isHex (getD ls i []) ≡ true
+unfolding firstLines lineFault
+lines-hex t m c [] r n e p i h = absurd (omega arith)
+lines-hex t m c (l ∷ ls) r n e p zero h = passes (isHex l) _ 0 (or-passes (lineFault t (eqb m 0) c l) m _ n e p .0) .0
+lines-hex t m c (l ∷ ls) r n e p (suc i) h =
+    lines-hex t (suc m) (counted t c (getD (bytesOf l) 0 0)) ls r n e (or-passes (lineFault t (eqb m 0) c l) m _ n e p .1) i (omega arith)
 
 -- the whole first reading
 pub record First (t : Text) (x : List ℕ) (n c : ℕ) : Type 0 where
@@ -266,6 +274,10 @@ lines-some x p h = go (split x .ended) refl
     go [] q = let z : length x ≡ 0 = ap length (sym (all-rest x q) ∙ p) in absurd (omega arith)
     go (l ∷ ls) q = rw q (omega arith)
 
+pub frames-length : (x : List ℕ) → length (framesOf x) ≡ length (split x .ended)
+unfolding framesOf
+frames-length x = length-map (split x .ended) bytesOf
+
 both : (t : Text) (x : List ℕ) (n c : ℕ) → First t x n c → Passed t 0 0 (framesOf x) (split x .rest) n c → Tested (countsOf t x c) [] (framesOf x) (Accepted n c) n c → Whole t x n c
 both t x n c f p s =
     let e : n ≡ length (framesOf x) = p .lines ∙ zero-add (length (framesOf x)) in
@@ -277,6 +289,7 @@ both t x n c f p s =
       few = p .few (omega arith);
       some = λ h. let z = lines-some x (p .ended) (f .some h) in omega arith;
       steps = f .steps;
+      hex = λ i h. lines-hex t 0 0 (split x .ended) (split x .rest) n c (f .lines) i (omega (arith, frames-length x));
       formed = λ i h. formed i (omega arith);
       named = λ i h. s .named i (omega arith);
       fresh = new;
