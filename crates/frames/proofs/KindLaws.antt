@@ -13,7 +13,8 @@ use native.Mathlib.Omega.{arith}
 use lib.ListN.{getD, length, take, replicate, getD-replicate, List·getD-map}
 use Rattle.frames.specs.declared.fields.Field.{Field}
 use Rattle.frames.specs.Kinds.{Kind, none, kinds, kindAt, noKind}
-use Rattle.frames.specs.Rows.{code, decode, rowOf, sixFields, sixAt, byteOf, field-decoded}
+use Rattle.frames.specs.Rows.{code, decode, rowOf, sixFields, sixAt, wordsOf, byteOf, field-decoded}
+use Rattle.frames.specs.declared.kinds.KindRow.{KindRow}
 
 -- what a test says of every kind of the table
 held : (P : Kind → Bool) (l : List Kind) (i : ℕ) → T (all P l) → T (P noKind) → T (P (getD l i noKind))
@@ -75,17 +76,18 @@ others ns (w ∷ ws) d i ℕ.zero t e =
 others ns (w ∷ ws) d i (suc k) t e =
     others ns ws d (suc i) k (both-right (pick (listed i ns) true (eqb w d)) (covers ns d (suc i) ws) t) (rw (add-suc i k, ← suc-add i k) at e)
 
-pub other-measures : (b : ℕ) → listed b kindNumbers ≡ false → 0x1_0003 ≡ sixAt (rowOf (kindAt b)) 0
-unfolding kindAt kinds listed covers
-other-measures b e =
-    sym (others kindNumbers (map (λ (r : Kind). sixAt (rowOf r) 0) kinds) 0x1_0003 0 b tt (rw (zero-add b) e))
-    ∙ List·getD-map (λ (r : Kind). sixAt (rowOf r) 0) kinds b noKind
+-- one number of a kind's row
+other : (g : Kind → ℕ) (b : ℕ) → T (covers kindNumbers (g noKind) 0 (map g kinds)) → listed b kindNumbers ≡ false → g noKind ≡ g (kindAt b)
+unfolding kindAt
+other g b t e = sym (others kindNumbers (map g kinds) (g noKind) 0 b t (rw (zero-add b) e)) ∙ List·getD-map g kinds b noKind
 
-pub other-layout : (b : ℕ) → listed b kindNumbers ≡ false → 0 ≡ sixAt (rowOf (kindAt b)) 6
-unfolding kindAt kinds listed covers
-other-layout b e =
-    sym (others kindNumbers (map (λ (r : Kind). sixAt (rowOf r) 6) kinds) 0 0 b tt (rw (zero-add b) e))
-    ∙ List·getD-map (λ (r : Kind). sixAt (rowOf r) 6) kinds b noKind
+pub other-row : (b : ℕ) → listed b kindNumbers ≡ false → wordsOf (rowOf noKind) ≡ wordsOf (rowOf (kindAt b))
+unfolding kinds listed covers
+other-row b e =
+    rw (
+      ← other (λ (r : Kind). sixAt (rowOf r) 0) b tt e,
+      ← other (λ (r : Kind). sixAt (rowOf r) 6) b tt e,
+    )
 
 -- ---- a byte of a row
 
@@ -123,10 +125,11 @@ row-byte b i j h =
     six-byte (getD l i 0) (getD l (i + 1) 0) (getD l (i + 2) 0) (getD l (i + 3) 0) (getD l (i + 4) 0) (getD l (i + 5) 0) j _ (row-small b i) (row-small b (i + 1)) (row-small b (i + 2)) (row-small b (i + 3)) (row-small b (i + 4)) (row-small b (i + 5)) refl h
     ∙ nth l i j h
 
-pub low-column : (b j m r : ℕ) → j < 6 → m ≡ sixAt (rowOf (kindAt b)) 0 → r ≡ byteOf m j → r ≡ getD (rowOf (kindAt b)) j 0
-low-column b j m r h p q = q ∙ rw p (row-byte b 0 j h ∙ rw (zero-add j))
+module _ (b j r : ℕ) (w : KindRow) (p : w ≡ wordsOf (rowOf (kindAt b))) where
+  pub low-column : j < 6 → r ≡ byteOf (w .measures) j → r ≡ getD (rowOf (kindAt b)) j 0
+  low-column h q = q ∙ rw p (row-byte b 0 j h ∙ rw (zero-add j))
 
-pub high-column : (b j m r : ℕ) → 6 ≤ j → j < 12 → m ≡ sixAt (rowOf (kindAt b)) 6 → r ≡ byteOf m (j - 6) → r ≡ getD (rowOf (kindAt b)) j 0
-high-column b j m r g h p q =
-    let e : 6 + (j - 6) ≡ j = omega arith in
-    q ∙ rw p (row-byte b 6 (j - 6) (omega arith) ∙ rw e)
+  pub high-column : 6 ≤ j → j < 12 → r ≡ byteOf (w .layout) (j - 6) → r ≡ getD (rowOf (kindAt b)) j 0
+  high-column g h q =
+      let e : 6 + (j - 6) ≡ j = omega arith in
+      q ∙ rw p (row-byte b 6 (j - 6) (omega arith) ∙ rw e)

@@ -8,6 +8,7 @@ use lib.Dec.{ltb, eqb}
 use Rattle.base.specs.Choose.{pick}
 use Rattle.frames.specs.Fields.{width}
 use Rattle.frames.specs.Kinds.{Kind, none, kinds, kindAt, noKind, fixedLength}
+use Rattle.frames.specs.declared.kinds.KindRow.{KindRow}
 use Rattle.frames.specs.declared.fields.Field.{Field}
 use Rattle.frames.specs.declared.fields.Field.the-variants.{Free, Most, Variable, Global, Literal, Atom, Bootstrap, Real, Class, Operand, Element, KeySite, ProbePath, Ends, Rest, Lookup}
 
@@ -60,6 +61,9 @@ abbrev pub sixAt : List ℕ → ℕ → ℕ
 sixAt l i =
     getD l i 0
     + 256 * (getD l (i + 1) 0 + 256 * (getD l (i + 2) 0 + 256 * (getD l (i + 3) 0 + 256 * (getD l (i + 4) 0 + 256 * getD l (i + 5) 0))))
+
+abbrev pub wordsOf : List ℕ → KindRow
+wordsOf l = record { measures = sixAt l 0; layout = sixAt l 6 }
 
 abbrev pub byteOf : ℕ → ℕ → ℕ
 byteOf n zero = n % 256

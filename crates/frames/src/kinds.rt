@@ -5,7 +5,7 @@ ghost use Prim.Native.Nat.{ℕ, _<_, _≤_, _*_};
 ghost use lib.ListN.{length, getD};
 ghost use Rattle.frames.specs.Fields.{width as widthOf};
 ghost use Rattle.frames.specs.Kinds.{kindAt, none, fixedLength};
-ghost use Rattle.frames.specs.Rows.{decode, rowOf, sixAt, byteOf};
+ghost use Rattle.frames.specs.Rows.{decode, rowOf, wordsOf, byteOf};
 use super::fields::Field;
 use super::fields::wide;
 
@@ -38,105 +38,187 @@ fn field_of(code: u8) -> Field
     }
 }
 
-// The table by kind, in two halves of six bytes. An arm is a constant: the compiler keeps the arms as one read-only table, where a `const`
-// array would be laid on the stack at each look-up. From the lowest byte: text, length of the key, fixed length, item width, number of
-// fields, code of the item.
-fn measures(kind: u8) -> u64
-    ensures { λ r. ⌜ r ≡ sixAt (rowOf (kindAt kind)) 0 ⌝ }
-{
-    match kind {
-        0x00 => 0x00_03_00_04_00_00,
-        0x01 => 0x17_03_02_04_00_00,
-        0x02 => 0x00_04_00_08_00_00,
-        0x03 => 0x00_03_00_04_00_00,
-        0x04 => 0x00_02_00_03_00_00,
-        0x05 => 0x00_02_00_03_00_00,
-        0x06 => 0x13_02_01_03_00_00,
-        0x07 => 0x17_03_02_04_00_00,
-        0x08 => 0x17_04_02_05_00_00,
-        0x09 => 0x17_04_02_05_00_00,
-        0x0a => 0x17_05_02_06_00_00,
-        0x0b => 0x18_03_03_04_00_00,
-        0x0c => 0x18_04_03_05_00_00,
-        0x0d => 0x17_03_02_04_00_00,
-        0x0e => 0x17_04_02_05_00_00,
-        0x10 => 0x00_02_00_06_02_00,
-        0x11 => 0x00_02_00_06_02_00,
-        0x12 => 0x00_02_00_0d_01_00,
-        0x13 => 0x00_03_00_0b_03_00,
-        0x14 => 0x00_02_00_0a_02_00,
-        0x20 => 0x00_03_00_0c_01_00,
-        0x21 => 0x02_02_02_03_02_00,
-        0x22 => 0x16_03_02_06_05_00,
-        0x23 => 0x00_04_00_0a_06_00,
-        0x30 => 0x16_03_02_05_ff_02,
-        0x31 => 0x00_03_00_08_ff_02,
-        0x32 => 0x00_02_00_04_02_02,
-        0x3f => 0x00_06_00_0a_00_01,
-        0x40 => 0x1d_03_04_04_00_01,
-        0x41 => 0x00_03_00_04_00_01,
-        0x42 => 0x00_03_00_05_00_01,
-        0x43 => 0x00_02_00_03_00_01,
-        0x44 => 0x00_02_00_03_00_01,
-        0x45 => 0x00_02_00_03_00_01,
-        0x46 => 0x00_02_00_03_00_01,
-        0x47 => 0x17_03_02_06_00_01,
-        0x48 => 0x18_03_03_05_00_01,
-        0x49 => 0x17_03_02_05_00_01,
-        0x4a => 0x00_02_00_03_00_01,
-        0x4b => 0x00_02_00_06_00_01,
-        0x4c => 0x00_01_00_02_00_01,
-        _ => 0x00_00_00_01_00_03,
-    }
+// A row of the table by kind: twelve bytes, as two numbers of six. From the lowest byte, `measures`: text, length of the key, fixed length, item
+// width, number of fields, code of the item; `layout`: the codes of the fields.
+pub struct KindRow {
+    pub measures: u64,
+    pub layout: u64,
 }
 
-// The codes of the fields, the first one lowest.
-fn layout(kind: u8) -> u64
-    ensures { λ r. ⌜ r ≡ sixAt (rowOf (kindAt kind)) 6 ⌝ }
+// The table by kind. An arm is a constant: the compiler keeps the arms as read-only data, where a `const` array would be laid on the stack at
+// each look-up.
+fn table(kind: u8) -> KindRow
+    ensures { λ r. ⌜ r ≡ wordsOf (rowOf (kindAt kind)) ⌝ }
 {
     match kind {
-        0x00 => 0x00_00_00_90_90_c0,
-        0x01 => 0x00_00_00_90_01_10,
-        0x02 => 0x00_00_04_01_01_10,
-        0x03 => 0x00_00_00_12_01_10,
-        0x04 => 0x00_00_00_00_10_10,
-        0x05 => 0x00_00_00_00_11_10,
-        0x06 => 0x00_00_00_00_90_01,
-        0x07 => 0x00_00_00_90_01_10,
-        0x08 => 0x00_00_90_01_01_10,
-        0x09 => 0x00_00_90_01_01_10,
-        0x0a => 0x00_90_01_01_01_10,
-        0x0b => 0x00_00_00_90_01_10,
-        0x0c => 0x00_00_90_01_01_10,
-        0x0d => 0x00_00_00_90_01_10,
-        0x0e => 0x00_00_90_01_01_10,
-        0x10 => 0x00_00_00_00_04_01,
-        0x11 => 0x00_00_00_00_04_13,
-        0x12 => 0x00_00_00_00_04_15,
-        0x13 => 0x00_00_00_15_01_01,
-        0x14 => 0x00_00_00_00_15_01,
-        0x20 => 0x00_00_00_15_14_c0,
-        0x21 => 0x00_00_00_00_c0_13,
-        0x22 => 0x00_00_00_a0_19_02,
-        0x23 => 0x00_00_04_01_1a_16,
-        0x30 => 0x00_00_00_90_01_16,
-        0x31 => 0x00_00_00_04_01_16,
-        0x32 => 0x00_00_00_00_16_11,
-        0x3f => 0x02_02_02_90_90_c0,
-        0x40 => 0x00_00_00_92_13_10,
-        0x41 => 0x00_00_00_01_10_10,
-        0x42 => 0x00_00_00_17_01_10,
-        0x43 => 0x00_00_00_00_10_10,
-        0x44 => 0x00_00_00_00_11_10,
-        0x45 => 0x00_00_00_00_11_10,
-        0x46 => 0x00_00_00_00_10_10,
-        0x47 => 0x00_00_00_90_1b_10,
-        0x48 => 0x00_00_00_90_1c_10,
-        0x49 => 0x00_00_00_90_1c_10,
-        0x4a => 0x00_00_00_00_12_10,
-        0x4b => 0x00_00_00_00_04_10,
-        0x4c => 0x00_00_00_00_00_01,
-        _ => 0,
+        0x00 => KindRow {
+            measures: 0x00_03_00_04_00_00,
+            layout: 0x00_00_00_90_90_c0,
+        },
+        0x01 => KindRow {
+            measures: 0x17_03_02_04_00_00,
+            layout: 0x00_00_00_90_01_10,
+        },
+        0x02 => KindRow {
+            measures: 0x00_04_00_08_00_00,
+            layout: 0x00_00_04_01_01_10,
+        },
+        0x03 => KindRow {
+            measures: 0x00_03_00_04_00_00,
+            layout: 0x00_00_00_12_01_10,
+        },
+        0x04 => KindRow {
+            measures: 0x00_02_00_03_00_00,
+            layout: 0x00_00_00_00_10_10,
+        },
+        0x05 => KindRow {
+            measures: 0x00_02_00_03_00_00,
+            layout: 0x00_00_00_00_11_10,
+        },
+        0x06 => KindRow {
+            measures: 0x13_02_01_03_00_00,
+            layout: 0x00_00_00_00_90_01,
+        },
+        0x07 => KindRow {
+            measures: 0x17_03_02_04_00_00,
+            layout: 0x00_00_00_90_01_10,
+        },
+        0x08 => KindRow {
+            measures: 0x17_04_02_05_00_00,
+            layout: 0x00_00_90_01_01_10,
+        },
+        0x09 => KindRow {
+            measures: 0x17_04_02_05_00_00,
+            layout: 0x00_00_90_01_01_10,
+        },
+        0x0a => KindRow {
+            measures: 0x17_05_02_06_00_00,
+            layout: 0x00_90_01_01_01_10,
+        },
+        0x0b => KindRow {
+            measures: 0x18_03_03_04_00_00,
+            layout: 0x00_00_00_90_01_10,
+        },
+        0x0c => KindRow {
+            measures: 0x18_04_03_05_00_00,
+            layout: 0x00_00_90_01_01_10,
+        },
+        0x0d => KindRow {
+            measures: 0x17_03_02_04_00_00,
+            layout: 0x00_00_00_90_01_10,
+        },
+        0x0e => KindRow {
+            measures: 0x17_04_02_05_00_00,
+            layout: 0x00_00_90_01_01_10,
+        },
+        0x10 => KindRow {
+            measures: 0x00_02_00_06_02_00,
+            layout: 0x00_00_00_00_04_01,
+        },
+        0x11 => KindRow {
+            measures: 0x00_02_00_06_02_00,
+            layout: 0x00_00_00_00_04_13,
+        },
+        0x12 => KindRow {
+            measures: 0x00_02_00_0d_01_00,
+            layout: 0x00_00_00_00_04_15,
+        },
+        0x13 => KindRow {
+            measures: 0x00_03_00_0b_03_00,
+            layout: 0x00_00_00_15_01_01,
+        },
+        0x14 => KindRow {
+            measures: 0x00_02_00_0a_02_00,
+            layout: 0x00_00_00_00_15_01,
+        },
+        0x20 => KindRow {
+            measures: 0x00_03_00_0c_01_00,
+            layout: 0x00_00_00_15_14_c0,
+        },
+        0x21 => KindRow {
+            measures: 0x02_02_02_03_02_00,
+            layout: 0x00_00_00_00_c0_13,
+        },
+        0x22 => KindRow {
+            measures: 0x16_03_02_06_05_00,
+            layout: 0x00_00_00_a0_19_02,
+        },
+        0x23 => KindRow {
+            measures: 0x00_04_00_0a_06_00,
+            layout: 0x00_00_04_01_1a_16,
+        },
+        0x30 => KindRow {
+            measures: 0x16_03_02_05_ff_02,
+            layout: 0x00_00_00_90_01_16,
+        },
+        0x31 => KindRow {
+            measures: 0x00_03_00_08_ff_02,
+            layout: 0x00_00_00_04_01_16,
+        },
+        0x32 => KindRow {
+            measures: 0x00_02_00_04_02_02,
+            layout: 0x00_00_00_00_16_11,
+        },
+        0x3f => KindRow {
+            measures: 0x00_06_00_0a_00_01,
+            layout: 0x02_02_02_90_90_c0,
+        },
+        0x40 => KindRow {
+            measures: 0x1d_03_04_04_00_01,
+            layout: 0x00_00_00_92_13_10,
+        },
+        0x41 => KindRow {
+            measures: 0x00_03_00_04_00_01,
+            layout: 0x00_00_00_01_10_10,
+        },
+        0x42 => KindRow {
+            measures: 0x00_03_00_05_00_01,
+            layout: 0x00_00_00_17_01_10,
+        },
+        0x43 => KindRow {
+            measures: 0x00_02_00_03_00_01,
+            layout: 0x00_00_00_00_10_10,
+        },
+        0x44 => KindRow {
+            measures: 0x00_02_00_03_00_01,
+            layout: 0x00_00_00_00_11_10,
+        },
+        0x45 => KindRow {
+            measures: 0x00_02_00_03_00_01,
+            layout: 0x00_00_00_00_11_10,
+        },
+        0x46 => KindRow {
+            measures: 0x00_02_00_03_00_01,
+            layout: 0x00_00_00_00_10_10,
+        },
+        0x47 => KindRow {
+            measures: 0x17_03_02_06_00_01,
+            layout: 0x00_00_00_90_1b_10,
+        },
+        0x48 => KindRow {
+            measures: 0x18_03_03_05_00_01,
+            layout: 0x00_00_00_90_1c_10,
+        },
+        0x49 => KindRow {
+            measures: 0x17_03_02_05_00_01,
+            layout: 0x00_00_00_90_1c_10,
+        },
+        0x4a => KindRow {
+            measures: 0x00_02_00_03_00_01,
+            layout: 0x00_00_00_00_12_10,
+        },
+        0x4b => KindRow {
+            measures: 0x00_02_00_06_00_01,
+            layout: 0x00_00_00_00_04_10,
+        },
+        0x4c => KindRow {
+            measures: 0x00_01_00_02_00_01,
+            layout: 0x00_00_00_00_00_01,
+        },
+        _ => KindRow {
+            measures: 0x1_00_03,
+            layout: 0,
+        },
     }
 }
 
@@ -167,11 +249,11 @@ fn column(kind: u8, j: usize) -> u8
     requires { ⌜ j < 12 ⌝ }
     ensures { λ r. ⌜ r ≡ getD (rowOf (kindAt kind)) j 0 ⌝ }
 {
+    let found = table(kind);
     if j < 6 {
-        byte_of(measures(kind), j)
-    } else {
-        byte_of(layout(kind), j - 6)
+        return byte_of(found.measures, j);
     }
+    byte_of(found.layout, j - 6)
 }
 
 // The number of the text that has the kind.
