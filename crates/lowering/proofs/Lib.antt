@@ -1,0 +1,3 @@
+pub mod SetLaws
+pub mod OperandLaws
+pub mod AtomLaws

@@ -1,0 +1,3 @@
+pub mod sets;
+pub mod operands;
+pub mod atom;
