@@ -14,6 +14,10 @@ use Rattle.model.specs.Bools.{first, second}
 use Rattle.model.specs.Lowering.{pvIsBound, pvMarkBound, markAll}
 use Rattle.model.specs.Premises.{numbersBelow}
 use Rattle.cost.specs.QueryAtoms.{operandAt, operandsFrom, bytesFrom}
+use Rattle.frames.specs.Fields.{width}
+use Rattle.frames.specs.Kinds.{kindAt, fixedLength, itemsOf}
+use Rattle.frames.specs.Frames.{kindOf}
+use Rattle.lowering.specs.AtomLines.{itemOperands}
 use Rattle.lowering.proofs.SetLaws.{add-size}
 
 -- ---- one operand
@@ -43,14 +47,14 @@ module _ (f : List ℕ) (i t : ℕ) (is : t ≡ getD f i 0) where
 
 -- ---- n operands
 
-below-both : (n : ℕ) (us vs : List ℕ) → numbersBelow n (us ++ vs) ≡ true → (numbersBelow n us ≡ true) × (numbersBelow n vs ≡ true)
+pub below-both : (n : ℕ) (us vs : List ℕ) → numbersBelow n (us ++ vs) ≡ true → (numbersBelow n us ≡ true) × (numbersBelow n vs ≡ true)
 unfolding numbersBelow
 below-both n [] vs h = (refl, h)
 below-both n (u ∷ us) vs h =
     let r = below-both n us vs (second (ltb u n) (numbersBelow n (us ++ vs)) h) in
     (rw (first (ltb u n) (numbersBelow n (us ++ vs)) h) (r .0), r .1)
 
-mark-size : (B : Bound) (c : Operand) → numbersBelow (length B) (localOf c) ≡ true → length (pvMarkBound B c) ≡ length B
+pub mark-size : (B : Bound) (c : Operand) → numbersBelow (length B) (localOf c) ≡ true → length (pvMarkBound B c) ≡ length B
 unfolding numbersBelow
 mark-size B (local v) h = add-size B v (ltb-true v (length B) (first (ltb v (length B)) true h))
 mark-size B (global g) h = refl
@@ -145,3 +149,15 @@ module _ (f : List ℕ) (i w n : ℕ) (U : Bound) (k : ℕ) (m : AllIn f i w n U
   all-all h =
       let e : n - k ≡ 0 = omega arith in
       rw e at (m .is)
+
+-- ---- the items of a frame
+
+module _ (f : List ℕ) (k i w n : ℕ) (is : k ≡ getD f 0 0) (hi : i ≡ fixedLength (kindAt k)) (hw : w ≡ width (kindAt k .item)) (hn : n ≡ itemsOf (kindOf f) f) where
+  items-are : operandsFrom f i w n ≡ itemOperands f
+  items-are = rw (hi, hw, hn, is)
+
+  pub items-below : (B : Bound) → numbersBelow (length B) (flatMap localOf (itemOperands f)) ≡ true → numbersBelow (length B) (flatMap localOf (operandsFrom f i w n)) ≡ true
+  items-below B h = rw items-are h
+
+  pub items-marked : (B C : Bound) → C ≡ markAll B (operandsFrom f i w n) → C ≡ markAll B (itemOperands f)
+  items-marked B C h = rw (← items-are) h

@@ -9,13 +9,10 @@ ghost use Rattle.model.specs.Scheduling.{isFree, scans as scansOf};
 ghost use Rattle.cost.specs.QueryAtoms.{atomOfFrame};
 ghost use Rattle.lowering.specs.AtomLines.{AtomLine, Lowers};
 use super::operands::all_set;
-use super::operands::mark_operands;
+use super::operands::mark_items;
 use super::sets::is_set;
 use super::sets::set_bound;
 use frames::fields::wide;
-use frames::frame::items_of;
-use frames::kinds::fixed_length;
-use frames::kinds::item_width;
 use hex::byte_at;
 
 // Whether the atom is one that the choice by cost is among.
@@ -79,6 +76,6 @@ pub fn lower_bound(line: &[u8], bound: &mut [bool]) -> bool
     if kind == 5 {
         return true;
     }
-    mark_operands(line, fixed_length(kind), item_width(kind), items_of(line), bound);
+    mark_items(line, bound);
     true
 }

@@ -10,8 +10,12 @@ ghost use Rattle.model.specs.Bound.{hasAll};
 ghost use Rattle.model.specs.Lowering.{pvIsBound, pvMarkBound, markAll};
 ghost use Rattle.model.specs.Premises.{numbersBelow};
 ghost use Rattle.cost.specs.QueryAtoms.{operandAt, operandsFrom, bytesFrom};
+ghost use Rattle.lowering.specs.AtomLines.{itemOperands};
 use super::sets::is_set;
 use super::sets::set_bound;
+use frames::frame::items_of;
+use frames::kinds::fixed_length;
+use frames::kinds::item_width;
 use hex::byte_at;
 
 // Whether an operand is bound: a global always is.
@@ -49,6 +53,18 @@ pub fn mark_operands(line: &[u8], i: usize, w: usize, n: usize, bound: &mut [boo
         pv_mark_bound(line, i + w * k, bound);
         k += 1;
     }
+}
+
+// Marks the items of a frame, as the table of kinds has them.
+pub fn mark_items(line: &[u8], bound: &mut [bool])
+    requires { ⌜ numbersBelow (length (now bound)) (flatMap localOf (itemOperands (bytesOf (now line)))) ≡ true ⌝ }
+    ensures { λ r. ⌜ now (bound .exit) ≡ markAll (now (bound .entry)) (itemOperands (bytesOf (now (line .entry)))) ⌝ }
+{
+    let kind = byte_at(line, 0);
+    let i = fixed_length(kind);
+    let w = item_width(kind);
+    let n = items_of(line);
+    mark_operands(line, i, w, n, bound);
 }
 
 // Whether the n numbers, each w bytes behind the one before, from byte i on, are all in a set.

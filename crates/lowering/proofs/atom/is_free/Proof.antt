@@ -1,3 +1,4 @@
+use Rattle.lowering.proofs.AtomLaws.{free-pred, free-node, free-rest}
 use borrow.Author.Needs.{needs}
 use Rattle.lowering.proofs.atom.is_free.Statement.{statement}
 use Rattle.lowering.proofs.atom.is_free.Tie as tie
@@ -26,7 +27,7 @@ all-set-requires c κs = search needs
 
 -- src/atom.rt:40:9
 returns : tie.Need-returns
-returns c = ?
+returns c = search free-pred
 
 -- src/atom.rt:43:30
 byte-at-requires-3 : tie.Need-byte-at-requires-3
@@ -38,11 +39,11 @@ is-set-requires c κs = search needs
 
 -- src/atom.rt:43:9
 returns-2 : tie.Need-returns-2
-returns-2 c = ?
+returns-2 c = search free-node
 
 -- src/atom.rt:34:1
 returns-3 : tie.Need-returns-3
-returns-3 c = ?
+returns-3 c = search free-rest
 
 pub is-free-spec : {M : Type 1} → statement M
 is-free-spec =

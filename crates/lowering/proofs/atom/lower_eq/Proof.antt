@@ -1,3 +1,4 @@
+use Rattle.lowering.proofs.AtomLaws.{eq-forth, eq-back, eq-none}
 use borrow.Author.Needs.{needs}
 use Rattle.lowering.proofs.atom.lower_eq.Statement.{statement}
 use Rattle.lowering.proofs.atom.lower_eq.Tie as tie
@@ -20,7 +21,7 @@ same-length c = search needs
 
 -- src/atom.rt:55:9
 returns : tie.Need-returns
-returns c = ?
+returns c = search eq-forth
 
 -- src/atom.rt:57:8
 is-set-requires-2 : tie.Need-is-set-requires-2
@@ -36,7 +37,7 @@ same-length-2 c = search needs
 
 -- src/atom.rt:59:9
 returns-2 : tie.Need-returns-2
-returns-2 c = ?
+returns-2 c = search eq-back
 
 -- src/atom.rt:49:1
 same-length-3 : tie.Need-same-length-3
@@ -44,7 +45,7 @@ same-length-3 c = search needs
 
 -- src/atom.rt:49:1
 returns-3 : tie.Need-returns-3
-returns-3 c = ?
+returns-3 c = search eq-none
 
 pub lower-eq-spec : {M : Type 1} → statement M
 lower-eq-spec =

@@ -1,3 +1,4 @@
+use Rattle.lowering.proofs.AtomLaws.{scans-low, scans-high}
 use borrow.Author.Needs.{needs}
 use Rattle.lowering.proofs.atom.scans.Statement.{statement}
 use Rattle.lowering.proofs.atom.scans.Tie as tie
@@ -11,11 +12,11 @@ byte-at-requires c κs = search needs
 
 -- src/atom.rt:28:9
 returns : tie.Need-returns
-returns c = ?
+returns c = search scans-low
 
 -- src/atom.rt:22:1
 returns-2 : tie.Need-returns-2
-returns-2 c = ?
+returns-2 c = search scans-high
 
 pub scans-spec : {M : Type 1} → statement M
 scans-spec = tie.close (tie.spec byte-at-requires returns returns-2)
