@@ -106,11 +106,11 @@ module _ (f : List ℕ) (i w n : ℕ) (B₀ B : Bound) (k : ℕ) (m : Marked f i
 
 -- ---- n numbers
 
-is-true : (r : Bool) → not r ≡ false → r ≡ true
+pub is-true : (r : Bool) → not r ≡ false → r ≡ true
 is-true true q = refl
 is-true false q = sym q
 
-is-false : (r : Bool) → not r ≡ true → r ≡ false
+pub is-false : (r : Bool) → not r ≡ true → r ≡ false
 is-false true q = sym q
 is-false false q = refl
 

@@ -1,1 +1,2 @@
 pub mod AtomLines
+pub mod Eager
