@@ -41,7 +41,7 @@ loop-less c = search needs
 
 -- src/eager.rt:64:5
 loop-again : tie.Need-loop-again Inv-loop μ-loop
-loop-again c = search passing-again
+loop-again c = passing-again _ _ _ _ _ _ _ _ _ _ _ _ (c .before .before .before .before .before .before .before .before .before .before .before .before .before .loop .inv) (c .before .before .before .before .before .before .before .before .before .before .before .before .before .before .before .before .before .before .before .pre .0) (c .before .before .before .before .before .before .before .before .before .before .before .before .loop-test .taken) _ _ (c .before .before .before .before .before .before .before .before .before .before .before .atom-line .ensures) (c .before .before .before .before .before .before .before .before .before .before .narrow .ensures) _ _ _ _ (c .before .before .before .before .before .before .try-at .ensures)
 
 -- src/eager.rt:57:1
 same-length : tie.Need-same-length Inv-loop μ-loop
