@@ -5,7 +5,7 @@ use mathlib.Core.Option.{Option, none, some}
 use mathlib.Core.List.{List, [], _∷_}
 use lib.Ieee.{Float, lt}
 use Rattle.model.specs.Atoms.{Atom, Step}
-use Rattle.model.specs.Bound.{Bound, has, add}
+use Rattle.model.specs.Bound.{Bound, has, add, blank}
 use Rattle.model.specs.Scheduling.{State, unplanned, Chosen, Fair, unlowered, lowerEager, emitAt, atomOf, numbers, schedule}
 use Rattle.model.specs.Cheapest.{Priced, cheapest, cheapest-fair, fair-around}
 use Rattle.cost.specs.Emitters.{Emitters, recordAtom, recordEmitters}
@@ -65,4 +65,4 @@ module _ (fs : List (List ℕ)) (qs : List Atom) where
 
   unfoldable pub remembered : Memory
   unfolding memoryLoop
-  remembered = memoryLoop (suc (unlowered [] (numbers qs))) fresh unplanned
+  remembered = memoryLoop (suc (unlowered blank (numbers qs))) fresh unplanned

@@ -4,7 +4,7 @@ use mathlib.Core.Path.{_≡_, refl}
 use mathlib.Core.List.{List, [], _∷_}
 use lib.Ieee.{ofInt, ofBits, lt, mul, div}
 use Rattle.model.specs.Atoms.{Step, Join, ExtractChild, ByOp, ByRepr}
-use Rattle.model.specs.Bound.{put, hasAll}
+use Rattle.model.specs.Bound.{put, hasAll, blank}
 use Rattle.model.specs.Tabulate.{tabulate}
 use Rattle.model.specs.Lowering.{markAll, emitReadChildren, childLookups, lower}
 use Rattle.model.specs.Scheduling.{unlowered, eagerPass, passesUpTo, roundsUpTo, atomOf}
@@ -35,5 +35,5 @@ steps =
     ∷ []
 
 pub worked : planned query (atomsIn query) .steps ≡ steps
-unfolding query steps planned atomsIn atomOfFrame operandsFrom bytesFrom put hasAll tabulate markAll emitReadChildren childLookups lower unlowered eagerPass passesUpTo roundsUpTo atomOf scan cheapest begins find opCard atomCard baseCard denominator byChildPos settings setChildren recordAtom recordEmitters childCosts estimateCost ofInt ofBits lt mul div
+unfolding query steps planned atomsIn atomOfFrame operandsFrom bytesFrom put hasAll blank tabulate markAll emitReadChildren childLookups lower unlowered eagerPass passesUpTo roundsUpTo atomOf scan cheapest begins find opCard atomCard baseCard denominator byChildPos settings setChildren recordAtom recordEmitters childCosts estimateCost ofInt ofBits lt mul div
 worked = refl

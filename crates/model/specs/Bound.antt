@@ -99,3 +99,18 @@ pub blank-at : {A : Type 0} (n : ℕ) (d : A) (i : ℕ) → getD (replicate n d)
 blank-at zero d i = refl
 blank-at (suc n) d zero = refl
 blank-at (suc n) d (suc i) = blank-at n d i
+
+-- "variables 64", "atoms 64": the places of an array
+abbrev pub most : ℕ
+most = 64
+
+-- nothing is bound, nothing is lowered
+unfoldable pub blank : Bound
+blank = replicate most false
+
+pub has-blank : (v : ℕ) → has blank v ≡ false
+unfolding blank
+has-blank v = blank-at most false v
+
+pub not-blank : {X : Type 0} (v : ℕ) → has blank v ≡ true → X
+not-blank v h = absurd (subst T (sym h ∙ has-blank v) tt)

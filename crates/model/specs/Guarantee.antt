@@ -2,20 +2,20 @@
 use mathlib.Core.Path.{_≡_, sym, subst, ap, _∙_}
 use mathlib.Core.Logic.{∥∥₁-elim, ∥∥₁-map, _≢_}
 use Prim.Native.Nat.{ℕ, _<_, _≤_}
-use mathlib.Core.Bool.{true}
+use mathlib.Core.Bool.{true, false}
 use mathlib.Core.List.{List, [], _∷_, map, Memᴰ·map, Memᴰ·of-map, Memᴰ·cast, Pairwise·nil, Pairwise·cons, List·Nodup, Perm, perm-ext-iff-of-nodup, _++_, List·Memᴰ, flatMap}
 use lib.ListN.{length, drop, length-map}
 use mathlib.Core.HLevel.{⊥-prop}
 use Rattle.model.specs.Lists.{Pairs, flat-map}
 use Rattle.model.specs.Atoms.{Atom, Table}
-use Rattle.model.specs.Bound.{has}
+use Rattle.model.specs.Bound.{Bound, has, blank, has-blank}
 use Rattle.model.specs.Scheduling.{State, Chosen, Fair, atomOf, numbers, schedule}
 use Rattle.model.specs.Reading.{boundFirst}
 use Rattle.model.specs.Running.{Env, Blank, runs}
 use Rattle.model.specs.Refusing.{isRun, allRunnable, allFit}
 use Rattle.model.specs.Matching.{InShapes, mentions, mentionsLit, Line, line, assignedBy, IsMatch, Given, Exact}
 use Rattle.model.specs.Limits.{trace, attempts, Done, Played}
-use Rattle.model.specs.BoundFirst.{bound-before-read}
+use Rattle.model.specs.BoundFirst.{first-alike, bound-before-read}
 use Rattle.model.specs.Final.{start-inv, holds}
 use Rattle.model.specs.Lines.{SameAtoms, any-same, holds-mem, mem-holds, shape-mem, mem-shape}
 use Rattle.model.specs.Matches.{found-is-match, match-is-found, lines-once}
@@ -27,9 +27,9 @@ module _ (qs : List Atom) {X : Type 0} (choose : X → State → Chosen X) (x : 
   made : Ordered (atomOf qs) (numbers qs) (schedule qs choose x)
   made = ordered (atomOf qs) (numbers qs) (schedule qs choose x) (reached qs choose x fair)
 
-  -- the plan, whatever its atoms, is not turned back for 9
-  pub schedule-bound-first : boundFirst [] [] (schedule qs choose x .steps) ≡ true
-  schedule-bound-first = bound-before-read (made .lowered) []
+  -- the plan, whatever its atoms, is not turned back for 9: where nothing is bound yet
+  pub schedule-bound-first : (B R : Bound) → ((v : ℕ) → has B v ≡ false) → boundFirst B R (schedule qs choose x .steps) ≡ true
+  schedule-bound-first B R h = first-alike (schedule qs choose x .steps) B blank R (λ v. h v ∙ sym (has-blank v)) ∙ bound-before-read (made .lowered) R
 
   order-mem : (a : Atom) → List·Memᴰ a (map (atomOf qs) (made .order)) → List·Memᴰ a qs
   order-mem a m = let r = Memᴰ·of-map (atomOf qs) (made .order) m in Memᴰ·cast (sym (r .2)) (number-mem qs (r .0) (made .known (r .0) (r .1)))

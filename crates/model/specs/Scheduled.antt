@@ -14,7 +14,7 @@ use borrow.Author.Tests.{eqb-true, eqb-false}
 use Rattle.base.specs.Choose.{pick}
 use Rattle.model.specs.Tabulate.{At, mem-tabulate, tabulate-mem}
 use Rattle.model.specs.Atoms.{Atom, Plain, Lit, LitBind, Eq, EqGlobal, Pred, Variadic, Step}
-use Rattle.model.specs.Bound.{Bound, has, add, hasAll, put-same, put-other, add-keeps}
+use Rattle.model.specs.Bound.{Bound, has, add, hasAll, put-same, put-other, add-keeps, blank, not-blank}
 use Rattle.model.specs.Lowering.{Emitted, lowerEq, lowerEqGlobal, lower, Lowered, done, more}
 use Rattle.model.specs.Scheduling.{depsUsed, isFree, onlyIf, tryEagerLower, scans, State, unplanned, took, settle, unlowered, Chosen, tryAt, eagerPass, passesUpTo, lowerEager, emitAt, goOn, roundsUpTo, scheduleFrom, Fair, atomOf, numbers, schedule}
 
@@ -61,12 +61,12 @@ module _ (atomAt : ℕ → Atom) (js : List ℕ) where
   -- the order in which the atoms were lowered: the numbers that are used, each known
   pub record Ordered (st : State) : Type 0 where
     pub order : List ℕ
-    pub lowered : Lowered atomAt [] (st .steps) (st .bound) order
+    pub lowered : Lowered atomAt blank (st .steps) (st .bound) order
     pub all : (i : ℕ) → has (st .used) i ≡ true → List·Memᴰ i order
     pub known : (i : ℕ) → List·Memᴰ i order → List·Memᴰ i js
 
   pub ordered : (st : State) → Reached atomAt js st → Ordered st
-  ordered st fresh = record { order = []; lowered = done; all = λ i h. absurd (subst T (sym h) tt); known = λ i m. absurd (List·Memᴰ·not-nil m) }
+  ordered st fresh = record { order = []; lowered = done; all = λ i h. not-blank i h; known = λ i m. absurd (List·Memᴰ·not-nil m) }
   ordered st (takes {st = s} i l r m u d e) = grow (ordered s r)
     where
       grow : Ordered s → Ordered (took s i l)
@@ -354,11 +354,11 @@ number-mem qs i m = let q = tabulate-mem (length qs) (λ j. j) i m in at-mem qs 
 
 module _ (qs : List Atom) {X : Type 0} (choose : X → State → Chosen X) (x : X) (fair : Fair (atomOf qs) (numbers qs) choose) where
   pub reached : Reached (atomOf qs) (numbers qs) (schedule qs choose x)
-  reached = rounds-reached (atomOf qs) (numbers qs) choose fair (suc (unlowered [] (numbers qs))) x unplanned fresh
+  reached = rounds-reached (atomOf qs) (numbers qs) choose fair (suc (unlowered blank (numbers qs))) x unplanned fresh
 
   -- what is not lowered waits
   pub left-waits : (i : ℕ) → i < length qs → has (schedule qs choose x .used) i ≡ false → Waits (schedule qs choose x .used) (schedule qs choose x .bound) (atomOf qs i)
   left-waits i h u =
-      let e = rounds-ended (atomOf qs) (numbers qs) choose fair (suc (unlowered [] (numbers qs))) x unplanned (omega arith) in
+      let e = rounds-ended (atomOf qs) (numbers qs) choose fair (suc (unlowered blank (numbers qs))) x unplanned (omega arith) in
       let m = mem-tabulate (length qs) (λ j. j) i h in
       waits (schedule qs choose x .used) (schedule qs choose x .bound) i (atomOf qs i) (e .idle i m u) (e .noscan i m u)

@@ -1,0 +1,195 @@
+-- An eager pass, atom by atom. Proved by what each try does, and by composition.
+use Prim.Native.Nat.{ℕ, zero, suc, _+_, _-_, _<_, _≤_}
+use mathlib.Core.Path.{_≡_, refl, sym, _∙_, ap, subst}
+use mathlib.Core.Bool.{Bool, true, false, not}
+use mathlib.Core.Option.{Option, none, some}
+use mathlib.Core.List.{List, [], _∷_, _++_, append-nil, append-assoc, List·Memᴰ}
+use native.Mathlib.Omega.{arith}
+use native.Mathlib.Numerals.{add-one}
+use lib.Dec.{T, eqb}
+use Rattle.base.specs.Choose.{pick}
+use Rattle.hex.specs.Digits.{bytesOf}
+use lib.ListN.{length, getD, take, drop, set, length-set, length-append}
+use lib.Seq.{take-suc, take-suc-set, take-length}
+use Rattle.hex.specs.Lines.{endOf}
+use Rattle.model.specs.Atoms.{Atom, Step}
+use Rattle.model.specs.Tabulate.{tabulate-at, tabulate-length, mem-tabulate}
+use Rattle.model.specs.Bound.{Bound, has, add, most}
+use Rattle.model.specs.Lowering.{Emitted, lower}
+use Rattle.model.specs.Scheduling.{State, isFree, onlyIf, settle, unlowered, tryAt, emitAt, eagerPass, lowerEager, atomOf, numbers}
+use Rattle.model.specs.Scheduled.{unlowered-lt, lower-eager-is}
+use Rattle.cost.specs.QueryAtoms.{atomOfFrame}
+use Rattle.lowering.specs.AtomLines.{AtomLine, lowers, boundBehind, Lowers}
+use Rattle.lowering.specs.Eager.{state, replay, Went, Tries, lineAt, atomsOf, Located, Ready, Passed, LoweredEager}
+use Rattle.lowering.proofs.SetLaws.{add-size}
+use Rattle.lowering.proofs.OperandLaws.{is-true, is-false}
+
+-- ---- composition
+
+module _ (atomAt : ℕ → Atom) (js : List ℕ) where
+  -- nothing is taken
+  went-none : (go : State → State) (U B : Bound) (O : List ℕ) (c : ℕ) → ((ss : List Step) → go (state U B ss) ≡ state U B ss) → Went atomAt js go U B O c U B O c
+  unfolding replay
+  went-none go U B O c h = record {
+    new = [];
+    is = h;
+    used = λ ss. ap (λ (s : State). s .used) (h ss);
+    bound = λ ss. ap (λ (s : State). s .bound) (h ss);
+    order = sym (append-nil (take c O));
+    count = omega arith;
+    left = omega arith;
+    used-size = refl;
+    bound-size = refl;
+    order-size = refl;
+  }
+
+  replay-append : (ks ls : List ℕ) (st : State) → replay atomAt js (ks ++ ls) st ≡ replay atomAt js ls (replay atomAt js ks st)
+  unfolding replay
+  replay-append [] ls st = refl
+  replay-append (k ∷ ks) ls st = replay-append ks ls (emitAt atomAt js k st)
+
+  went-then : (f g : State → State) {U B : Bound} {O : List ℕ} {c : ℕ} {U′ C : Bound} {P : List ℕ} {d : ℕ} {U″ D : Bound} {Q : List ℕ} {e : ℕ} → Went atomAt js f U B O c U′ C P d → Went atomAt js g U′ C P d U″ D Q e → Went atomAt js (λ st. g (f st)) U B O c U″ D Q e
+  went-then f g {U} {B} {O} {c} {U′} {C} {P} {d} {U″} {D} {Q} {e} a b = record {
+    new = a .new ++ b .new;
+    is = λ ss. ap g (mid ss) ∙ b .is (steps ss) ∙ ap (replay atomAt js (b .new)) (sym (mid ss) ∙ a .is ss) ∙ sym (replay-append (a .new) (b .new) (state U B ss));
+    used = λ ss. ap (λ (s : State). g s .used) (mid ss) ∙ b .used (steps ss);
+    bound = λ ss. ap (λ (s : State). g s .bound) (mid ss) ∙ b .bound (steps ss);
+    order = b .order ∙ ap (λ (l : List ℕ). l ++ b .new) (a .order) ∙ append-assoc (take c O) (a .new) (b .new);
+    count = omega (arith, a .count, b .count, length-append (a .new) (b .new));
+    left = omega (arith, a .left, b .left);
+    used-size = b .used-size ∙ a .used-size;
+    bound-size = b .bound-size ∙ a .bound-size;
+    order-size = b .order-size ∙ a .order-size;
+  }
+    where
+      steps : List Step → List Step
+      steps ss = f (state U B ss) .steps
+
+      mid : (ss : List Step) → f (state U B ss) ≡ state U′ C (steps ss)
+      mid ss = λ j. record { used = a .used ss j; bound = a .bound ss j; steps = steps ss }
+
+-- ---- one atom
+
+module _ (f : List ℕ) (i : ℕ) (U B : Bound) (O : List ℕ) (c : ℕ) (t : Bool) (is : t ≡ has U i) where
+  pub tried-used : t ≡ true → Tries f i U B O c U B O c
+  tried-used h = record { went = λ at js e m. went-none at js (tryAt at js i) U B O c (λ ss. rw (sym is ∙ h)) }
+
+  module _ (new : t ≡ false) (q : Bool) (free : q ≡ isFree U B (atomOfFrame f)) where
+    pub tried-not-free : not q ≡ true → Tries f i U B O c U B O c
+    tried-not-free h = record { went = λ at js e m. went-none at js (tryAt at js i) U B O c (λ ss. rw (sym is ∙ new, e, sym free ∙ is-false q h)) }
+
+    module _ (h : not q ≡ false) (C : Bound) (r : Bool) (l : Lowers B (atomOfFrame f) r C) where
+      waits-same : (o : Option Emitted) → lowers o ≡ r → boundBehind B o ≡ C → r ≡ false → (o ≡ none) × (B ≡ C)
+      waits-same none p b z = (refl, b)
+      waits-same (some x) p b z = absurd (subst T (p ∙ z) tt)
+
+      pub tried-waits : not r ≡ true → Tries f i U B O c U C O c
+      tried-waits g =
+          let w = waits-same (lower B i (atomOfFrame f)) (l .is i) (l .bound i) (is-false r g) in
+          rw (← w .1) (record { went = λ at js e m. went-none at js (tryAt at js i) U B O c (λ ss. rw (sym is ∙ new, e, sym free ∙ is-true q h, w .0)) })
+
+      pub tried-takes : (U′ : Bound) → not r ≡ false → U′ ≡ add U i → i < length U → c < length O → Tries f i U B O c U′ C (set O c i) (c + 1)
+      unfolding replay
+      tried-takes U′ g v below room = record { went = λ at js e m. at-some at js e m (lower B i (atomOfFrame f)) refl }
+        where
+          at-some : (at : ℕ → Atom) (js : List ℕ) → at i ≡ atomOfFrame f → List·Memᴰ i js → (o : Option Emitted) → lower B i (atomOfFrame f) ≡ o → Went at js (tryAt at js i) U B O c U′ C (set O c i) (c + 1)
+          at-some at js e m none p = absurd (subst T (sym (ap lowers (sym p) ∙ l .is i ∙ is-true r g)) tt)
+          at-some at js e m (some x) p = record {
+            new = i ∷ [];
+            is = λ ss. rw (sym is ∙ new, e, sym free ∙ is-true q h);
+            used = λ ss. rw (sym is ∙ new, e, sym free ∙ is-true q h, p) (sym v);
+            bound = λ ss. rw (sym is ∙ new, e, sym free ∙ is-true q h, p) (ap (boundBehind B) (sym p) ∙ l .bound i);
+            order = rw (add-one c) (take-suc-set O c i room);
+            count = refl;
+            left = rw v (omega (arith, unlowered-lt U i js (sym is ∙ new) m));
+            used-size = ap length v ∙ add-size U i below;
+            bound-size = l .size;
+            order-size = length-set O c i;
+          }
+
+pub has-room : (i : ℕ) (U : Bound) (O : List ℕ) (c : ℕ) (t : Bool) → t ≡ has U i → t ≡ false → (has U i ≡ false → c < length O) → c < length O
+has-room i U O c t is h room = room (sym is ∙ h)
+
+-- ---- the line of an atom
+
+pub end-from : (x : List ℕ) (at e : ℕ) → e ≡ endOf at (drop at x) → at ≤ e
+end-from x at e h = rw h (go (drop at x) at)
+  where
+    go : (t : List ℕ) (at : ℕ) → at ≤ endOf at t
+    go [] at = omega arith
+    go (b ∷ t) at = by (eqb b 10) (go t (suc at))
+      where
+        by : (d : Bool) → suc at ≤ endOf (suc at) t → at ≤ pick d at (endOf (suc at) t)
+        by true h = omega arith
+        by false h = omega arith
+
+pub line-is : (x from : List ℕ) (k at e : ℕ) → at ≡ getD from k 0 → e ≡ endOf at (drop at x) → take (e - at) (drop at x) ≡ lineAt x (getD from k 0)
+line-is x from k at e p q = rw (← p, q)
+
+-- ---- a pass
+
+-- i atoms are tried
+pub record Passing (x : List ℕ) (n : ℕ) (U₀ B₀ : Bound) (O₀ : List ℕ) (c₀ : ℕ) (U B : Bound) (O : List ℕ) (c i : ℕ) : Type 0 where
+  pub few : i ≤ n
+  pub went : Went (atomOf (atomsOf x)) (numbers (atomsOf x)) (eagerPass (atomOf (atomsOf x)) (numbers (atomsOf x)) (take i (numbers (atomsOf x)))) U₀ B₀ O₀ c₀ U B O c
+
+pub passing-none : (x : List ℕ) (n : ℕ) (U B : Bound) (O : List ℕ) (c : ℕ) → Passing x n U B O c U B O c 0
+unfolding eagerPass
+passing-none x n U B O c = record { few = omega arith; went = went-none _ _ (eagerPass (atomOf (atomsOf x)) (numbers (atomsOf x)) []) U B O c (λ ss. refl) }
+
+pass-append : (at : ℕ → Atom) (js ks ls : List ℕ) (st : State) → eagerPass at js (ks ++ ls) st ≡ eagerPass at js ls (eagerPass at js ks st)
+unfolding eagerPass
+pass-append at js [] ls st = refl
+pass-append at js (k ∷ ks) ls st = pass-append at js ks ls (tryAt at js k st)
+
+pass-snoc : (at : ℕ → Atom) (js ks : List ℕ) (i : ℕ) → eagerPass at js (ks ++ i ∷ []) ≡ (λ st. tryAt at js i (eagerPass at js ks st))
+unfolding eagerPass
+pass-snoc at js ks i = λ j st. pass-append at js ks (i ∷ []) st j
+
+module _ (x from : List ℕ) (n : ℕ) (U₀ B₀ : Bound) (O₀ : List ℕ) (c₀ : ℕ) (U B : Bound) (O : List ℕ) (c i : ℕ) (p : Passing x n U₀ B₀ O₀ c₀ U B O c i) (z : Located x from n) where
+  module _ (h : i < n) where
+    number : getD (numbers (atomsOf x)) i 0 ≡ i
+    number = tabulate-at (length (atomsOf x)) (λ k. k) i 0 (rw (← z .count) h)
+
+    within : i < length (numbers (atomsOf x))
+    within = rw (tabulate-length (length (atomsOf x)) (λ k. k), ← z .count) h
+
+    mem : List·Memᴰ i (numbers (atomsOf x))
+    mem = mem-tabulate (length (atomsOf x)) (λ k. k) i (rw (← z .count) h)
+
+    more : take (i + 1) (numbers (atomsOf x)) ≡ take i (numbers (atomsOf x)) ++ i ∷ []
+    more = rw (add-one i, take-suc (numbers (atomsOf x)) i 0 within, number)
+
+    pub place-sized : i < length from
+    place-sized = omega (arith, z .size)
+
+    pub place-within : getD from i 0 ≤ length x
+    place-within = z .within i h
+
+    module _ (l : List ℕ) (v : ℕ) (line : l ≡ lineAt x (getD from i 0)) (narrow : v ≡ i) where
+      pub line-ready : AtomLine (bytesOf l)
+      line-ready = rw line (z .line i h)
+
+      pub number-below : Ready x U₀ B₀ O₀ c₀ → v < length U
+      number-below r = omega (arith, p .went .used-size, r .used, z .few)
+
+      pub order-room : Ready x U₀ B₀ O₀ c₀ → (has U v ≡ false → c < length O)
+      order-room r g =
+          let k = unlowered-lt U i (numbers (atomsOf x)) (rw narrow at g) mem in
+          omega (arith, p .went .left, p .went .order-size, r .room, r .order)
+
+      pub passing-again : (U′ C : Bound) (P : List ℕ) (d : ℕ) → Tries (bytesOf l) v U B O c U′ C P d → Passing x n U₀ B₀ O₀ c₀ U′ C P d (i + 1)
+      passing-again U′ C P d t = record {
+        few = omega arith;
+        went = rw (more, pass-snoc (atomOf (atomsOf x)) (numbers (atomsOf x)) (take i (numbers (atomsOf x))) i)
+            (went-then (atomOf (atomsOf x)) (numbers (atomsOf x)) (eagerPass (atomOf (atomsOf x)) (numbers (atomsOf x)) (take i (numbers (atomsOf x)))) (tryAt (atomOf (atomsOf x)) (numbers (atomsOf x)) i) (p .went)
+            ((rw (narrow, line) at t) .went (atomOf (atomsOf x)) (numbers (atomsOf x)) (z .is i h) mem));
+      }
+
+  pub bound-sized : Ready x U₀ B₀ O₀ c₀ → length B ≡ most
+  bound-sized r = p .went .bound-size ∙ r .bound
+
+  pub passed : n ≤ i → Passed x U₀ B₀ O₀ c₀ U B O c
+  passed h =
+      let e : i ≡ length (numbers (atomsOf x)) = omega (arith, p .few, z .count, tabulate-length (length (atomsOf x)) (λ k. k)) in
+      rw (e, take-length (numbers (atomsOf x))) at (p .went)

@@ -1,0 +1,4 @@
+pub mod SetLaws
+pub mod OperandLaws
+pub mod AtomLaws
+pub mod EagerLaws

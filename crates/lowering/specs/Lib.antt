@@ -1,0 +1,2 @@
+pub mod AtomLines
+pub mod Eager
