@@ -1,4 +1,4 @@
-pub mod sets;
-pub mod operands;
 pub mod atom;
 pub mod eager;
+pub mod operands;
+pub mod sets;

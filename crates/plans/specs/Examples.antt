@@ -7,7 +7,7 @@ use lib.Dec.{ltb}
 use lib.ListN.{length, replicate}
 use Rattle.model.specs.Tabulate.{tabulate, tabulate-length}
 use Rattle.model.specs.Atoms.{global, Atom, Plain, ByOp, ByRepr, Step, Join, ExtractChild}
-use Rattle.model.specs.Bound.{put}
+use Rattle.model.specs.Bound.{put, blank}
 use Rattle.model.specs.Lowering.{markAll, emitReadChildren, childLookups, lower}
 use Rattle.model.specs.Scheduling.{State, unlowered, Chosen, Fair, eagerPass, passesUpTo, roundsUpTo, atomOf, numbers, schedule}
 use Rattle.model.specs.Cheapest.{Priced, scan, cheapest, cheapest-fair}
@@ -46,7 +46,7 @@ unfoldable pub choose : Unit {0} → State → Chosen (Unit {0})
 choose = cheapest (atomOf widest) (numbers widest) cost ltb
 
 widest-lines : textLength (map frameOf (schedule widest choose tt .steps)) ≡ 20544
-unfolding choose cheapest scan cost widest atomOf roundsUpTo passesUpTo eagerPass unlowered tabulate lower emitReadChildren markAll childLookups put textLength frameOf flatMap
+unfolding choose cheapest scan cost widest atomOf roundsUpTo passesUpTo eagerPass unlowered tabulate lower emitReadChildren markAll childLookups put blank textLength frameOf flatMap
 widest-lines = refl
 
 each-tabulate : {X : Type 0} (P : X → Type 0) (n : ℕ) (f : ℕ → X) → ((i : ℕ) → i < n → P (f i)) → Each P (tabulate n f)
@@ -72,7 +72,7 @@ widest-fits = record {
 }
 
 pub widest-steps : length (schedule widest choose tt .steps) ≡ 1088
-unfolding choose cheapest scan cost widest atomOf roundsUpTo passesUpTo eagerPass unlowered tabulate lower emitReadChildren markAll childLookups put
+unfolding choose cheapest scan cost widest atomOf roundsUpTo passesUpTo eagerPass unlowered tabulate lower emitReadChildren markAll childLookups put blank
 widest-steps = refl
 
 pub widest-bytes : length (planText 64 1 0 0 0 (schedule widest choose tt .steps)) ≡ 20565
