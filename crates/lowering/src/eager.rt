@@ -14,7 +14,14 @@ use super::sets::set_bound;
 use hex::line_end;
 
 // Takes atom i, by its line, where it is not lowered yet and an eager pass lowers it; c atoms were taken before. How many now are.
-fn try_at(line: &[u8], i: u8, used: &mut [bool], bound: &mut [bool], order: &mut [u8], c: usize) -> usize
+fn try_at(
+    line: &[u8],
+    i: u8,
+    used: &mut [bool],
+    bound: &mut [bool],
+    order: &mut [u8],
+    c: usize,
+) -> usize
     requires { ⌜ AtomLine (bytesOf (now line)) ⌝ }
     requires { ⌜ length (now bound) ≡ most ⌝ }
     requires { ⌜ i < length (now used) ⌝ }
@@ -54,7 +61,15 @@ fn narrow(i: usize) -> u8
 }
 
 // One pass over the n atoms, from atom 0 on.
-pub fn eager_pass(text: &[u8], from: &[usize], n: usize, used: &mut [bool], bound: &mut [bool], order: &mut [u8], count: usize) -> usize
+pub fn eager_pass(
+    text: &[u8],
+    from: &[usize],
+    n: usize,
+    used: &mut [bool],
+    bound: &mut [bool],
+    order: &mut [u8],
+    count: usize,
+) -> usize
     requires { ⌜ Located (now text) (now from) n ⌝ }
     requires { ⌜ Ready (now text) (now used) (now bound) (now order) count ⌝ }
     ensures { λ r. ⌜ Passed (now (text .entry)) (now (used .entry)) (now (bound .entry)) (now (order .entry)) count (now (used .exit)) (now (bound .exit)) (now (order .exit)) r ⌝ }
@@ -70,7 +85,15 @@ pub fn eager_pass(text: &[u8], from: &[usize], n: usize, used: &mut [bool], boun
 }
 
 // Passes until one lowers nothing.
-pub fn lower_eager(text: &[u8], from: &[usize], n: usize, used: &mut [bool], bound: &mut [bool], order: &mut [u8], count: usize) -> usize
+pub fn lower_eager(
+    text: &[u8],
+    from: &[usize],
+    n: usize,
+    used: &mut [bool],
+    bound: &mut [bool],
+    order: &mut [u8],
+    count: usize,
+) -> usize
     requires { ⌜ Located (now text) (now from) n ⌝ }
     requires { ⌜ Ready (now text) (now used) (now bound) (now order) count ⌝ }
     ensures { λ r. ⌜ LoweredEager (now (text .entry)) (now (used .entry)) (now (bound .entry)) (now (order .entry)) count (now (used .exit)) (now (bound .exit)) (now (order .exit)) r ⌝ }

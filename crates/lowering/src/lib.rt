@@ -1,5 +1,5 @@
-pub mod sets;
-pub mod operands;
 pub mod atom;
 pub mod eager;
+pub mod operands;
 pub mod places;
+pub mod sets;

@@ -1,3 +1,4 @@
+-- `lowering::eager::lower_eager` meets its contract: the passes so far, composed; a pass that takes nothing is the last.
 use borrow.Author.Needs.{needs}
 use Prim.Native.Nat.{_+_}
 use Rattle.base.specs.Choose.{pick}
@@ -6,9 +7,6 @@ use Rattle.lowering.specs.Eager.{atomsOf}
 use Rattle.lowering.proofs.EagerLaws.{Repeating, no-pass, ready-again, fewer-left, next-pass, no-more}
 use Rattle.lowering.proofs.eager.lower_eager.Statement.{statement}
 use Rattle.lowering.proofs.eager.lower_eager.Tie as tie
-use Rattle.lowering.proofs.eager.lower_eager.Reads as reads
-use Rattle.lowering.proofs.eager.lower_eager.Lts as lts
-use Rattle.lowering.proofs.eager.eager_pass.Reads as eager-pass-reads
 
 abbrev Inv-loop : tie.InvT-loop
 Inv-loop text from n used₀ bound₀ order₀ count c₀ more₀ used bound order c more = Repeating text used₀ bound₀ order₀ count used bound order c more
@@ -16,35 +14,27 @@ Inv-loop text from n used₀ bound₀ order₀ count c₀ more₀ used bound ord
 abbrev μ-loop : tie.MeasureT-loop
 μ-loop text from n used₀ bound₀ order₀ count c₀ more₀ used bound order c more = unlowered used (numbers (atomsOf text)) + pick more 1 0
 
--- src/eager.rt:80:5
 loop-holds : tie.Need-loop-holds Inv-loop μ-loop
 loop-holds c = no-pass (c .before .before .before .before .before .args .text .now) _ _ _ _
 
--- src/eager.rt:81:13
 eager-pass-requires : tie.Need-eager-pass-requires Inv-loop μ-loop
 eager-pass-requires c κs = (c .before .before .before .before .before .before .before .before .before .before .pre .0, ready-again (c .before .before .before .before .before .before .before .before .before .before .args .text .now) _ _ _ _ _ _ _ _ _ (c .before .before .before .before .loop .inv) (c .before .before .before .before .before .before .before .before .before .before .pre .1))
 
--- src/eager.rt:80:5
 loop-less : tie.Need-loop-less Inv-loop μ-loop
 loop-less c = fewer-left (c .before .before .before .before .before .before .before .before .before .before .before .before .before .before .before .before .before .args .text .now) _ _ _ _ _ _ _ _ _ (c .before .before .before .before .before .before .before .before .before .before .before .loop .inv) (c .before .before .before .before .before .before .before .before .before .before .loop-test .taken) _ _ _ _ (c .before .before .before .before .before .before .eager-pass .ensures)
 
--- src/eager.rt:80:5
 loop-again : tie.Need-loop-again Inv-loop μ-loop
 loop-again c = next-pass (c .before .before .before .before .before .before .before .before .before .before .before .before .before .before .before .before .before .args .text .now) _ _ _ _ _ _ _ _ _ (c .before .before .before .before .before .before .before .before .before .before .before .loop .inv) (c .before .before .before .before .before .before .before .before .before .before .loop-test .taken) _ _ _ _ (c .before .before .before .before .before .before .eager-pass .ensures)
 
--- src/eager.rt:73:1
 same-length : tie.Need-same-length Inv-loop μ-loop
 same-length c = search needs
 
--- src/eager.rt:73:1
 same-length-2 : tie.Need-same-length-2 Inv-loop μ-loop
 same-length-2 c = search needs
 
--- src/eager.rt:73:1
 same-length-3 : tie.Need-same-length-3 Inv-loop μ-loop
 same-length-3 c = search needs
 
--- src/eager.rt:73:1
 returns : tie.Need-returns Inv-loop μ-loop
 returns c = no-more (c .before .before .before .before .before .before .before .args .text .now) _ _ _ _ _ _ _ _ _ (c .before .loop .inv) (c .loop-test .left)
 

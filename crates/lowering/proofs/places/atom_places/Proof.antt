@@ -1,13 +1,10 @@
+-- `lowering::places::atom_places` meets its contract: the walk over the frames: the atoms left are those behind the places noted.
 use Prim.Native.Nat.{_-_}
 use lib.ListN.{length}
 use Rattle.lowering.proofs.PlaceLaws.{Placing, placing-none, places-none, line-from, line-within, place-room, line-less, placing-again, places-end}
 use borrow.Author.Needs.{needs}
 use Rattle.lowering.proofs.places.atom_places.Statement.{statement}
 use Rattle.lowering.proofs.places.atom_places.Tie as tie
-use Rattle.lowering.proofs.places.atom_places.Reads as reads
-use Rattle.lowering.proofs.places.atom_places.Lts as lts
-use Rattle.hex.proofs.line_end.Reads as line-end-reads
-use Rattle.lowering.proofs.places.note_place.Reads as note-place-reads
 
 abbrev Inv-loop : tie.InvT-loop
 Inv-loop text from₀ at₀ n₀ from at n = Placing text from₀ from at n
@@ -15,55 +12,42 @@ Inv-loop text from₀ at₀ n₀ from at n = Placing text from₀ from at n
 abbrev μ-loop : tie.MeasureT-loop
 μ-loop text from₀ at₀ n₀ from at n = length text - at
 
--- src/places.rt:36:5
 loop-holds : tie.Need-loop-holds Inv-loop μ-loop
 loop-holds c = search placing-none
 
--- src/places.rt:37:13
 line-end-requires : tie.Need-line-end-requires Inv-loop μ-loop
 line-end-requires c κs = search needs
 
--- src/places.rt:39:13
 same-length : tie.Need-same-length Inv-loop μ-loop
 same-length c = search needs
 
--- src/places.rt:39:13
 returns : tie.Need-returns Inv-loop μ-loop
 returns c = search places-none
 
--- src/places.rt:41:24
 sub-note-place : tie.Need-sub-note-place Inv-loop μ-loop
 sub-note-place c = search line-from
 
--- src/places.rt:41:24
 part-note-place-start : tie.Need-part-note-place-start Inv-loop μ-loop
 part-note-place-start c = search line-from
 
--- src/places.rt:41:24
 part-note-place-end : tie.Need-part-note-place-end Inv-loop μ-loop
 part-note-place-end c = search line-within
 
--- src/places.rt:41:9
 note-place-requires : tie.Need-note-place-requires Inv-loop μ-loop
 note-place-requires c κs = search place-room
 
--- src/places.rt:42:14
 add-at : tie.Need-add-at Inv-loop μ-loop
 add-at c = search needs
 
--- src/places.rt:36:5
 loop-less : tie.Need-loop-less Inv-loop μ-loop
 loop-less c = search line-less
 
--- src/places.rt:36:5
 loop-again : tie.Need-loop-again Inv-loop μ-loop
 loop-again c = search placing-again
 
--- src/places.rt:30:1
 same-length-2 : tie.Need-same-length-2 Inv-loop μ-loop
 same-length-2 c = search needs
 
--- src/places.rt:30:1
 returns-2 : tie.Need-returns-2 Inv-loop μ-loop
 returns-2 c = search places-end
 
