@@ -7,6 +7,7 @@ use mathlib.Core.List.{List, [], _∷_, _++_, append-nil, append-assoc, List·Me
 use native.Mathlib.Omega.{arith}
 use native.Mathlib.Numerals.{add-one}
 use lib.Dec.{T, eqb}
+use borrow.Author.Tests.{eq-eqb, ne-eqb, eqb-true, eqb-false}
 use Rattle.base.specs.Choose.{pick}
 use Rattle.hex.specs.Digits.{bytesOf}
 use lib.ListN.{length, getD, take, drop, set, length-set, length-append}
@@ -193,3 +194,93 @@ module _ (x from : List ℕ) (n : ℕ) (U₀ B₀ : Bound) (O₀ : List ℕ) (c�
   passed h =
       let e : i ≡ length (numbers (atomsOf x)) = omega (arith, p .few, z .count, tabulate-length (length (atomsOf x)) (λ k. k)) in
       rw (e, take-length (numbers (atomsOf x))) at (p .went)
+
+-- ---- passes until one lowers nothing
+
+-- by another function that goes the same way
+went-same : (atomAt : ℕ → Atom) (js : List ℕ) (f g : State → State) (U B : Bound) (O : List ℕ) (c : ℕ) (U′ C : Bound) (P : List ℕ) (d : ℕ) → ((ss : List Step) → f (state U B ss) ≡ g (state U B ss)) → Went atomAt js g U B O c U′ C P d → Went atomAt js f U B O c U′ C P d
+went-same atomAt js f g U B O c U′ C P d h w = record {
+  new = w .new;
+  is = λ ss. h ss ∙ w .is ss;
+  used = λ ss. ap (λ (s : State). s .used) (h ss) ∙ w .used ss;
+  bound = λ ss. ap (λ (s : State). s .bound) (h ss) ∙ w .bound ss;
+  order = w .order;
+  count = w .count;
+  left = w .left;
+  used-size = w .used-size;
+  bound-size = w .bound-size;
+  order-size = w .order-size;
+}
+
+module _ (x : List ℕ) where
+  abbrev at : ℕ → Atom
+  at = atomOf (atomsOf x)
+
+  abbrev js : List ℕ
+  js = numbers (atomsOf x)
+
+  abbrev pass : State → State
+  pass = eagerPass at js js
+
+  -- a pass that takes nothing is the last
+  module _ (U B : Bound) (O : List ℕ) (c : ℕ) (U′ C : Bound) (P : List ℕ) (d : ℕ) (w : Passed x U B O c U′ C P d) (ss : List Step) where
+    last-pass : d ≡ c → lowerEager at js (state U B ss) ≡ pass (state U B ss)
+    unfolding replay
+    last-pass h = lower-eager-is at js (state U B ss) ∙ rw (eq-eqb _ _ same)
+      where
+        none-new : (l : List ℕ) → length l ≡ 0 → replay at js l (state U B ss) ≡ state U B ss
+        none-new [] e = refl
+        none-new (k ∷ l) e = absurd (omega arith)
+
+        same : unlowered (pass (state U B ss) .used) js ≡ unlowered U js
+        same = ap (λ (s : State). unlowered (s .used) js) (w .is ss ∙ none-new (w .new) (omega (arith, w .count)))
+
+    more-passes : (d ≡ c → ⊥) → lowerEager at js (state U B ss) ≡ lowerEager at js (pass (state U B ss))
+    more-passes h = lower-eager-is at js (state U B ss) ∙ rw (ne-eqb _ _ fewer)
+      where
+        fewer : unlowered (pass (state U B ss) .used) js ≡ unlowered U js → ⊥
+        fewer e =
+            let f : unlowered U′ js ≡ unlowered U js = rw (w .used ss) at e in
+            h (omega (arith, w .left, w .count))
+
+  -- `go` is the passes so far; more are to come unless the last took nothing
+  pub record Repeating (U₀ B₀ : Bound) (O₀ : List ℕ) (c₀ : ℕ) (U B : Bound) (O : List ℕ) (c : ℕ) (more : Bool) : Type 0 where
+    pub go : State → State
+    pub went : Went (atomOf (atomsOf x)) (numbers (atomsOf x)) go U₀ B₀ O₀ c₀ U B O c
+    pub last : more ≡ false → (ss : List Step) → lowerEager (atomOf (atomsOf x)) (numbers (atomsOf x)) (state U₀ B₀ ss) ≡ go (state U₀ B₀ ss)
+    pub again : more ≡ true → (ss : List Step) → lowerEager (atomOf (atomsOf x)) (numbers (atomsOf x)) (state U₀ B₀ ss) ≡ lowerEager (atomOf (atomsOf x)) (numbers (atomsOf x)) (go (state U₀ B₀ ss))
+
+  pub no-pass : (U B : Bound) (O : List ℕ) (c : ℕ) → Repeating U B O c U B O c true
+  no-pass U B O c = record { go = λ st. st; went = went-none at js (λ st. st) U B O c (λ ss. refl); last = λ h. absurd (subst T h tt); again = λ h ss. refl }
+
+  module _ (U₀ B₀ : Bound) (O₀ : List ℕ) (c₀ : ℕ) (U B : Bound) (O : List ℕ) (c : ℕ) (more : Bool) (r : Repeating U₀ B₀ O₀ c₀ U B O c more) where
+    pub ready-again : Ready x U₀ B₀ O₀ c₀ → Ready x U B O c
+    ready-again y = record { used = r .went .used-size ∙ y .used; bound = r .went .bound-size ∙ y .bound; order = r .went .order-size ∙ y .order; room = omega (arith, r .went .left, y .room) }
+
+    pub no-more : more ≡ false → LoweredEager x U₀ B₀ O₀ c₀ U B O c
+    no-more h = went-same at js (lowerEager at js) (r .go) U₀ B₀ O₀ c₀ U B O c (r .last h) (r .went)
+
+    module _ (h : more ≡ true) (U′ C : Bound) (P : List ℕ) (d : ℕ) (w : Passed x U B O c U′ C P d) where
+      pub fewer-left : unlowered U′ (numbers (atomsOf x)) + pick (not (eqb d c)) 1 0 < unlowered U (numbers (atomsOf x)) + pick more 1 0
+      fewer-left = rw h (by (eqb d c) refl)
+        where
+          by : (t : Bool) → eqb d c ≡ t → unlowered U′ (numbers (atomsOf x)) + pick (not t) 1 0 < unlowered U (numbers (atomsOf x)) + 1
+          by true e = omega (arith, w .left, w .count)
+          by false e = let k : (d ≡ c → ⊥) = eqb-false d c e in omega (arith, w .left, w .count, above (w .count) k)
+            where
+              above : d ≡ c + length (w .new) → (d ≡ c → ⊥) → c < d
+              above p k = omega arith
+
+      pub next-pass : Repeating U₀ B₀ O₀ c₀ U′ C P d (not (eqb d c))
+      next-pass = record {
+        go = λ st. pass (r .go st);
+        went = went-then at js (r .go) pass (r .went) w;
+        last = λ k ss. r .again h ss ∙ ap (lowerEager at js) (mid ss) ∙ last-pass U B O c U′ C P d w (steps ss) (eqb-true d c (is-true (eqb d c) k)) ∙ ap pass (sym (mid ss));
+        again = λ k ss. r .again h ss ∙ ap (lowerEager at js) (mid ss) ∙ more-passes U B O c U′ C P d w (steps ss) (eqb-false d c (is-false (eqb d c) k)) ∙ ap (λ (s : State). lowerEager at js (pass s)) (sym (mid ss));
+      }
+        where
+          steps : List Step → List Step
+          steps ss = r .go (state U₀ B₀ ss) .steps
+
+          mid : (ss : List Step) → r .go (state U₀ B₀ ss) ≡ state U B (steps ss)
+          mid ss = λ j. record { used = r .went .used ss j; bound = r .went .bound ss j; steps = steps ss }

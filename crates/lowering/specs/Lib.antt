@@ -1,2 +1,3 @@
 pub mod AtomLines
 pub mod Eager
+pub mod Places

@@ -83,3 +83,27 @@ pub fn eager_pass(
     }
     c
 }
+
+// Passes until one lowers nothing.
+pub fn lower_eager(
+    text: &[u8],
+    from: &[usize],
+    n: usize,
+    used: &mut [bool],
+    bound: &mut [bool],
+    order: &mut [u8],
+    count: usize,
+) -> usize
+    requires { ⌜ Located (now text) (now from) n ⌝ }
+    requires { ⌜ Ready (now text) (now used) (now bound) (now order) count ⌝ }
+    ensures { λ r. ⌜ LoweredEager (now (text .entry)) (now (used .entry)) (now (bound .entry)) (now (order .entry)) count (now (used .exit)) (now (bound .exit)) (now (order .exit)) r ⌝ }
+{
+    let mut c = count;
+    let mut more = true;
+    while more {
+        let d = eager_pass(text, from, n, used, bound, order, c);
+        more = d != c;
+        c = d;
+    }
+    c
+}

@@ -1,63 +1,45 @@
+-- `lowering::atom::lower_bound` meets its contract: kind by kind.
 use Rattle.lowering.proofs.AtomLaws.{pred-lowers, left-below, right-below, eq-lowers, node-below, global-lowers, items-below, node-lowers}
 use borrow.Author.Needs.{needs}
 use Rattle.lowering.proofs.atom.lower_bound.Statement.{statement}
 use Rattle.lowering.proofs.atom.lower_bound.Tie as tie
-use Rattle.lowering.proofs.atom.lower_bound.Reads as reads
-use Rattle.lowering.proofs.atom.lower_bound.Lts as lts
-use Rattle.hex.proofs.byte_at.Reads as byte-at-reads
-use Rattle.lowering.proofs.atom.lower_eq.Reads as lower-eq-reads
-use Rattle.lowering.proofs.operands.mark_items.Reads as mark-items-reads
-use Rattle.lowering.proofs.sets.set_bound.Reads as set-bound-reads
 
--- src/atom.rt:67:9
 byte-at-requires : tie.Need-byte-at-requires
 byte-at-requires c κs = search needs
 
--- src/atom.rt:69:9
 returns : tie.Need-returns
 returns c = search pred-lowers
 
--- src/atom.rt:71:9
 byte-at-requires-2 : tie.Need-byte-at-requires-2
 byte-at-requires-2 c κs = search needs
 
--- src/atom.rt:73:28
 byte-at-requires-3 : tie.Need-byte-at-requires-3
 byte-at-requires-3 c κs = search needs
 
--- src/atom.rt:73:9
 lower-eq-requires : tie.Need-lower-eq-requires
 lower-eq-requires c κs = (search left-below, search right-below)
 
--- src/atom.rt:73:9
 same-length : tie.Need-same-length
 same-length c = search needs
 
--- src/atom.rt:73:9
 returns-2 : tie.Need-returns-2
 returns-2 c = search eq-lowers
 
--- src/atom.rt:75:5
 set-bound-requires : tie.Need-set-bound-requires
 set-bound-requires c κs = search node-below
 
--- src/atom.rt:77:9
 same-length-2 : tie.Need-same-length-2
 same-length-2 c = search needs
 
--- src/atom.rt:77:9
 returns-3 : tie.Need-returns-3
 returns-3 c = search (global-lowers, node-below)
 
--- src/atom.rt:79:5
 mark-items-requires : tie.Need-mark-items-requires
 mark-items-requires c κs = items-below _ _ (c .before .before .before .before .before .before .before .before .before .byte-at .ensures) (c .before .before .before .before .before .before .before .before .before .before .before .before .pre .0) _ (c .before .before .before .before .before .before .before .before .before .before .before .before .pre .1) _ (c .before .before .before .before .before .before .before .byte-at2 .ensures) (c .before .before .before .before .before .before .before .before .if1 .left) (c .before .before .before .before .before .before .if2 .left) (c .before .if3 .left) _ (c .before .before .before .before .set-bound .ensures)
 
--- src/atom.rt:62:1
 same-length-3 : tie.Need-same-length-3
 same-length-3 c = search needs
 
--- src/atom.rt:62:1
 returns-4 : tie.Need-returns-4
 returns-4 c = search node-lowers
 

@@ -1,13 +1,9 @@
+-- `lowering::eager::eager_pass` meets its contract: the tries so far, composed, are a pass over the atoms so far.
 use Prim.Native.Nat.{_-_}
 use Rattle.lowering.proofs.EagerLaws.{Passing, passing-none, place-sized, place-within, line-ready, bound-sized, number-below, order-room, passing-again, passed}
 use borrow.Author.Needs.{needs}
 use Rattle.lowering.proofs.eager.eager_pass.Statement.{statement}
 use Rattle.lowering.proofs.eager.eager_pass.Tie as tie
-use Rattle.lowering.proofs.eager.eager_pass.Reads as reads
-use Rattle.lowering.proofs.eager.eager_pass.Lts as lts
-use Rattle.lowering.proofs.eager.atom_line.Reads as atom-line-reads
-use Rattle.lowering.proofs.eager.narrow.Reads as narrow-reads
-use Rattle.lowering.proofs.eager.try_at.Reads as try-at-reads
 
 abbrev Inv-loop : tie.InvT-loop
 Inv-loop text from n used₀ bound₀ order₀ count c₀ i₀ used bound order c i = Passing text n used₀ bound₀ order₀ count used bound order c i
@@ -15,47 +11,36 @@ Inv-loop text from n used₀ bound₀ order₀ count c₀ i₀ used bound order 
 abbrev μ-loop : tie.MeasureT-loop
 μ-loop text from n used₀ bound₀ order₀ count c₀ i₀ used bound order c i = n - i
 
--- src/eager.rt:64:5
 loop-holds : tie.Need-loop-holds Inv-loop μ-loop
 loop-holds c = search passing-none
 
--- src/eager.rt:65:13
 atom-line-requires : tie.Need-atom-line-requires Inv-loop μ-loop
 atom-line-requires c κs = (search place-sized, search place-within)
 
--- src/eager.rt:66:26
 narrow-requires : tie.Need-narrow-requires Inv-loop μ-loop
 narrow-requires c κs = search needs
 
--- src/eager.rt:66:9
 try-at-requires : tie.Need-try-at-requires Inv-loop μ-loop
 try-at-requires c κs = (search line-ready, (search bound-sized, (search number-below, search order-room)))
 
--- src/eager.rt:67:9
 add-i : tie.Need-add-i Inv-loop μ-loop
 add-i c = search needs
 
--- src/eager.rt:64:5
 loop-less : tie.Need-loop-less Inv-loop μ-loop
 loop-less c = search needs
 
--- src/eager.rt:64:5
 loop-again : tie.Need-loop-again Inv-loop μ-loop
 loop-again c = passing-again _ _ _ _ _ _ _ _ _ _ _ _ (c .before .before .before .before .before .before .before .before .before .before .before .before .before .loop .inv) (c .before .before .before .before .before .before .before .before .before .before .before .before .before .before .before .before .before .before .before .pre .0) (c .before .before .before .before .before .before .before .before .before .before .before .before .loop-test .taken) _ _ (c .before .before .before .before .before .before .before .before .before .before .before .atom-line .ensures) (c .before .before .before .before .before .before .before .before .before .before .narrow .ensures) _ _ _ _ (c .before .before .before .before .before .before .try-at .ensures)
 
--- src/eager.rt:57:1
 same-length : tie.Need-same-length Inv-loop μ-loop
 same-length c = search needs
 
--- src/eager.rt:57:1
 same-length-2 : tie.Need-same-length-2 Inv-loop μ-loop
 same-length-2 c = search needs
 
--- src/eager.rt:57:1
 same-length-3 : tie.Need-same-length-3 Inv-loop μ-loop
 same-length-3 c = search needs
 
--- src/eager.rt:57:1
 returns : tie.Need-returns Inv-loop μ-loop
 returns c = search passed
 

@@ -1,0 +1,136 @@
+-- The places of the atoms' lines, line by line. Proved from the walk over a text's frames.
+use Prim.Native.Nat.{ℕ, suc, _+_, _-_, _<_, _≤_}
+use mathlib.Core.Path.{_≡_, refl, sym, _∙_, ap}
+use mathlib.Core.Bool.{Bool, true, false}
+use mathlib.Core.List.{List, [], _∷_}
+use native.Mathlib.Omega.{arith}
+use native.Mathlib.Decide.{ℕ-discrete}
+use native.Mathlib.Numerals.{add-one}
+use lib.Dec.{leb}
+use lib.ListN.{length, getD, take, drop, set, length-set, length-drop}
+use lib.Seq.{drop-cons, getD-set-same, getD-set-other}
+use borrow.Author.Tests.{le-leb, lt-leb}
+use Rattle.base.specs.Choose.{pick}
+use Rattle.hex.specs.Digits.{bytesOf}
+use Rattle.hex.specs.Lines.{endOf}
+use Rattle.hex.specs.Cuts.{Line}
+use Rattle.frames.specs.First.{framesOf, isAtom}
+use Rattle.reading.specs.Walk.{walk-line, frames-step, frames-none, frames-end}
+use Rattle.cost.specs.QueryAtoms.{atomFrames}
+use Rattle.lowering.specs.Eager.{lineAt}
+use Rattle.lowering.specs.Places.{Places, Noted}
+
+-- ---- one line
+
+module _ (f : List ℕ) (at : ℕ) (F : List ℕ) (n k : ℕ) (is : k ≡ getD f 0 0) where
+  pub noted-header : k ≡ 0 → Noted f at F n F n
+  noted-header h = record { places = rw (← is, h); count = rw (← is, h) }
+
+  pub noted-other : 14 < k → Noted f at F n F n
+  noted-other h = let a : 1 ≤ k = omega arith in record { places = rw (← is, le-leb 1 k a, lt-leb k 14 h); count = rw (← is, le-leb 1 k a, lt-leb k 14 h) }
+
+  is-atom : (k ≡ 0 → ⊥) → k ≤ 14 → isAtom (getD f 0 0) ≡ true
+  is-atom z h = let a : 1 ≤ k = omega arith in rw (← is, le-leb 1 k a, le-leb k 14 h)
+
+  pub noted-atom : (k ≡ 0 → ⊥) → k ≤ 14 → Noted f at F n (set F n at) (n + 1)
+  noted-atom z h = record { places = rw (is-atom z h); count = rw (is-atom z h) }
+
+  pub noted-room : (k ≡ 0 → ⊥) → k ≤ 14 → (isAtom (getD f 0 0) ≡ true → n < length F) → n < length F
+  noted-room z h r = r (is-atom z h)
+
+-- ---- the lines in turn
+
+heads : {A : Type 0} {a b : A} {l m : List A} → a ∷ l ≡ b ∷ m → a ≡ b
+heads e = cc
+
+tails : {A : Type 0} {a b : A} {l m : List A} → a ∷ l ≡ b ∷ m → l ≡ m
+tails e = cc
+
+-- n atoms stand before `at`
+pub record Placing (x F₀ F : List ℕ) (at n : ℕ) : Type 0 where
+  pub from : at ≤ length x
+  pub few : n ≤ length (atomFrames (framesOf x))
+  pub size : length F ≡ length F₀
+  pub rest : drop n (atomFrames (framesOf x)) ≡ atomFrames (framesOf (drop at x))
+  pub within : (k : ℕ) → k < n → getD F k 0 ≤ length x
+  pub is : (k : ℕ) → k < n → bytesOf (lineAt x (getD F k 0)) ≡ getD (atomFrames (framesOf x)) k []
+
+pub placing-none : (x F : List ℕ) → Placing x F F 0 0
+placing-none x F = record { from = omega arith; few = omega arith; size = refl; rest = refl; within = λ k h. absurd (omega arith); is = λ k h. absurd (omega arith) }
+
+module _ (x F₀ F : List ℕ) (at n : ℕ) (p : Placing x F₀ F at n) (room : length (atomFrames (framesOf x)) ≤ length F₀) where
+  ended : framesOf (drop at x) ≡ [] → Places x F n
+  unfolding atomFrames
+  ended e =
+      let d : drop n (atomFrames (framesOf x)) ≡ [] = rw e at (p .rest) in
+      let l : length (atomFrames (framesOf x)) - n ≡ 0 = sym (length-drop n (atomFrames (framesOf x))) ∙ ap length d in
+      record { count = omega (arith, p .few); size = omega (arith, p .few, p .size); within = p .within; is = p .is }
+
+  pub places-end : length x ≤ at → Places x F n
+  places-end h = ended (frames-end x at h)
+
+  module _ (e : ℕ) (q : e ≡ endOf at (drop at x)) where
+    pub places-none : e ≡ length x → Places x F n
+    places-none h = ended (frames-none x at e q h)
+
+    module _ (h : e ≡ length x → ⊥) where
+      line : Line x at e
+      line = walk-line x at e (p .from) q h
+
+      pub line-from : at ≤ e
+      line-from = line .from
+
+      pub line-within : e ≤ length x
+      line-within = omega (arith, line .within)
+
+      pub line-less : length x - (e + 1) < length x - at
+      line-less = omega (arith, line .within, line .from)
+
+      abbrev frame : List ℕ
+      frame = bytesOf (take (e - at) (drop at x))
+
+      ahead : drop n (atomFrames (framesOf x)) ≡ pick (isAtom (getD frame 0 0)) (frame ∷ atomFrames (framesOf (drop (e + 1) x))) (atomFrames (framesOf (drop (e + 1) x)))
+      unfolding atomFrames
+      ahead = p .rest ∙ rw (frames-step x at e line)
+
+      pub place-room : (isAtom (getD (bytesOf (take (e - at) (drop at x))) 0 0) ≡ true → n < length F)
+      place-room t =
+          let l : length (drop n (atomFrames (framesOf x))) ≡ suc (length (atomFrames (framesOf (drop (e + 1) x)))) = ap length (rw t at ahead) in
+          omega (arith, length-drop n (atomFrames (framesOf x)), p .size)
+
+      pub placing-again : (G : List ℕ) (m : ℕ) → Noted (bytesOf (take (e - at) (drop at x))) at F n G m → Placing x F₀ G (e + 1) m
+      placing-again G m w = by (isAtom (getD frame 0 0)) refl (w .places) (w .count) ahead
+        where
+          by : (t : Bool) → isAtom (getD frame 0 0) ≡ t → G ≡ pick t (set F n at) F → m ≡ pick t (n + 1) n → drop n (atomFrames (framesOf x)) ≡ pick t (frame ∷ atomFrames (framesOf (drop (e + 1) x))) (atomFrames (framesOf (drop (e + 1) x))) → Placing x F₀ G (e + 1) m
+          by false t g c d = rw (g, c) (record { from = omega (arith, line .within); few = p .few; size = p .size; rest = d; within = p .within; is = p .is })
+          by true t g c d = rw (g, c) (record {
+            from = omega (arith, line .within);
+            few = omega (arith, below);
+            size = length-set F n at ∙ p .size;
+            rest = rw (add-one n) tail;
+            within = λ k l. within-at k l (ℕ-discrete k n);
+            is = λ k l. is-at k l (ℕ-discrete k n);
+          })
+            where
+              below : n < length (atomFrames (framesOf x))
+              below = let l : length (drop n (atomFrames (framesOf x))) ≡ suc (length (atomFrames (framesOf (drop (e + 1) x)))) = ap length d in omega (arith, length-drop n (atomFrames (framesOf x)))
+
+              cons : getD (atomFrames (framesOf x)) n [] ∷ drop (suc n) (atomFrames (framesOf x)) ≡ frame ∷ atomFrames (framesOf (drop (e + 1) x))
+              cons = sym (drop-cons (atomFrames (framesOf x)) n [] below) ∙ d
+
+              head : getD (atomFrames (framesOf x)) n [] ≡ frame
+              head = heads cons
+
+              tail : drop (suc n) (atomFrames (framesOf x)) ≡ atomFrames (framesOf (drop (e + 1) x))
+              tail = tails cons
+
+              at-n : getD (set F n at) n 0 ≡ at
+              at-n = getD-set-same F n at 0 (place-room t)
+
+              within-at : (k : ℕ) → k < n + 1 → Dec (k ≡ n) → getD (set F n at) k 0 ≤ length x
+              within-at k l (yes i) = rw (i, at-n) (p .from)
+              within-at k l (no i) = rw (getD-set-other F n k at 0 i) (p .within k (omega arith))
+
+              is-at : (k : ℕ) → k < n + 1 → Dec (k ≡ n) → bytesOf (lineAt x (getD (set F n at) k 0)) ≡ getD (atomFrames (framesOf x)) k []
+              is-at k l (yes i) = rw (i, at-n, ← q) (sym head)
+              is-at k l (no i) = rw (getD-set-other F n k at 0 i) (p .is k (omega arith))

@@ -1,0 +1,45 @@
+// Where the lines of a text's atoms begin.
+ghost use mathlib.Core.Path.{_≡_};
+ghost use mathlib.Core.Bool.{true};
+ghost use Prim.Native.Nat.{ℕ, _+_, _<_, _≤_};
+ghost use lib.ListN.{length, getD};
+ghost use Rattle.hex.specs.Digits.{bytesOf};
+ghost use Rattle.frames.specs.First.{framesOf, isAtom};
+ghost use Rattle.cost.specs.QueryAtoms.{atomFrames};
+ghost use Rattle.lowering.specs.Places.{Places, Noted};
+use hex::byte_at;
+use hex::line_end;
+
+// Notes where a line begins, if it is an atom's; n are noted before. How many now are.
+fn note_place(line: &[u8], at: usize, from: &mut [usize], n: usize) -> usize
+    requires { ⌜ (isAtom (getD (bytesOf (now line)) 0 0) ≡ true → n < length (now from)) ⌝ }
+    ensures { λ r. ⌜ Noted (bytesOf (now (line .entry))) at (now (from .entry)) n (now (from .exit)) r ⌝ }
+{
+    let kind = byte_at(line, 0);
+    if kind == 0 {
+        return n;
+    }
+    if 14 < kind {
+        return n;
+    }
+    from[n] = at;
+    n + 1
+}
+
+// The places of all atoms, and how many they are.
+pub fn atom_places(text: &[u8], from: &mut [usize]) -> usize
+    requires { ⌜ length (atomFrames (framesOf (now text))) ≤ length (now from) ⌝ }
+    ensures { λ r. ⌜ Places (now (text .entry)) (now (from .exit)) r ⌝ }
+{
+    let mut at: usize = 0;
+    let mut n: usize = 0;
+    while at < text.len() {
+        let e = line_end(text, at);
+        if e == text.len() {
+            return n;
+        }
+        n = note_place(&text[at..e], at, from, n);
+        at = e + 1;
+    }
+    n
+}
