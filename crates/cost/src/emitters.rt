@@ -4,9 +4,8 @@ ghost use mathlib.Core.List.{map};
 ghost use Prim.Native.Nat.{ℕ, _+_, _*_, _<_, _≤_};
 ghost use lib.ListN.{length, getD};
 ghost use Rattle.hex.specs.Digits.{bytesOf};
-ghost use Rattle.cost.specs.QueryAtoms.{operandAt, operandsFrom, atomOfFrame};
-ghost use Rattle.cost.specs.Emitters.{decode, from, setEmitter, setOperand, setChildren, setElements, copyEmitter, emitterOf, recordAtom};
-ghost use Rattle.cost.specs.Reach.{Reach};
+ghost use Rattle.cost.specs.QueryAtoms.{operandAt};
+ghost use Rattle.cost.specs.Emitters.{decode, from, setEmitter, setOperand};
 use hex::byte_at;
 
 fn wide(b: u8) -> u32
