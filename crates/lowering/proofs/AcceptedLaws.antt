@@ -8,19 +8,23 @@ use lib.Dec.{T, eqb, ltb}
 use lib.ListN.{length, getD, replicate}
 use borrow.Author.Tests.{ltb-true, lt-ltb}
 use Rattle.base.specs.Choose.{pick}
-use Rattle.frames.specs.First.{isAtom}
+use Rattle.frames.specs.First.{isAtom, orElse}
+use Rattle.frames.specs.declared.first.Reading.{Reading}
+use Rattle.frames.specs.declared.first.Reading.the-variants.{Accepted}
+use Rattle.reading.specs.Keys.{keyGiven}
+use Rattle.reading.specs.Second.{secondFault, secondFrom}
 use Rattle.frames.specs.Fields.{width, fieldIn, fieldPasses, operandIn}
 use Rattle.frames.specs.Kinds.{kinds, kindAt}
 use Rattle.frames.specs.Frames.{passAll, framePasses}
 use Rattle.frames.specs.declared.fields.Counts.{Counts}
 use Rattle.frames.specs.declared.fields.Field.{Field}
 use Rattle.frames.specs.declared.fields.Field.the-variants.{Operand, Element}
-use Rattle.frames.specs.declared.fields.Test.the-variants.{Range}
+use Rattle.frames.specs.declared.fields.Test.the-variants.{Range, Reals}
 use Rattle.model.specs.Atoms.{local, global, localOf, varsIn}
 use Rattle.model.specs.Bools.{both, first, second}
 use Rattle.model.specs.Bound.{most}
 use Rattle.model.specs.Premises.{numbersBelow}
-use Rattle.cost.specs.QueryAtoms.{operandAt, operandsFrom, bytesFrom, atomOfFrame}
+use Rattle.cost.specs.QueryAtoms.{operandAt, operandsFrom, bytesFrom, atomOfFrame, atomFrames}
 use Rattle.lowering.specs.AtomLines.{AtomLine}
 use Rattle.lowering.proofs.AtomLaws.{by-kind}
 
@@ -81,3 +85,31 @@ module _ (n : Counts) where
   -- a frame of an atom that passes test 5, with at most 64 variables
   pub atom-line : (f : List ℕ) → isAtom (getD f 0 0) ≡ true → n .variables ≤ most → framePasses (fieldPasses Range n) f ≡ true → AtomLine f
   atom-line f a l h = record { kind = a; variables = below-more (n .variables) most (varsIn (atomOfFrame f)) l (vars-in f a h) }
+
+  -- ---- the second reading
+
+  passes-range : (earlier : List (List ℕ)) (f : List ℕ) → secondFault n earlier f ≡ 0 → framePasses (fieldPasses Range n) f ≡ true
+  unfolding secondFault
+  passes-range earlier f h = by (framePasses (fieldPasses Range n) f) h
+    where
+      by : (t : Bool) → _≡_ {A = ℕ} (pick t (pick (framePasses (fieldPasses Reals n) f) (pick (keyGiven earlier f) 7 0) 6) 5) 0 → t ≡ true
+      by true h = refl
+      by false h = absurd (omega arith)
+
+  goes-on : (v k : ℕ) (a : Reading) (l c : ℕ) → orElse v k a ≡ Accepted l c → (v ≡ 0) × (a ≡ Accepted l c)
+  goes-on zero k a l c h = (refl, h)
+  goes-on (suc v) k a l c h = let z : _≡_ {A = ℕ} 0 1 = cc in absurd (omega arith)
+
+  -- where it accepts, with at most 64 variables, each atom's frame is an AtomLine
+  pub accepted-lines : n .variables ≤ most → (fs earlier : List (List ℕ)) (k : ℕ) (a : Reading) (l c : ℕ) → secondFrom n earlier k fs a ≡ Accepted l c → (j : ℕ) → j < length (atomFrames fs) → AtomLine (getD (atomFrames fs) j [])
+  unfolding secondFrom atomFrames
+  accepted-lines m [] earlier k a l c h j g = absurd (omega arith)
+  accepted-lines m (f ∷ fs) earlier k a l c h j g = by (isAtom (getD f 0 0)) refl j g (accepted-lines m fs (earlier ++ f ∷ []) (suc k) a l c (r .1))
+    where
+      r : (secondFault n earlier f ≡ 0) × (secondFrom n (earlier ++ f ∷ []) (suc k) fs a ≡ Accepted l c)
+      r = goes-on (secondFault n earlier f) k (secondFrom n (earlier ++ f ∷ []) (suc k) fs a) l c h
+
+      by : (t : Bool) → isAtom (getD f 0 0) ≡ t → (j : ℕ) → j < length (pick t (f ∷ atomFrames fs) (atomFrames fs)) → ((i : ℕ) → i < length (atomFrames fs) → AtomLine (getD (atomFrames fs) i [])) → AtomLine (getD (pick t (f ∷ atomFrames fs) (atomFrames fs)) j [])
+      by true e zero g rest = atom-line f e m (passes-range earlier f (r .0))
+      by true e (suc i) g rest = rest i (omega arith)
+      by false e i g rest = rest i g
