@@ -1,7 +1,7 @@
 -- The tests of the reading give what the lowering asks of an atom's line. Proved kind by kind.
 use Prim.Native.Nat.{ℕ, zero, suc, _+_, _<_, _≤_}
-use mathlib.Core.Path.{_≡_, refl, sym, subst, _∙_, ap}
-use mathlib.Core.Bool.{Bool, true, false, _&&_}
+use mathlib.Core.Path.{_≡_, refl, sym, subst, _∙_}
+use mathlib.Core.Bool.{Bool, true, false}
 use mathlib.Core.List.{List, [], _∷_, _++_, flatMap}
 use native.Mathlib.Omega.{arith}
 use lib.Dec.{T, eqb, ltb}
@@ -24,7 +24,7 @@ use Rattle.model.specs.Atoms.{local, global, localOf, varsIn}
 use Rattle.model.specs.Bools.{both, first, second}
 use Rattle.model.specs.Bound.{most}
 use Rattle.model.specs.Premises.{numbersBelow}
-use Rattle.cost.specs.QueryAtoms.{operandAt, operandsFrom, bytesFrom, atomOfFrame, atomFrames}
+use Rattle.cost.specs.QueryAtoms.{operandsFrom, atomOfFrame, atomFrames}
 use Rattle.lowering.specs.AtomLines.{AtomLine}
 use Rattle.lowering.proofs.AtomLaws.{by-kind}
 
