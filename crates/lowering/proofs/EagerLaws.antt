@@ -1,5 +1,5 @@
 -- An eager pass, atom by atom. Proved by what each try does, and by composition.
-use Prim.Native.Nat.{ℕ, zero, suc, _+_, _-_, _<_, _≤_}
+use Prim.Native.Nat.{ℕ, suc, _+_, _-_, _<_, _≤_}
 use mathlib.Core.Path.{_≡_, refl, sym, _∙_, ap, subst}
 use mathlib.Core.Bool.{Bool, true, false, not}
 use mathlib.Core.Option.{Option, none, some}
@@ -17,7 +17,7 @@ use Rattle.model.specs.Atoms.{Atom, Step}
 use Rattle.model.specs.Tabulate.{tabulate-at, tabulate-length, mem-tabulate}
 use Rattle.model.specs.Bound.{Bound, has, add, most}
 use Rattle.model.specs.Lowering.{Emitted, lower}
-use Rattle.model.specs.Scheduling.{State, isFree, onlyIf, settle, unlowered, tryAt, emitAt, eagerPass, lowerEager, atomOf, numbers}
+use Rattle.model.specs.Scheduling.{State, isFree, unlowered, tryAt, emitAt, eagerPass, lowerEager, atomOf, numbers}
 use Rattle.model.specs.Scheduled.{unlowered-lt, lower-eager-is}
 use Rattle.cost.specs.QueryAtoms.{atomOfFrame}
 use Rattle.lowering.specs.AtomLines.{AtomLine, lowers, boundBehind, Lowers}

@@ -1,13 +1,12 @@
 -- Operands one at a time: whether one is bound, to mark one, and to go along them. Proved by the operand's tag, and by induction on how many.
-use Prim.Native.Nat.{ℕ, zero, suc, _+_, _-_, _*_, _<_, _≤_}
+use Prim.Native.Nat.{ℕ, suc, _+_, _-_, _*_, _<_, _≤_}
 use mathlib.Core.Path.{_≡_, refl, sym, _∙_, ap}
 use mathlib.Core.Bool.{Bool, true, false, _&&_, not}
 use mathlib.Core.List.{List, [], _∷_, _++_, flatMap}
 use native.Mathlib.Omega.{arith}
-use lib.Dec.{T, eqb, ltb, ltb→lt}
+use lib.Dec.{ltb}
 use lib.ListN.{length, getD}
 use borrow.Author.Tests.{eq-eqb, ne-eqb, ltb-true}
-use Rattle.base.specs.Choose.{pick}
 use Rattle.model.specs.Atoms.{Operand, local, global, localOf}
 use Rattle.model.specs.Bound.{Bound, has, add, hasAll}
 use Rattle.model.specs.Bools.{first, second}

@@ -1,14 +1,13 @@
 -- Eager passes over the atoms of a text: what is lowered, what is bound, and in which order.
 use Prim.Native.Nat.{ℕ, _+_, _-_, _<_, _≤_}
 use mathlib.Core.Path.{_≡_}
-use mathlib.Core.Bool.{false}
 use mathlib.Core.List.{List, [], _∷_, _++_, List·Memᴰ}
 use lib.ListN.{length, getD, take, drop}
 use Rattle.hex.specs.Digits.{bytesOf}
 use Rattle.hex.specs.Lines.{endOf}
 use Rattle.frames.specs.First.{framesOf}
 use Rattle.model.specs.Atoms.{Atom, Step}
-use Rattle.model.specs.Bound.{Bound, has, most}
+use Rattle.model.specs.Bound.{Bound, most}
 use Rattle.model.specs.Scheduling.{State, unlowered, tryAt, emitAt, eagerPass, lowerEager, atomOf, numbers}
 use Rattle.cost.specs.QueryAtoms.{atomOfFrame, atomsIn}
 use Rattle.lowering.specs.AtomLines.{AtomLine}

@@ -12,7 +12,7 @@ use Rattle.model.specs.Bound.{most}
 use Rattle.model.specs.Scheduling.{atomOf}
 use Rattle.cost.specs.QueryAtoms.{atomOfFrame, atomFrames, atomsIn}
 use Rattle.lowering.specs.AtomLines.{AtomLine}
-use Rattle.lowering.specs.Eager.{lineAt, atomsOf, Located}
+use Rattle.lowering.specs.Eager.{lineAt, Located}
 
 -- "Atoms are numbered from 0 by arrival": the first n of `from` are where their lines begin
 pub record Places (x from : List ℕ) (n : ℕ) : Type 0 where

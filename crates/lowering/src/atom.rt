@@ -1,9 +1,9 @@
 // One atom, read off its line: whether it is free, whether it scans, and what it binds.
 ghost use mathlib.Core.Path.{_≡_};
-ghost use Prim.Native.Nat.{ℕ, _<_, _≤_};
-ghost use lib.ListN.{length, getD};
+ghost use Prim.Native.Nat.{_<_};
+ghost use lib.ListN.{length};
 ghost use Rattle.hex.specs.Digits.{bytesOf};
-ghost use Rattle.model.specs.Atoms.{Eq, EqGlobal};
+ghost use Rattle.model.specs.Atoms.{Eq};
 ghost use Rattle.model.specs.Bound.{most};
 ghost use Rattle.model.specs.Scheduling.{isFree, scans as scansOf};
 ghost use Rattle.cost.specs.QueryAtoms.{atomOfFrame};
