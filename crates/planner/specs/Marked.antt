@@ -1,11 +1,15 @@
 -- The marked examples that concern the planner, together in a single statement over a table: the refusal table's, the worked plan, the empty
--- query with outputs of 20 and 21 bytes, a tie of two equal Plains. (The three selectivities and the roots are computed beside their
--- definitions.) Each is computed from text to text.
+-- query with outputs of 20 and 21 bytes, a tie of two equal Plains, each from text to text; the three selectivities and the roots of 0 and
+-- 2.25, by their bits.
 use Prim.Native.Nat.{ℕ}
 use mathlib.Core.Path.{_≡_, refl}
 use mathlib.Core.List.{List, [], _∷_, map, _++_, flatMap}
 use lib.ListN.{replicate, drop}
-use lib.Ieee.{ofInt, ofBits, lt, mul, div}
+use lib.Count.{leadingZeros}
+use lib.Ieee.{binary64, ofInt, ofBits, toBits, lt, mul, div}
+use Rattle.sqrt.specs.Sqrt.{wholeRoot, sqrt}
+use Rattle.measure.specs.Selectivity.{pathSelectivity}
+use Rattle.measure.specs.declared.FanOut.the-variants.{Measured}
 use Rattle.hex.specs.Lines.{split}
 use Rattle.frames.specs.Fields.{fieldPasses}
 use Rattle.frames.specs.Kinds.{kindAt}
@@ -73,6 +77,24 @@ table =
 abbrev answered : Row → Result
 answered r = plan (r .query) (r .lent)
 
-pub right : map answered table ≡ map (λ (r : Row). record { answer = r .says; output = r .leaves }) table
-unfolding table plan planOf stepsOf reading framesOf split kindAt passAll fieldPasses planned remembered memoryLoop atomsIn atomOfFrame operandsFrom bytesFrom put hasAll blank tabulate markAll emitReadChildren childLookups lower unlowered eagerPass passesUpTo roundsUpTo atomOf scan cheapest begins find opCard atomCard baseCard denominator byChildPos settings setChildren recordAtom recordEmitters childCosts estimateCost ofInt ofBits lt mul div planText textOf frameOf flatMap
-right = refl
+-- numbers that are computed, and what they are
+pub record Mark : Type 0 where
+  pub bits : ℕ
+  pub is : ℕ
+
+abbrev selectivity : ℕ → ℕ → ℕ
+selectivity fanout denom = toBits binary64 (pathSelectivity (Measured (ofBits binary64 fanout)) denom)
+
+unfoldable pub numbers : List Mark
+unfolding toBits ofBits div lt ofInt
+numbers =
+    record { bits = sqrt 0; is = 0 }
+    ∷ record { bits = sqrt 0x4002_0000_0000_0000; is = 0x3ff8_0000_0000_0000 }
+    ∷ record { bits = selectivity 0x4008_0000_0000_0000 4; is = 0x3fe8_0000_0000_0000 }
+    ∷ record { bits = selectivity 0x4020_0000_0000_0000 4; is = 0x3ff0_0000_0000_0000 }
+    ∷ record { bits = selectivity 0x4008_0000_0000_0000 0; is = 0x3fe0_0000_0000_0000 }
+    ∷ []
+
+pub right : (map answered table ≡ map (λ (r : Row). record { answer = r .says; output = r .leaves }) table) × (map (λ (m : Mark). m .bits) numbers ≡ map (λ (m : Mark). m .is) numbers)
+unfolding table plan planOf stepsOf reading framesOf split kindAt passAll fieldPasses planned remembered memoryLoop atomsIn atomOfFrame operandsFrom bytesFrom put hasAll blank tabulate markAll emitReadChildren childLookups lower unlowered eagerPass passesUpTo roundsUpTo atomOf scan cheapest begins find opCard atomCard baseCard denominator byChildPos settings setChildren recordAtom recordEmitters childCosts estimateCost ofInt ofBits lt mul div planText textOf frameOf flatMap numbers wholeRoot leadingZeros toBits
+right = (refl, refl)
