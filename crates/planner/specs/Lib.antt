@@ -1,0 +1,3 @@
+pub mod Planner
+pub mod Promised
+pub mod Marked

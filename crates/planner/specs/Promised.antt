@@ -1,0 +1,25 @@
+-- What holds of the plan of every accepted query, whatever costs, fan-outs, settings and samples. Proved from the choice's fairness.
+use Prim.Native.Nat.{ℕ, _<_}
+use mathlib.Core.Path.{_≡_, refl}
+use mathlib.Core.Bool.{true}
+use mathlib.Core.List.{List, []}
+use Rattle.frames.specs.First.{framesOf}
+use Rattle.frames.specs.declared.first.Text.the-variants.{Query}
+use Rattle.frames.specs.declared.first.Reading.the-variants.{Accepted}
+use Rattle.reading.specs.Second.{reading}
+use Rattle.model.specs.Reading.{boundFirst}
+use Rattle.model.specs.Guarantee.{schedule-bound-first}
+use Rattle.cost.specs.QueryAtoms.{atomsIn}
+use Rattle.cost.specs.Choice.{fresh, choose, choose-fair, planned}
+use Rattle.plan_facts.specs.QueryPlans.{ReadBack, plan-read-back}
+use Rattle.planner.specs.Planner.{stepsOf}
+
+-- "no step of a plan reads a variable that no earlier step has bound", all 14 kinds
+pub bound-before-read : (x : List ℕ) → boundFirst [] [] (stepsOf x) ≡ true
+unfolding stepsOf planned
+bound-before-read x = schedule-bound-first (atomsIn (framesOf x)) (choose (framesOf x) (atomsIn (framesOf x))) fresh (choose-fair (framesOf x) (atomsIn (framesOf x))) [] [] (λ v. refl)
+
+-- the plan as written is accepted, read back to the same steps, and at most 20,565 bytes long; t and r are the tallies
+pub read-back : (x : List ℕ) (n c : ℕ) → reading Query x ≡ Accepted n c → (t r : ℕ) → t < 65536 → r < 65536 → ReadBack x t r (stepsOf x)
+unfolding stepsOf planned
+read-back x n c ok t r p q = plan-read-back x n c ok (choose (framesOf x) (atomsIn (framesOf x))) fresh (choose-fair (framesOf x) (atomsIn (framesOf x))) t r p q
