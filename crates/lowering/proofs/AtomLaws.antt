@@ -32,7 +32,7 @@ atom-most b h = at (leb 1 b) h
     at false h = absurd (subst T (sym h) tt)
 
 -- what holds of a frame of each atom's kind holds of every atom's frame
-by-kind : (P : List ℕ → Type 0) → ((r : List ℕ) → P (0x01 ∷ r)) → ((r : List ℕ) → P (0x02 ∷ r)) → ((r : List ℕ) → P (0x03 ∷ r)) → ((r : List ℕ) → P (0x04 ∷ r)) → ((r : List ℕ) → P (0x05 ∷ r)) → ((r : List ℕ) → P (0x06 ∷ r)) → ((r : List ℕ) → P (0x07 ∷ r)) → ((r : List ℕ) → P (0x08 ∷ r)) → ((r : List ℕ) → P (0x09 ∷ r)) → ((r : List ℕ) → P (0x0a ∷ r)) → ((r : List ℕ) → P (0x0b ∷ r)) → ((r : List ℕ) → P (0x0c ∷ r)) → ((r : List ℕ) → P (0x0d ∷ r)) → ((r : List ℕ) → P (0x0e ∷ r)) → (f : List ℕ) → isAtom (getD f 0 0) ≡ true → P f
+pub by-kind : (P : List ℕ → Type 0) → ((r : List ℕ) → P (0x01 ∷ r)) → ((r : List ℕ) → P (0x02 ∷ r)) → ((r : List ℕ) → P (0x03 ∷ r)) → ((r : List ℕ) → P (0x04 ∷ r)) → ((r : List ℕ) → P (0x05 ∷ r)) → ((r : List ℕ) → P (0x06 ∷ r)) → ((r : List ℕ) → P (0x07 ∷ r)) → ((r : List ℕ) → P (0x08 ∷ r)) → ((r : List ℕ) → P (0x09 ∷ r)) → ((r : List ℕ) → P (0x0a ∷ r)) → ((r : List ℕ) → P (0x0b ∷ r)) → ((r : List ℕ) → P (0x0c ∷ r)) → ((r : List ℕ) → P (0x0d ∷ r)) → ((r : List ℕ) → P (0x0e ∷ r)) → (f : List ℕ) → isAtom (getD f 0 0) ≡ true → P f
 by-kind P p1 p2 p3 p4 p5 p6 p7 p8 p9 p10 p11 p12 p13 p14 [] h = absurd (subst T (sym h) tt)
 by-kind P p1 p2 p3 p4 p5 p6 p7 p8 p9 p10 p11 p12 p13 p14 (zero ∷ r) h = absurd (subst T (sym h) tt)
 by-kind P p1 p2 p3 p4 p5 p6 p7 p8 p9 p10 p11 p12 p13 p14 (suc zero ∷ r) h = p1 r
@@ -62,12 +62,12 @@ unfolding atomOfFrame
 free-frame U B = by-kind (λ f. freeFrame U B f ≡ isFree U B (atomOfFrame f)) (λ r. refl) (λ r. refl) (λ r. refl) (λ r. refl) (λ r. refl) (λ r. refl) (λ r. refl) (λ r. refl) (λ r. refl) (λ r. refl) (λ r. refl) (λ r. refl) (λ r. refl) (λ r. refl)
 
 -- the numbers of a frame's items are below what its atom's are
-items-kind : (f : List ℕ) → isAtom (getD f 0 0) ≡ true → scansKind (getD f 0 0) ≡ true → numbersBelow most (varsIn (atomOfFrame f)) ≡ true → numbersBelow most (flatMap localOf (itemOperands f)) ≡ true
+pub items-kind : (f : List ℕ) → isAtom (getD f 0 0) ≡ true → scansKind (getD f 0 0) ≡ true → numbersBelow most (varsIn (atomOfFrame f)) ≡ true → numbersBelow most (flatMap localOf (itemOperands f)) ≡ true
 unfolding atomOfFrame kinds kindAt operandsFrom numbersBelow flatMap
 items-kind = by-kind (λ f. scansKind (getD f 0 0) ≡ true → numbersBelow most (varsIn (atomOfFrame f)) ≡ true → numbersBelow most (flatMap localOf (itemOperands f)) ≡ true) (λ r t h. second (ltb (getD r 0 0) most) _ h) (λ r t h. refl) (λ r t h. refl) (λ r t h. absurd (subst T (sym t) tt)) (λ r t h. absurd (subst T (sym t) tt)) (λ r t h. absurd (subst T (sym t) tt)) (λ r t h. second (ltb (getD r 0 0) most) _ h) (λ r t h. second (ltb (getD r 0 0) most) _ h) (λ r t h. second (ltb (getD r 0 0) most) _ h) (λ r t h. second (ltb (getD r 0 0) most) _ h) (λ r t h. second (ltb (getD r 0 0) most) _ h) (λ r t h. second (ltb (getD r 0 0) most) _ h) (λ r t h. second (ltb (getD r 0 0) most) _ h) (λ r t h. second (ltb (getD r 0 0) most) _ h)
 
 -- and so is its node, or the local of an EqGlobal
-node-kind : (f : List ℕ) → isAtom (getD f 0 0) ≡ true → (getD f 0 0 ≡ 6 → ⊥) → (getD f 0 0 ≡ 4 → ⊥) → numbersBelow most (varsIn (atomOfFrame f)) ≡ true → ltb (getD f 1 0) most ≡ true
+pub node-kind : (f : List ℕ) → isAtom (getD f 0 0) ≡ true → (getD f 0 0 ≡ 6 → ⊥) → (getD f 0 0 ≡ 4 → ⊥) → numbersBelow most (varsIn (atomOfFrame f)) ≡ true → ltb (getD f 1 0) most ≡ true
 unfolding atomOfFrame numbersBelow
 node-kind = by-kind (λ f. (getD f 0 0 ≡ 6 → ⊥) → (getD f 0 0 ≡ 4 → ⊥) → numbersBelow most (varsIn (atomOfFrame f)) ≡ true → ltb (getD f 1 0) most ≡ true) (λ r p q h. first _ _ h) (λ r p q h. first _ _ h) (λ r p q h. first _ _ h) (λ r p q h. absurd (q refl)) (λ r p q h. first _ _ h) (λ r p q h. absurd (p refl)) (λ r p q h. first _ _ h) (λ r p q h. first _ _ h) (λ r p q h. first _ _ h) (λ r p q h. first _ _ h) (λ r p q h. first _ _ h) (λ r p q h. first _ _ h) (λ r p q h. first _ _ h) (λ r p q h. first _ _ h)
 

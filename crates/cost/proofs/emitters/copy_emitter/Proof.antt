@@ -4,34 +4,49 @@ use borrow.Author.Needs.{needs}
 use Rattle.cost.proofs.emitters.copy_emitter.Statement.{statement}
 use Rattle.cost.proofs.emitters.copy_emitter.Tie as tie
 use Rattle.cost.proofs.emitters.place.Reads as place-reads
+
 place-requires : tie.Need-place-requires
 place-requires c κs = search needs
+
 place-requires-2 : tie.Need-place-requires-2
 place-requires-2 c κs = search needs
+
 mul-x : tie.Need-mul-x
 mul-x c = search needs
+
 slice-read-x : tie.Need-slice-read-x
 slice-read-x c = search needs
+
 mul-y : tie.Need-mul-y
 mul-y c = search needs
+
 slice-read-y : tie.Need-slice-read-y
 slice-read-y c = search needs
+
 mul-em : tie.Need-mul-em
 mul-em c = search needs
+
 slice-write-em : tie.Need-slice-write-em
 slice-write-em c = search needs
+
 same-length : tie.Need-same-length
 same-length c = search needs
+
 returns : tie.Need-returns
 returns c = search copy-left
+
 mul-em-2 : tie.Need-mul-em-2
 mul-em-2 c = search needs
+
 slice-write-em-2 : tie.Need-slice-write-em-2
 slice-write-em-2 c = search needs
+
 same-length-2 : tie.Need-same-length-2
 same-length-2 c = search needs
+
 returns-2 : tie.Need-returns-2
 returns-2 c = search copy-right
+
 returns-3 : tie.Need-returns-3
 returns-3 c = search copy-none
 
