@@ -1,2 +1,3 @@
 pub mod SamplingLaws
 pub mod EmitterLaws
+pub mod DrawLaws
