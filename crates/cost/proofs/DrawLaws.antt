@@ -1,18 +1,23 @@
 -- The draws of a measurement, node by node. Proved from what one node adds.
 use Prim.Native.Nat.{ℕ, zero, suc, _+_, _-_, _*_, _<_, _≤_}
 use mathlib.Core.Path.{_≡_, refl, sym, _∙_, ap}
+use mathlib.Core.Option.{some}
 use mathlib.Core.List.{List, [], _∷_, _++_, append-nil, append-assoc}
 use native.Mathlib.Omega.{arith}
 use native.Mathlib.Numerals.{add-one}
 use lib.IntN.{pos}
 use lib.ListN.{length, getD, set, take}
-use lib.Seq.{take-suc-set, take-all}
+use lib.Seq.{take-suc-set, take-all, length-take-le}
 use lib.Ieee.{Float, binary64, div, ofInt}
 use Rattle.hex.specs.Digits.{shortAt}
 use Rattle.query.specs.Statistics.{shortsFrom, keyClasses, driverSample}
 use Rattle.cost.specs.declared.sampling.Key.{Key}
-use Rattle.cost.specs.Sampling.{probeSum, drawOf, withDraw, drawsOf}
-use Rattle.cost.specs.Draws.{classesFrame, nodesFrame, Drawn}
+use Rattle.cost.specs.Sampling.{probeSum, drawOf, withDraw, drawsOf, ofDraws, measure}
+use Rattle.cost.specs.Draws.{classesFrame, nodesFrame, Drawn, measurementOf}
+use Rattle.cost.specs.declared.draws.Measurement.{Measurement}
+use Rattle.measure.specs.Bootstrap.{Sample, estimateOf}
+use Rattle.measure.specs.declared.SamplerConfig.{SamplerConfig}
+use Rattle.measure.specs.declared.Estimate.{Estimate}
 use Rattle.cost.proofs.SamplingLaws.{shorts-more}
 
 shorts-length : (n : ℕ) (f : List ℕ) (i : ℕ) → length (shortsFrom f i n) ≡ n
@@ -93,3 +98,25 @@ module _ (fs : List (List ℕ)) (x : Key) (b n k : ℕ) (f : List ℕ) (found : 
 
   pub first-drawn : (D : List Float) (d : ℕ) → k ≤ n → Drawn D d k (drawsOf fs x (shortsFrom f 3 k)) → Drawn D d k (drawsOf fs x (driverSample fs (x .emitter) k))
   first-drawn D d h w = record { is = rw (nodes-are, shorts-take n k f 3 h) (w .is); few = w .few }
+
+-- ---- the measurement
+
+pub part-length : (D : List Float) (n : ℕ) → n ≤ length D → n ≡ length (take n D)
+part-length D n h = sym (length-take-le n D h)
+
+module _ (D : List Float) (n : ℕ) where
+  module _ (z : n ≡ 0 → ⊥) (l : n ≤ length D) where
+    pub a-sample : n ≤ 64 → Sample (take n D)
+    a-sample k = record { some = omega (arith, length-take-le n D l); few = omega (arith, length-take-le n D l) }
+
+    pub some-draws : (cfg : SamplerConfig) (e : Estimate) (r : Measurement) → e ≡ estimateOf cfg (take n D) → r ≡ measurementOf (some e) → r ≡ measurementOf (ofDraws cfg (take n D))
+    some-draws cfg e r p q = q ∙ rw p (by (take n D) (omega (arith, length-take-le n D l)))
+      where
+        by : (ds : List Float) → 0 < length ds → measurementOf (some (estimateOf cfg ds)) ≡ measurementOf (ofDraws cfg ds)
+        by [] h = absurd (omega arith)
+        by (d ∷ ds) h = refl
+
+  module _ (fs : List (List ℕ)) (x : Key) (cfg : SamplerConfig) (w : Drawn D n (cfg .k) (drawsOf fs x (driverSample fs (x .emitter) (cfg .k)))) where
+    pub measure-is : (r : Measurement) → r ≡ measurementOf (ofDraws cfg (take n D)) → r ≡ measurementOf (measure fs cfg x)
+    unfolding measure
+    measure-is r h = h ∙ rw (w .is)

@@ -1,12 +1,13 @@
 // The measurement of a key: the draws of its emitter's first nodes, and their estimate.
 ghost use mathlib.Core.Path.{_≡_};
+ghost use mathlib.Core.Option.{some};
 ghost use mathlib.Core.List.{[], _∷_, _++_};
 ghost use Prim.Native.Nat.{ℕ, _+_, _*_, _<_, _≤_};
 ghost use lib.ListN.{length, getD, take};
 ghost use Rattle.hex.specs.Digits.{bytesOf};
 ghost use Rattle.frames.specs.First.{framesOf};
 ghost use Rattle.query.specs.Statistics.{shortsFrom, keyClasses, driverSample};
-ghost use Rattle.cost.specs.Sampling.{drawOf, withDraw, drawsOf, measure};
+ghost use Rattle.cost.specs.Sampling.{drawOf, withDraw, drawsOf, ofDraws, measure};
 ghost use Rattle.cost.specs.Draws.{classesFrame, nodesFrame, Drawn, measurementOf};
 use super::sampling::Key;
 use super::sampling::high;
@@ -85,4 +86,37 @@ pub fn sample_draws(text: &[u8], x: Key, k: usize, draws: &mut [f64]) -> usize
         return fill_draws(text, line, n, x, draws);
     }
     fill_draws(text, line, k, x, draws)
+}
+
+fn measured(e: Estimate) -> Measurement
+    ensures { λ r. ⌜ r ≡ measurementOf (some e) ⌝ }
+{
+    match e {
+        Estimate::Accepted(m) => Measurement::Accepted(m),
+        Estimate::Rejected => Measurement::Rejected,
+    }
+}
+
+// The measurement by the first n draws.
+fn estimate_first(draws: &[f64], n: usize, cfg: SamplerConfig) -> Measurement
+    requires { ⌜ n ≤ 64 ⌝ }
+    requires { ⌜ n ≤ length (now draws) ⌝ }
+    requires { ⌜ cfg .bootstrap ≤ 256 ⌝ }
+    ensures { λ r. ⌜ r ≡ measurementOf (ofDraws cfg (take n (now (draws .entry)))) ⌝ }
+{
+    if n == 0 {
+        return Measurement::NoDraws;
+    }
+    measured(estimate_draws(&draws[..n], cfg))
+}
+
+// The measurement of a key; `draws` is room for its draws.
+pub fn measure_key(text: &[u8], x: Key, cfg: SamplerConfig, draws: &mut [f64]) -> Measurement
+    requires { ⌜ cfg .k ≤ 64 ⌝ }
+    requires { ⌜ cfg .bootstrap ≤ 256 ⌝ }
+    requires { ⌜ cfg .k ≤ length (now draws) ⌝ }
+    ensures { λ r. ⌜ r ≡ measurementOf (measure (framesOf (now (text .entry))) cfg x) ⌝ }
+{
+    let n = sample_draws(text, x, cfg.k, draws);
+    estimate_first(draws, n, cfg)
 }
