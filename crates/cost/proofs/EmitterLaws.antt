@@ -1,14 +1,19 @@
 -- Emitters packed into numbers. Assumes nothing.
 use Prim.Native.Nat.{ℕ, zero, suc, _+_, _-_, _*_, _/_, _%_, _<_, _≤_}
 use mathlib.Core.Path.{_≡_, refl, sym, _∙_, ap}
+use mathlib.Core.Bool.{true}
 use mathlib.Core.Option.{Option, none, some}
 use mathlib.Core.List.{List, [], _∷_, map}
 use native.Mathlib.Omega.{arith}
 use lib.ListN.{length, getD, set, List·getD-map}
-use borrow.Author.Tests.{eq-eqb, ne-eqb}
+use lib.Dec.{ltb}
+use borrow.Author.Tests.{eq-eqb, ne-eqb, ltb-true}
+use Rattle.model.specs.Atoms.{local, localOf}
 use Rattle.model.specs.Bound.{put}
+use Rattle.model.specs.Bools.{first}
+use Rattle.model.specs.Premises.{numbersBelow}
 use Rattle.cost.specs.QueryAtoms.{operandAt}
-use Rattle.cost.specs.Emitters.{Emitter, Emitters, decode, from, orKeep, setEmitter, setOperand, emitterOf}
+use Rattle.cost.specs.Emitters.{Emitter, Emitters, decode, from, orKeep, setEmitter, setOperand, copyEmitter, emitterOf}
 
 pub packed-is : (a s p x y z : ℕ) → s < 4 → p < 256 → x ≡ a → y ≡ s → z ≡ p → decode (1 + (x * 4 + y) * 256 + z) ≡ from a s p
 packed-is a s p x y z h g d e f =
@@ -48,3 +53,42 @@ module _ (l f : List ℕ) (i t e : ℕ) (p : t ≡ getD f i 0) where
 
   pub global-kept : (t ≡ 0 → ⊥) → map decode l ≡ setOperand (map decode l) (operandAt f i) (decode e)
   global-kept z = rw (← p, ne-eqb _ _ z)
+
+  pub local-below : (n v : ℕ) → t ≡ 0 → v ≡ getD f (i + 1) 0 → numbersBelow n (localOf (operandAt f i)) ≡ true → v < n
+  unfolding numbersBelow
+  local-below n v h q b =
+      let g : operandAt f i ≡ local v = rw (← p, eq-eqb t 0 h, q) in
+      ltb-true v n (first (ltb v n) true (rw g at b))
+
+-- two variables of an Eq
+module _ (l : List ℕ) (a b i j : ℕ) (p : i ≡ a) (q : j ≡ b) where
+  abbrev Copied : List ℕ → Type 0
+  Copied m = map decode m ≡ copyEmitter (emitterOf (map decode l) a) (emitterOf (map decode l) b) (map decode l) a b
+
+  at-a : emitterOf (map decode l) a ≡ decode (getD l i 0)
+  at-a = rw p (at-decoded l a)
+
+  at-b : emitterOf (map decode l) b ≡ decode (getD l j 0)
+  at-b = rw q (at-decoded l b)
+
+  pub copy-left : a < length l → getD l i 0 ≡ 0 → Copied (set l i (getD l j 0))
+  copy-left h z = rw (at-a, at-b, z) (go i p)
+    where
+      go : (m : ℕ) → m ≡ a → map decode (set l m (getD l j 0)) ≡ put none (map decode l) a (decode (getD l j 0))
+      go m e = rw e (put-decoded l a (getD l j 0) h)
+
+  module _ (n : getD l i 0 ≡ 0 → ⊥) where
+    pub copy-right : b < length l → getD l j 0 ≡ 0 → Copied (set l j (getD l i 0))
+    copy-right h z = rw (at-a, at-b, z, q) (go (getD l i 0) n (put-decoded l b (getD l i 0) h))
+      where
+        go : (c : ℕ) → (c ≡ 0 → ⊥) → map decode (set l b c) ≡ put none (map decode l) b (decode c) → map decode (set l b c) ≡ copyEmitter (decode c) none (map decode l) a b
+        go zero n e = absurd (n refl)
+        go (suc c) n e = e
+
+    pub copy-none : (getD l j 0 ≡ 0 → ⊥) → Copied l
+    copy-none m = rw (at-a, at-b) (go (getD l i 0) (getD l j 0) n m)
+      where
+        go : (c d : ℕ) → (c ≡ 0 → ⊥) → (d ≡ 0 → ⊥) → map decode l ≡ copyEmitter (decode c) (decode d) (map decode l) a b
+        go zero d n m = absurd (n refl)
+        go (suc c) zero n m = absurd (m refl)
+        go (suc c) (suc d) n m = refl

@@ -21,13 +21,13 @@ pub struct Key {
     pub place: u8,
 }
 
-fn high(s: u16) -> u8
+pub fn high(s: u16) -> u8
     ensures { λ r. ⌜ r ≡ highOf s ⌝ }
 {
     (s / 256) as u8
 }
 
-fn low(s: u16) -> u8
+pub fn low(s: u16) -> u8
     ensures { λ r. ⌜ r ≡ lowOf s ⌝ }
 {
     (s % 256) as u8
@@ -57,7 +57,7 @@ fn wide(w: u32) -> u64
 }
 
 // The sum of the lengths of the probes by the n classes of a line.
-fn probe_sum(text: &[u8], line: &[u8], n: usize, x: Key) -> u64
+pub fn probe_sum(text: &[u8], line: &[u8], n: usize, x: Key) -> u64
     requires { ⌜ n < 256 ⌝ }
     ensures { λ r. ⌜ (r ≡ probeSum (framesOf (now (text .entry))) x (shortsFrom (bytesOf (now (line .entry))) 6 n)) × (r ≤ 4294967296 * n) ⌝ }
 {

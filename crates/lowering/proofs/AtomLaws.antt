@@ -59,12 +59,12 @@ unfolding atomOfFrame
 free-frame U B = by-kind (λ f. freeFrame U B f ≡ isFree U B (atomOfFrame f)) (λ r. refl) (λ r. refl) (λ r. refl) (λ r. refl) (λ r. refl) (λ r. refl) (λ r. refl) (λ r. refl) (λ r. refl) (λ r. refl) (λ r. refl) (λ r. refl) (λ r. refl) (λ r. refl)
 
 -- the numbers of a frame's items are below what its atom's are
-items-kind : (f : List ℕ) → isAtom (getD f 0 0) ≡ true → scansKind (getD f 0 0) ≡ true → numbersBelow most (varsIn (atomOfFrame f)) ≡ true → numbersBelow most (flatMap localOf (itemOperands f)) ≡ true
+pub items-kind : (f : List ℕ) → isAtom (getD f 0 0) ≡ true → scansKind (getD f 0 0) ≡ true → numbersBelow most (varsIn (atomOfFrame f)) ≡ true → numbersBelow most (flatMap localOf (itemOperands f)) ≡ true
 unfolding atomOfFrame kinds kindAt operandsFrom numbersBelow flatMap
 items-kind = by-kind (λ f. scansKind (getD f 0 0) ≡ true → numbersBelow most (varsIn (atomOfFrame f)) ≡ true → numbersBelow most (flatMap localOf (itemOperands f)) ≡ true) (λ r t h. second (ltb (getD r 0 0) most) _ h) (λ r t h. refl) (λ r t h. refl) (λ r t h. absurd (subst T (sym t) tt)) (λ r t h. absurd (subst T (sym t) tt)) (λ r t h. absurd (subst T (sym t) tt)) (λ r t h. second (ltb (getD r 0 0) most) _ h) (λ r t h. second (ltb (getD r 0 0) most) _ h) (λ r t h. second (ltb (getD r 0 0) most) _ h) (λ r t h. second (ltb (getD r 0 0) most) _ h) (λ r t h. second (ltb (getD r 0 0) most) _ h) (λ r t h. second (ltb (getD r 0 0) most) _ h) (λ r t h. second (ltb (getD r 0 0) most) _ h) (λ r t h. second (ltb (getD r 0 0) most) _ h)
 
 -- and so is its node, or the local of an EqGlobal
-node-kind : (f : List ℕ) → isAtom (getD f 0 0) ≡ true → (getD f 0 0 ≡ 6 → ⊥) → (getD f 0 0 ≡ 4 → ⊥) → numbersBelow most (varsIn (atomOfFrame f)) ≡ true → ltb (getD f 1 0) most ≡ true
+pub node-kind : (f : List ℕ) → isAtom (getD f 0 0) ≡ true → (getD f 0 0 ≡ 6 → ⊥) → (getD f 0 0 ≡ 4 → ⊥) → numbersBelow most (varsIn (atomOfFrame f)) ≡ true → ltb (getD f 1 0) most ≡ true
 unfolding atomOfFrame numbersBelow
 node-kind = by-kind (λ f. (getD f 0 0 ≡ 6 → ⊥) → (getD f 0 0 ≡ 4 → ⊥) → numbersBelow most (varsIn (atomOfFrame f)) ≡ true → ltb (getD f 1 0) most ≡ true) (λ r p q h. first _ _ h) (λ r p q h. first _ _ h) (λ r p q h. first _ _ h) (λ r p q h. absurd (q refl)) (λ r p q h. first _ _ h) (λ r p q h. absurd (p refl)) (λ r p q h. first _ _ h) (λ r p q h. first _ _ h) (λ r p q h. first _ _ h) (λ r p q h. first _ _ h) (λ r p q h. first _ _ h) (λ r p q h. first _ _ h) (λ r p q h. first _ _ h) (λ r p q h. first _ _ h)
 

@@ -7,6 +7,7 @@ ghost use Rattle.hex.specs.Digits.{bytesOf, wordAt};
 ghost use Rattle.frames.specs.First.{framesOf};
 ghost use Rattle.query.specs.Statistics.{cardOf, opCard, atomCard, inFull, orCard, baseCard as baseCardOf, orZero, denominator as denominatorOf, fanOutAt, byChildPos, byContains, reprOf, byRepr, nodes as nodesOf, sampledOf, settings as settingsOf, probeLen};
 use super::lookup::find_six;
+use frames::fields::wide;
 use hex::byte_at;
 use hex::long_at;
 use hex::short_at;
@@ -124,4 +125,33 @@ pub fn nodes(text: &[u8]) -> u32
     ensures { λ r. ⌜ r ≡ nodesOf (framesOf (now (text .entry))) ⌝ }
 {
     word_at(find_six(text, 1, 0x12, 0, 0, 0, 0, 0), 9)
+}
+
+fn wide_short(s: u16) -> usize
+    ensures { λ r. ⌜ r ≡ s ⌝ }
+{
+    s as usize
+}
+
+fn sampled_of(line: &[u8]) -> Sampled
+    ensures { λ r. ⌜ r ≡ sampledOf (bytesOf (now (line .entry))) ⌝ }
+{
+    if line.len() < 2 {
+        return Sampled::Off;
+    }
+    let k = wide(byte_at(line, 1));
+    let bootstrap = wide_short(short_at(line, 2));
+    let cv_threshold = sqrt::of_bits(long_at(line, 4));
+    Sampled::On(SamplerConfig {
+        k,
+        bootstrap,
+        cv_threshold,
+    })
+}
+
+// Whether sampling is on, and its settings.
+pub fn settings(text: &[u8]) -> Sampled
+    ensures { λ r. ⌜ r ≡ settingsOf (framesOf (now (text .entry))) ⌝ }
+{
+    sampled_of(find_six(text, 1, 0x20, 0, 0, 0, 0, 0))
 }

@@ -1,4 +1,4 @@
-use Rattle.cost.proofs.EmitterLaws.{local-set, global-kept}
+use Rattle.cost.proofs.EmitterLaws.{local-set, global-kept, local-below}
 use borrow.Author.Needs.{needs}
 use Rattle.cost.proofs.emitters.set_operand.Statement.{statement}
 use Rattle.cost.proofs.emitters.set_operand.Tie as tie
@@ -13,7 +13,7 @@ byte-at-requires-2 : tie.Need-byte-at-requires-2
 byte-at-requires-2 c κs = search needs
 
 set-emitter-requires : tie.Need-set-emitter-requires
-set-emitter-requires c κs = search needs
+set-emitter-requires c κs = search local-below
 
 same-length : tie.Need-same-length
 same-length c = search needs
