@@ -67,7 +67,7 @@ pub record Marked (f : List ℕ) (i w n : ℕ) (B₀ B : Bound) (k : ℕ) : Type
   pub below : numbersBelow (length B₀) (flatMap localOf (operandsFrom f (i + w * k) w (n - k))) ≡ true
   pub is : markAll B (operandsFrom f (i + w * k) w (n - k)) ≡ markAll B₀ (operandsFrom f i w n)
 
-operands-more : (f : List ℕ) (i w n k : ℕ) → k < n → operandsFrom f (i + w * k) w (n - k) ≡ operandAt f (i + w * k) ∷ operandsFrom f (i + w * (k + 1)) w (n - (k + 1))
+pub operands-more : (f : List ℕ) (i w n k : ℕ) → k < n → operandsFrom f (i + w * k) w (n - k) ≡ operandAt f (i + w * k) ∷ operandsFrom f (i + w * (k + 1)) w (n - (k + 1))
 unfolding operandsFrom
 operands-more f i w n k h =
     let e : n - k ≡ suc (n - (k + 1)) = omega arith in

@@ -1,0 +1,3 @@
+// The plan's text, written into a lent output where there is room; the next place is told always.
+pub mod bytes;
+pub mod lines;
