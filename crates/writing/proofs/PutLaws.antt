@@ -6,10 +6,11 @@ use mathlib.Core.List.{List, [], _∷_, _++_, append-assoc}
 use native.Mathlib.Omega.{arith}
 use native.Mathlib.Nat.{add-zero, add-suc, suc-add}
 use lib.ListN.{length, set, length-append}
-use lib.Seq.{set-out}
+use lib.Seq.{set-out, length-sets}
 use Rattle.hex.specs.Digits.{hexDigit, digitsOf}
 use Rattle.model.specs.Limits.{lineEnd}
 use Rattle.plans.specs.PlanText.{textOf, textLength}
+use Rattle.plans.specs.Texts.{text-length}
 use Rattle.plans.specs.StepFrames.{wordBytes, frameOf, headerOf}
 use Rattle.model.specs.Atoms.{CheckLit}
 use Rattle.writing.specs.Written.{written, Puts, PutsBytes, PutsFrames}
@@ -18,6 +19,10 @@ written-then : (x o : List ℕ) (at : ℕ) (y : List ℕ) → written (written o
 unfolding written
 written-then [] o at y = rw (add-zero at)
 written-then (b ∷ x) o at y = let e : at + suc (length x) ≡ suc at + length x = omega arith in rw e (written-then x (set o at b) (suc at) y)
+
+pub written-size : (o : List ℕ) (at : ℕ) (x : List ℕ) → length (written o at x) ≡ length o
+unfolding written
+written-size o at x = length-sets o at x
 
 -- ---- a byte of the text
 
@@ -93,3 +98,24 @@ shorts-put o p q s at i j r x y z a b c = bytes-then (short x ++ short y) (short
 
 pub header-put : (o p q s : List ℕ) (at i j r v g n x y z : ℕ) → PutsBytes o at (0x3f ∷ v ∷ g ∷ n ∷ []) p i → PutsBytes p i (x / 0x100 ∷ x % 0x100 ∷ y / 0x100 ∷ y % 0x100 ∷ z / 0x100 ∷ z % 0x100 ∷ []) q j → Puts q j (lineEnd ∷ []) s r → PutsFrames o at (headerOf v g n x y z ∷ []) s r
 header-put o p q s at i j r v g n x y z a b c = line-put (headerOf v g n x y z) (bytes-then (0x3f ∷ v ∷ g ∷ n ∷ []) (short x ++ short y ++ short z) a b) c
+
+-- ---- lines in turn
+
+text-append : (fs gs : List (List ℕ)) → textOf (fs ++ gs) ≡ textOf fs ++ textOf gs
+unfolding textOf
+text-append [] gs = refl
+text-append (f ∷ fs) gs = rw (text-append fs gs) (sym (append-assoc (digitsOf f) (lineEnd ∷ textOf fs) (textOf gs)))
+
+length-both : (fs gs : List (List ℕ)) → textLength (fs ++ gs) ≡ textLength fs + textLength gs
+unfolding textLength
+length-both [] gs = omega arith
+length-both (f ∷ fs) gs = let h = length-both fs gs in omega arith
+
+pub frames-none : (o : List ℕ) (at : ℕ) → PutsFrames o at [] o at
+unfolding written textOf textLength
+frames-none o at = record { is = refl; next = omega arith }
+
+pub frames-then : (fs gs : List (List ℕ)) {o p q : List ℕ} {at i r : ℕ} → PutsFrames o at fs p i → PutsFrames p i gs q r → PutsFrames o at (fs ++ gs) q r
+frames-then fs gs {o} {p} {q} {at} {i} {r} u v =
+    let n : i ≡ at + length (textOf fs) = omega (arith, u .next, text-length fs) in
+    record { is = v .is ∙ rw (n, u .is, text-append fs gs) (written-then (textOf fs) o at (textOf gs)); next = omega (arith, u .next, v .next, length-both fs gs) }
