@@ -112,3 +112,6 @@ module _ (f : List ℕ) (n node : ℕ) (B₀ : Bound) (o₀ : List ℕ) (from : 
 
   pub children-marked : n ≤ k → B ≡ markAll B₀ (operandsFrom f 4 2 n)
   children-marked h = marked-all f 4 2 n B₀ B k (m .marked) h
+
+  pub children-room : n < 256 → at ≤ from + 4096
+  children-room h = omega (arith, m .room, m .marked .few)

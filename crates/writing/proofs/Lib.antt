@@ -1,3 +1,5 @@
 pub mod PutLaws
 pub mod ChildLaws
 pub mod LookupLaws
+pub mod JoinLaws
+pub mod ItemLaws

@@ -1,11 +1,13 @@
 -- Text put into a lent output: each byte where there is room for it, and always the next place.
-use Prim.Native.Nat.{ℕ, _+_, _*_}
+use Prim.Native.Nat.{ℕ, _+_, _*_, _≤_}
 use mathlib.Core.Path.{_≡_}
-use mathlib.Core.List.{List}
+use mathlib.Core.List.{List, [], _∷_}
 use lib.ListN.{length}
 use lib.Seq.{sets}
 use Rattle.hex.specs.Digits.{digitsOf}
 use Rattle.plans.specs.PlanText.{textOf, textLength}
+use Rattle.plans.specs.StepFrames.{frameOf}
+use Rattle.model.specs.Atoms.{Step}
 
 -- the output o with the text x from `at` on, as far as there is room
 unfoldable pub written : List ℕ → ℕ → List ℕ → List ℕ
@@ -25,3 +27,8 @@ pub record PutsBytes (o : List ℕ) (at : ℕ) (f p : List ℕ) (r : ℕ) : Type
 pub record PutsFrames (o : List ℕ) (at : ℕ) (fs : List (List ℕ)) (p : List ℕ) (r : ℕ) : Type 0 where
   pub is : p ≡ written o at (textOf fs)
   pub next : r ≡ at + textLength fs
+
+-- and the line of one step, of which there are few bytes
+pub record PutsStep (o : List ℕ) (at : ℕ) (s : Step) (p : List ℕ) (r : ℕ) : Type 0 where
+  pub puts : PutsFrames o at (frameOf s ∷ []) p r
+  pub near : r ≤ at + 4096

@@ -61,6 +61,7 @@ pub fn emit_read_children(
     requires { ⌜ from < 0x2000_0000 ⌝ }
     requires { ⌜ numbersBelow (length (now bound)) (flatMap localOf (operandsFrom (bytesOf (now line)) 4 2 n)) ≡ true ⌝ }
     ensures { λ r. ⌜ now (bound .exit) ≡ markAll (now (bound .entry)) (operandsFrom (bytesOf (now (line .entry))) 4 2 n) ⌝ }
+    ensures { λ r. ⌜ r ≤ from + 4096 ⌝ }
     ensures { λ r. ⌜ PutsFrames (now (out .entry)) from (map frameOf (emitReadChildren node 0 (now (bound .entry)) (operandsFrom (bytesOf (now (line .entry))) 4 2 n))) (now (out .exit)) r ⌝ }
 {
     let mut at = from;

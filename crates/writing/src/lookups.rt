@@ -75,6 +75,7 @@ pub fn put_lookups(
     requires { ⌜ w < 256 ⌝ }
     requires { ⌜ n < 256 ⌝ }
     requires { ⌜ from < 0x2800_0000 ⌝ }
+    ensures { λ r. ⌜ r ≤ from + 2048 ⌝ }
     ensures { λ r. ⌜ PutsBytes (now (out .entry)) from (flatMap lookupBytes (lookupsOf plain (now (bound .entry)) 0 (operandsFrom (bytesOf (now (line .entry))) i w n))) (now (out .exit)) r ⌝ }
 {
     let mut at = from;

@@ -1,7 +1,7 @@
 -- `writing::children::emit_read_children` meets its contract: the children left give what all give.
 use Prim.Native.Nat.{_-_}
 use Rattle.hex.specs.Digits.{bytesOf}
-use Rattle.writing.proofs.ChildLaws.{Reading, reading-none, child-below, reading-again, reading-all, children-marked}
+use Rattle.writing.proofs.ChildLaws.{Reading, reading-none, child-below, reading-again, reading-all, children-marked, children-room}
 use borrow.Author.Needs.{needs}
 use Rattle.writing.proofs.children.emit_read_children.Statement.{statement}
 use Rattle.writing.proofs.children.emit_read_children.Tie as tie
@@ -52,7 +52,7 @@ same-length-2 : tie.Need-same-length-2 Inv-loop μ-loop
 same-length-2 c = search needs
 
 returns : tie.Need-returns Inv-loop μ-loop
-returns c = (search children-marked, search reading-all)
+returns c = (search children-marked, (search children-room, search reading-all))
 
 pub emit-read-children-spec : {M : Type 1} → statement M
 emit-read-children-spec =

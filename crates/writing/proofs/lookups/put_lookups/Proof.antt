@@ -40,7 +40,7 @@ same-length : tie.Need-same-length Inv-loop μ-loop
 same-length c = search needs
 
 returns : tie.Need-returns Inv-loop μ-loop
-returns c = search looked
+returns c = (search needs, search looked)
 
 pub put-lookups-spec : {M : Type 1} → statement M
 put-lookups-spec =
