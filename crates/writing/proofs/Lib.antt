@@ -3,3 +3,4 @@ pub mod ChildLaws
 pub mod LookupLaws
 pub mod JoinLaws
 pub mod ItemLaws
+pub mod EmitLaws
