@@ -1,0 +1,6 @@
+pub mod PutLaws
+pub mod ChildLaws
+pub mod LookupLaws
+pub mod JoinLaws
+pub mod ItemLaws
+pub mod EmitLaws

@@ -1,0 +1,20 @@
+-- `writing::bytes::put_four` meets its contract: the bytes in turn.
+use Rattle.writing.proofs.PutLaws.{four-put}
+use borrow.Author.Needs.{needs}
+use Rattle.writing.proofs.bytes.put_four.Statement.{statement}
+use Rattle.writing.proofs.bytes.put_four.Tie as tie
+
+put-two-requires : tie.Need-put-two-requires
+put-two-requires c κs = search needs
+
+put-two-requires-2 : tie.Need-put-two-requires-2
+put-two-requires-2 c κs = search needs
+
+same-length : tie.Need-same-length
+same-length c = search needs
+
+returns : tie.Need-returns
+returns c = search four-put
+
+pub put-four-spec : {M : Type 1} → statement M
+put-four-spec = tie.close (tie.spec put-two-requires put-two-requires-2 same-length returns)

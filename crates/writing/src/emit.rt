@@ -1,0 +1,63 @@
+// The steps of one atom by its kind, as lines; `bound` is what is bound before it.
+ghost use mathlib.Core.Path.{_≡_};
+ghost use Prim.Native.Nat.{ℕ, _+_, _<_, _≤_};
+ghost use lib.ListN.{length, getD};
+ghost use Rattle.hex.specs.Digits.{bytesOf, wordAt};
+ghost use Rattle.model.specs.Atoms.{Lit, LitBind, Eq, EqGlobal};
+ghost use Rattle.writing.specs.Emitting.{Emits};
+use super::join::join;
+use super::lines::check_lit;
+use super::lines::line_of_three;
+use hex::byte_at;
+use hex::word_at;
+use lowering::sets::is_set;
+
+// Both bound, CheckEq; one bound, CopyBinding; none, it waits.
+pub fn emit_eq(a: u8, b: u8, bound: &[bool], out: &mut [u8], at: usize) -> usize
+    requires { ⌜ at < 0x2000_0000 ⌝ }
+    ensures { λ r. ⌜ Emits (now (bound .entry)) 0 (Eq a b) (now (out .entry)) at (now (out .exit)) r ⌝ }
+{
+    let left = is_set(bound, a);
+    let right = is_set(bound, b);
+    if left {
+        if right {
+            return line_of_three(out, at, 0x43, a, b);
+        }
+        return line_of_three(out, at, 0x46, b, a);
+    }
+    if right {
+        return line_of_three(out, at, 0x46, a, b);
+    }
+    at
+}
+
+// Bound, CheckEqGlobal; else BindGlobal.
+pub fn emit_eq_global(a: u8, g: u8, bound: &[bool], out: &mut [u8], at: usize) -> usize
+    requires { ⌜ at < 0x2000_0000 ⌝ }
+    ensures { λ r. ⌜ Emits (now (bound .entry)) 0 (EqGlobal a g) (now (out .entry)) at (now (out .exit)) r ⌝ }
+{
+    if is_set(bound, a) {
+        return line_of_three(out, at, 0x44, a, g);
+    }
+    line_of_three(out, at, 0x45, a, g)
+}
+
+pub fn emit_lit(line: &[u8], k: u8, bound: &[bool], out: &mut [u8], at: usize) -> usize
+    requires { ⌜ at < 0x2000_0000 ⌝ }
+    ensures { λ r. ⌜ Emits (now (bound .entry)) k (Lit (getD (bytesOf (now (line .entry))) 1 0) (getD (bytesOf (now (line .entry))) 2 0) (wordAt (bytesOf (now (line .entry))) 4)) (now (out .entry)) at (now (out .exit)) r ⌝ }
+{
+    let node = byte_at(line, 1);
+    let value = word_at(line, 4);
+    let i = join(line, false, 0, 0, 0, k, bound, out, at);
+    check_lit(out, i, node, value)
+}
+
+pub fn emit_lit_bind(line: &[u8], k: u8, bound: &[bool], out: &mut [u8], at: usize) -> usize
+    requires { ⌜ at < 0x2000_0000 ⌝ }
+    ensures { λ r. ⌜ Emits (now (bound .entry)) k (LitBind (getD (bytesOf (now (line .entry))) 1 0) (getD (bytesOf (now (line .entry))) 2 0) (getD (bytesOf (now (line .entry))) 3 0)) (now (out .entry)) at (now (out .exit)) r ⌝ }
+{
+    let node = byte_at(line, 1);
+    let literal = byte_at(line, 3);
+    let i = join(line, false, 0, 0, 0, k, bound, out, at);
+    line_of_three(out, i, 0x4a, node, literal)
+}
