@@ -2,17 +2,26 @@
 use Prim.Native.Nat.{ℕ, zero, suc, _+_, _-_, _*_, _/_, _%_, _<_, _≤_}
 use mathlib.Core.Path.{_≡_, refl, sym, _∙_, ap}
 use mathlib.Core.Bool.{Bool, true, false}
+use mathlib.Core.Option.{Option, none, some}
 use mathlib.Core.List.{List, [], _∷_}
 use native.Mathlib.Omega.{arith}
 use native.Mathlib.Decide.{ℕ-discrete}
 use lib.Dec.{eqb}
-use lib.ListN.{length, getD}
+use lib.ListN.{length, getD, set}
+use lib.Seq.{getD-set-same, getD-set-other}
+use native.Mathlib.Numerals.{add-one}
 use borrow.Author.Tests.{eq-eqb, ne-eqb, eqb-true}
 use Rattle.base.specs.Choose.{pick}
 use Rattle.model.specs.Bools.{first, second}
 use Rattle.cost.specs.declared.sampling.Key.{Key}
-use Rattle.cost.specs.Sampling.{sameKey, isKnown}
-use Rattle.cost.specs.Memo.{unpackKey, memoAt}
+use Rattle.cost.specs.Sampling.{sameKey, Tally, isKnown, measure, tallyOf, afterEstimate}
+use Rattle.cost.specs.Memo.{unpackKey, memoAt, countedBy, tallyAt}
+use Rattle.cost.specs.Draws.{measurementOf}
+use Rattle.cost.specs.declared.draws.Measurement.{Measurement}
+use Rattle.cost.specs.declared.memo.Tallies.{Tallies}
+use Rattle.measure.specs.declared.SamplerConfig.{SamplerConfig}
+use Rattle.measure.specs.declared.Estimate.{Estimate}
+use Rattle.measure.specs.declared.Estimate.the-variants.{Accepted, Rejected}
 
 pub packed-key : (a b c d e f : ℕ) → b < 256 → c < 256 → d < 256 → e < 256 → f < 256 → unpackKey (((((a * 256 + b) * 256 + c) * 256 + d) * 256 + e) * 256 + f) ≡ record { emitter = a; site = b; position = c; op = d; path = e; place = f }
 packed-key a b c d e f hb hc hd he hf =
@@ -99,3 +108,33 @@ module _ (ks : List ℕ) (m key i : ℕ) (s : Searching ks m key i) where
   searching-none h =
       let e : i ≡ 0 = omega arith in
       rw e at (s .is)
+
+-- ---- one key more
+
+memo-below : (ks : List ℕ) (c key i : ℕ) → i ≤ c → memoAt (set ks c key) i ≡ memoAt ks i
+unfolding memoAt
+memo-below ks c key zero h = refl
+memo-below ks c key (suc i) h = rw (getD-set-other ks c i key 0 (λ e. absurd (omega arith)), memo-below ks c key i (omega arith))
+
+memo-more : (ks : List ℕ) (c key : ℕ) → c < length ks → memoAt (set ks c key) (c + 1) ≡ unpackKey key ∷ memoAt ks c
+unfolding memoAt
+memo-more ks c key h = rw (add-one c, getD-set-same ks c key 0 h, memo-below ks c key c (omega arith))
+
+module _ (fs : List (List ℕ)) (cfg : SamplerConfig) (x : Key) (ks : List ℕ) (s : Tallies) (key : ℕ) (t : Bool) (p : unpackKey key ≡ x) (q : t ≡ isKnown (memoAt ks (s .count)) (unpackKey key)) where
+  pub known-already : t ≡ true → tallyAt ks s ≡ afterEstimate fs cfg x (tallyAt ks s)
+  unfolding afterEstimate
+  known-already h = rw (← p, ← q, h)
+
+  pub known-now : (m : Measurement) (r : Tallies) → t ≡ false → s .count < length ks → m ≡ measurementOf (measure fs cfg x) → r ≡ countedBy m s → tallyAt (set ks (s .count) key) r ≡ afterEstimate fs cfg x (tallyAt ks s)
+  unfolding afterEstimate
+  known-now m r h l e g =
+      let f : isKnown (memoAt ks (s .count)) x ≡ false = rw (← p) (sym q ∙ h) in
+      rw (f, g, e) (by (measure fs cfg x))
+    where
+      memo : memoAt (set ks (s .count) key) (s .count + 1) ≡ x ∷ memoAt ks (s .count)
+      memo = memo-more ks (s .count) key l ∙ rw p
+
+      by : (o : Option Estimate) → tallyAt (set ks (s .count) key) (countedBy (measurementOf o) s) ≡ tallyOf o x (tallyAt ks s)
+      by none = rw memo
+      by (some (Accepted v)) = rw (memo, add-one (s .tallied))
+      by (some Rejected) = rw (memo, add-one (s .tallied), add-one (s .rejected))
