@@ -1,4 +1,4 @@
-// What the scheduler goes by: the atoms of a query, emitters, samples and costs. Most of it is definitions yet, in specs/.
+// What the scheduler goes by: emitters, draws, the memo. The costs and the choice are definitions in specs/ yet.
 pub mod draws;
 pub mod emitters;
 pub mod memo;
