@@ -1,0 +1,1 @@
+// The cost of an atom: the memo of what was sampled, and `estimate_cost`.
