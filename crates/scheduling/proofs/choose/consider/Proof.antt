@@ -1,0 +1,69 @@
+use borrow.Author.Needs.{needs}
+use Rattle.scheduling.proofs.choose.consider.Statement.{statement}
+use Rattle.scheduling.proofs.choose.consider.Tie as tie
+use Rattle.scheduling.proofs.choose.consider.Reads as reads
+use Rattle.scheduling.proofs.choose.consider.Lts as lts
+use Rattle.lowering.proofs.atom.scans.Reads as scans-reads
+use Rattle.lowering.proofs.sets.is_set.Reads as is-set-reads
+use Rattle.scheduling.proofs.choose.better.Reads as better-reads
+use Rattle.scheduling.proofs.costs.estimate_cost.Reads as estimate-cost-reads
+
+-- src/choose.rt:84:8
+is-set-requires : tie.Need-is-set-requires
+is-set-requires c κs = search needs
+
+-- src/choose.rt:85:9
+returns : tie.Need-returns
+returns c = search needs
+
+-- src/choose.rt:87:9
+scans-requires : tie.Need-scans-requires
+scans-requires c κs = search needs
+
+-- src/choose.rt:88:9
+returns-2 : tie.Need-returns-2
+returns-2 c = search needs
+
+-- src/choose.rt:91:9
+estimate-cost-requires : tie.Need-estimate-cost-requires
+estimate-cost-requires c κs = ?
+
+-- src/choose.rt:92:5
+better-requires : tie.Need-better-requires
+better-requires c κs = search needs
+
+-- src/choose.rt:63:1
+same-length : tie.Need-same-length
+same-length c = search needs
+
+-- src/choose.rt:63:1
+same-length-2 : tie.Need-same-length-2
+same-length-2 c = search needs
+
+-- src/choose.rt:63:1
+same-length-3 : tie.Need-same-length-3
+same-length-3 c = search needs
+
+-- src/choose.rt:63:1
+same-length-4 : tie.Need-same-length-4
+same-length-4 c = search needs
+
+-- src/choose.rt:63:1
+returns-3 : tie.Need-returns-3
+returns-3 c = ?
+
+pub consider-spec : {M : Type 1} → statement M
+consider-spec =
+    tie.close
+    (tie.spec
+    is-set-requires
+    returns
+    scans-requires
+    returns-2
+    estimate-cost-requires
+    better-requires
+    same-length
+    same-length-2
+    same-length-3
+    same-length-4
+    returns-3)

@@ -1,0 +1,137 @@
+// The cheapest of the atoms that are left.
+ghost use mathlib.Core.Path.{_≡_};
+ghost use mathlib.Core.Option.{none};
+ghost use mathlib.Core.List.{map};
+ghost use Prim.Native.Nat.{ℕ, _+_, _<_, _≤_};
+ghost use lib.ListN.{length, getD};
+ghost use Rattle.hex.specs.Digits.{bytesOf};
+ghost use Rattle.frames.specs.First.{framesOf};
+ghost use Rattle.model.specs.Scheduling.{numbers};
+ghost use Rattle.cost.specs.QueryAtoms.{atomOfFrame};
+ghost use Rattle.cost.specs.Emitters.{decode};
+ghost use Rattle.cost.specs.Memo.{tallyAt};
+ghost use Rattle.lowering.specs.AtomLines.{AtomLine};
+ghost use Rattle.lowering.specs.Eager.{Located, atomsOf};
+ghost use Rattle.pricing.specs.Remembering.{Samples, Remembers};
+ghost use Rattle.scheduling.specs.Stub.{Stub};
+ghost use Rattle.scheduling.specs.Choosing.{bidOf, considered, candidates, Chose, betterOf};
+use cost::memo::Tallies;
+use lowering::atom::scans;
+use lowering::eager::atom_line;
+use lowering::sets::is_set;
+use super::costs::Costed;
+use super::costs::estimate_cost;
+use query::statistics::Sampled;
+
+// The cheapest atom so far, if one was found, its cost, and the tallies behind it.
+pub struct Best {
+    pub found: bool,
+    pub who: u8,
+    pub price: f64,
+    pub tallies: Tallies,
+}
+
+// A cost replaces the best only where it is below it.
+fn better(i: u8, c: Costed, b: Best) -> Best
+    ensures { λ r. ⌜ r ≡ betterOf i c b ⌝ }
+{
+    let tallies = c.tallies;
+    let found = true;
+    if b.found {
+        if !(c.cost < b.price) {
+            let who = b.who;
+            let price = b.price;
+            return Best {
+                found,
+                who,
+                price,
+                tallies,
+            };
+        }
+    }
+    let who = i;
+    let price = c.cost;
+    Best {
+        found,
+        who,
+        price,
+        tallies,
+    }
+}
+
+// Atom number i, by its line, against the best so far.
+fn consider(
+    text: &[u8],
+    line: &[u8],
+    i: u8,
+    used: &[bool],
+    bound: &[bool],
+    em: &[u32],
+    how: Sampled,
+    keys: &mut [u64],
+    valued: &mut [bool],
+    values: &mut [f64],
+    draws: &mut [f64],
+    b: Best,
+) -> Best
+    requires { ⌜ Stub 0 ⌝ }
+    requires { ⌜ AtomLine (bytesOf (now line)) ⌝ }
+    requires { ⌜ Samples (framesOf (now text)) how (now draws) ⌝ }
+    requires { ⌜ Remembers (framesOf (now text)) how (now keys) (now valued) (now values) (b .tallies) ⌝ }
+    requires { ⌜ length (considered (framesOf (now text)) (map decode (now em)) (now used) (now bound) i (atomOfFrame (bytesOf (now line))) (tallyAt (now keys) (b .tallies)) (bidOf (b .found) (b .who) (b .price)) .next .memo) ≤ length (now keys) ⌝ }
+    ensures { λ r. ⌜ Chose (framesOf (now (text .entry))) how (now (keys .exit)) (now (valued .exit)) (now (values .exit)) r (considered (framesOf (now (text .entry))) (map decode (now (em .entry))) (now (used .entry)) (now (bound .entry)) i (atomOfFrame (bytesOf (now (line .entry)))) (tallyAt (now (keys .entry)) (b .tallies)) (bidOf (b .found) (b .who) (b .price))) ⌝ }
+{
+    if is_set(used, i) {
+        return b;
+    }
+    if !scans(line) {
+        return b;
+    }
+    let s = b.tallies;
+    let c = estimate_cost(text, line, i, bound, em, how, keys, valued, values, draws, s);
+    better(i, c, b)
+}
+
+fn narrow(i: usize) -> u8
+    requires { ⌜ i < 256 ⌝ }
+    ensures { λ r. ⌜ r ≡ i ⌝ }
+{
+    i as u8
+}
+
+// The cheapest of the n atoms, of those that are not used and scan.
+pub fn cheapest(
+    text: &[u8],
+    from: &[usize],
+    n: usize,
+    used: &[bool],
+    bound: &[bool],
+    em: &[u32],
+    how: Sampled,
+    keys: &mut [u64],
+    valued: &mut [bool],
+    values: &mut [f64],
+    draws: &mut [f64],
+    s: Tallies,
+) -> Best
+    requires { ⌜ Stub 0 ⌝ }
+    requires { ⌜ Located (now text) (now from) n ⌝ }
+    requires { ⌜ Samples (framesOf (now text)) how (now draws) ⌝ }
+    requires { ⌜ Remembers (framesOf (now text)) how (now keys) (now valued) (now values) s ⌝ }
+    requires { ⌜ length (candidates (framesOf (now text)) (map decode (now em)) (atomsOf (now text)) (now used) (now bound) (numbers (atomsOf (now text))) (tallyAt (now keys) s) none .next .memo) ≤ length (now keys) ⌝ }
+    ensures { λ r. ⌜ Chose (framesOf (now (text .entry))) how (now (keys .exit)) (now (valued .exit)) (now (values .exit)) r (candidates (framesOf (now (text .entry))) (map decode (now (em .entry))) (atomsOf (now (text .entry))) (now (used .entry)) (now (bound .entry)) (numbers (atomsOf (now (text .entry)))) (tallyAt (now (keys .entry)) s) none) ⌝ }
+{
+    let mut b = Best {
+        found: false,
+        who: 0,
+        price: 0.0,
+        tallies: s,
+    };
+    let mut i: usize = 0;
+    while i < n {
+        let line = atom_line(text, from, i);
+        b = consider(text, line, narrow(i), used, bound, em, how, keys, valued, values, draws, b);
+        i += 1;
+    }
+    b
+}
