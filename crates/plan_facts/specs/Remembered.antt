@@ -56,6 +56,16 @@ atomKeys em (EqGlobal a g) = []
 atomKeys em (Pred g ds) = []
 atomKeys em (Variadic n o cs f) = elementKeys em o cs
 
+-- the operands that a cost may ask for
+abbrev pub operandsOf : Atom → List Operand
+operandsOf (Plain n o cs) = cs
+operandsOf (Lit n o x) = []
+operandsOf (LitBind n o l) = []
+operandsOf (Eq a b) = []
+operandsOf (EqGlobal a g) = []
+operandsOf (Pred g ds) = []
+operandsOf (Variadic n o cs f) = cs
+
 -- ---- what a measured key keeps, every cost keeps
 
 -- every element of l has the property A
