@@ -1,2 +1,3 @@
 pub mod AtomFrames
 pub mod QueryPlans
+pub mod Remembered
