@@ -18,4 +18,7 @@ pub record Stands (fs : List (List ℕ)) (how : Sampled) (keys : List ℕ) (valu
   pub memo : Remembers fs how keys valued values (r .tallies)
 
 pub record Stub (n : ℕ) : Type 0 where
-  pub no : ⊥
+  no : ⊥
+
+pub use-stub : {A : Type 0} (n : ℕ) → Stub n → A
+use-stub n s = absurd (s .no)

@@ -1,3 +1,4 @@
+use Rattle.scheduling.proofs.ChoiceLaws.{considers-used, considers-not, considers-room, considers-cost}
 use borrow.Author.Needs.{needs}
 use Rattle.scheduling.proofs.choose.consider.Statement.{statement}
 use Rattle.scheduling.proofs.choose.consider.Tie as tie
@@ -14,7 +15,7 @@ is-set-requires c κs = search needs
 
 -- src/choose.rt:85:9
 returns : tie.Need-returns
-returns c = search needs
+returns c = search considers-used
 
 -- src/choose.rt:87:9
 scans-requires : tie.Need-scans-requires
@@ -22,11 +23,11 @@ scans-requires c κs = search needs
 
 -- src/choose.rt:88:9
 returns-2 : tie.Need-returns-2
-returns-2 c = search needs
+returns-2 c = search considers-not
 
 -- src/choose.rt:91:9
 estimate-cost-requires : tie.Need-estimate-cost-requires
-estimate-cost-requires c κs = ?
+estimate-cost-requires c κs = (search needs, (search needs, (search needs, (search needs, search considers-room))))
 
 -- src/choose.rt:92:5
 better-requires : tie.Need-better-requires
@@ -50,7 +51,7 @@ same-length-4 c = search needs
 
 -- src/choose.rt:63:1
 returns-3 : tie.Need-returns-3
-returns-3 c = ?
+returns-3 c = search considers-cost
 
 pub consider-spec : {M : Type 1} → statement M
 consider-spec =
