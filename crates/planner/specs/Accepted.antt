@@ -1,7 +1,7 @@
 -- What the reading gives of an accepted query, as the code of the planner asks for it: its atoms' frames, their items, and the settings.
 -- Proved from the tests that each frame passed.
-use Prim.Native.Nat.{ℕ, zero, suc, _+_, _<_, _≤_}
-use mathlib.Core.Path.{_≡_, refl, sym, _∙_, ap}
+use Prim.Native.Nat.{ℕ, zero, suc, _<_, _≤_}
+use mathlib.Core.Path.{_≡_, refl, sym, _∙_}
 use mathlib.Core.Bool.{Bool, true, false}
 use mathlib.Core.List.{List, [], _∷_}
 use native.Mathlib.Omega.{arith}
@@ -24,12 +24,12 @@ use Rattle.reading.specs.Keys.{begins, find, isFound}
 use Rattle.reading.specs.Second.{countsOf, reading}
 use Rattle.reading_facts.specs.Passes.{both-hold, frame-field}
 use Rattle.reading_facts.specs.Whole.{accepted, query-within}
-use Rattle.reading_facts.specs.Lookups.{Place, find-some}
+use Rattle.reading_facts.specs.Lookups.{find-some}
 use Rattle.measure.specs.declared.SamplerConfig.{SamplerConfig}
 use Rattle.query.specs.Statistics.{sampledOf, settings}
-use Rattle.query.specs.declared.statistics.Sampled.the-variants.{On, Off}
+use Rattle.query.specs.declared.statistics.Sampled.the-variants.{On}
 use Rattle.model.specs.Atoms.{Atom, Plain, Lit, LitBind, Eq, EqGlobal, Pred, Variadic}
-use Rattle.cost.specs.QueryAtoms.{atomOfFrame, atomFrames, atomsIn}
+use Rattle.cost.specs.QueryAtoms.{atomFrames}
 use Rattle.plans.specs.StepFrames.{Each}
 use Rattle.plans.specs.Fitting.{AtomFits}
 use Rattle.lowering.specs.AtomLines.{AtomLine}
