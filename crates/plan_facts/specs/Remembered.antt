@@ -1,14 +1,17 @@
 -- What the rounds of the scheduler remember. Each law is by induction over the code's definition, for any property of the tally that a
--- measured key keeps: the memo only grows, and the tallies stay within it.
-use Prim.Native.Nat.{ℕ, zero, suc, _≤_}
-use mathlib.Core.Path.{_≡_, refl}
+-- measured key keeps: the memo only grows, the tallies stay within it, and it has at most 1,024 keys.
+use Prim.Native.Nat.{ℕ, zero, suc, _*_, _≤_}
+use mathlib.Core.Path.{_≡_, refl, _∙_}
+use mathlib.Core.Logic.{_⊎_, inl, inr, _≢_}
 use mathlib.Core.Bool.{Bool, true, false}
 use mathlib.Core.Option.{Option, none, some}
-use mathlib.Core.List.{List, [], _∷_, _++_, List·Memᴰ, List·Memᴰ·head, Memᴰ·append-left, Memᴰ·append-right}
+use mathlib.Core.List.{List, [], _∷_, _++_, flatMap, List·Memᴰ, List·Memᴰ·head, List·Memᴰ·cases-cons, List·Memᴰ·not-nil, Memᴰ·append-left, Memᴰ·append-right, List·Memᴰ·append-cases}
 use native.Mathlib.Omega.{arith}
-use lib.ListN.{length}
+use lib.ListN.{length, length-append}
+use borrow.Author.Tests.{eq-eqb}
 use lib.Ieee.{Float, lt}
 use Rattle.base.specs.Choose.{pick, pick-elim}
+use Rattle.frames.specs.Limits.{itemsMost, atomsMost}
 use Rattle.measure.specs.declared.SamplerConfig.{SamplerConfig}
 use Rattle.measure.specs.declared.Estimate.{Estimate}
 use Rattle.measure.specs.declared.Estimate.the-variants.{Accepted, Rejected}
@@ -16,15 +19,20 @@ use Rattle.query.specs.Statistics.{settings}
 use Rattle.query.specs.declared.statistics.Sampled.{Sampled}
 use Rattle.query.specs.declared.statistics.Sampled.the-variants.{On, Off}
 use Rattle.model.specs.Atoms.{Operand, local, global, Atom, Plain, Lit, LitBind, Eq, EqGlobal, Pred, Variadic}
+use Rattle.model.specs.Bools.{both, true-false}
+use Rattle.model.specs.Lists.{Pairs, from, into}
 use Rattle.model.specs.Bound.{Bound, has, blank}
 use Rattle.model.specs.Lowering.{pvIsBound}
 use Rattle.model.specs.Scheduling.{State, Chosen, atomOf, numbers, lowerEager, emitAt, unplanned, unlowered}
 use Rattle.model.specs.Cheapest.{Priced, Bid, Scan, scan, cheapest, better, wants}
 use Rattle.cost.specs.declared.sampling.Key.{Key}
 use Rattle.cost.specs.Emitters.{Emitter, Emitters, emitterOf}
-use Rattle.cost.specs.Sampling.{Tally, isKnown, measure, tallyOf, afterEstimate}
+use Rattle.cost.specs.Sampling.{Tally, sameKey, isKnown, measure, tallyOf, afterEstimate}
 use Rattle.cost.specs.Costs.{Costed, sampled, sampledBy, estimate, childCosts, elementCosts, estimateCost}
 use Rattle.cost.specs.Choice.{Memory, fresh, recorded, cost, emittedBy, byCost, choose, rememberOn, memoryLoop, remembered}
+use Rattle.plans.specs.StepFrames.{Each}
+use Rattle.plan_facts.specs.Emitted.{Keeps, atom-keeps, record-keeps}
+use Rattle.plan_facts.specs.Pigeonhole.{no-longer}
 
 -- ---- the keys that are asked for
 
@@ -207,3 +215,165 @@ module _ (fs : List (List ℕ)) where
     pub remembered-tame : Tame (remembered fs qs .tally)
     unfolding remembered
     remembered-tame = loop-grows (suc (unlowered blank (numbers qs))) fresh unplanned .tame (record { tallied-few = omega arith; rejected-few = omega arith })
+
+-- ---- the memo stays small
+
+-- of all atoms, under the emitters em
+abbrev pub keysOf : Emitters → List Atom → List Key
+keysOf em qs = flatMap (atomKeys em) qs
+
+-- at most one key for each operand
+key-few : (em : Emitters) (x : Operand) (o path place : ℕ) → length (keyFor em x o path place) ≤ 1
+key-few em (local v) o path place = by (emitterOf em v)
+  where
+    by : (e : Option Emitter) → length (keyBy e o path place) ≤ 1
+    by none = omega arith
+    by (some e) = omega arith
+key-few em (global g) o path place = omega arith
+
+child-few : (em : Emitters) (o p : ℕ) (xs : List Operand) → length (childKeys em o p xs) ≤ length xs
+unfolding childKeys
+child-few em o p [] = omega arith
+child-few em o p (x ∷ xs) = omega (arith, length-append (keyFor em x o 0 p) (childKeys em o (suc p) xs), key-few em x o 0 p, child-few em o (suc p) xs)
+
+element-few : (em : Emitters) (o : ℕ) (xs : List Operand) → length (elementKeys em o xs) ≤ length xs
+unfolding elementKeys
+element-few em o [] = omega arith
+element-few em o (x ∷ xs) = omega (arith, length-append (keyFor em x o 1 0) (elementKeys em o xs), key-few em x o 1 0, element-few em o xs)
+
+atom-few : (em : Emitters) (a : Atom) → length (atomKeys em a) ≤ length (operandsOf a)
+atom-few em (Plain n o cs) = child-few em o 0 cs
+atom-few em (Lit n o x) = omega arith
+atom-few em (LitBind n o l) = omega arith
+atom-few em (Eq a b) = omega arith
+atom-few em (EqGlobal a g) = omega arith
+atom-few em (Pred g ds) = omega arith
+atom-few em (Variadic n o cs f) = element-few em o cs
+
+-- "items 16"
+abbrev pub FewOperands : Atom → Type 0
+FewOperands a = length (operandsOf a) ≤ itemsMost
+
+keys-few : (em : Emitters) (qs : List Atom) → Each FewOperands qs → length (keysOf em qs) ≤ itemsMost * length qs
+unfolding flatMap
+keys-few em [] h = omega arith
+keys-few em (a ∷ qs) h = let f = h .0 in omega (arith, length-append (atomKeys em a) (keysOf em qs), atom-few em a, keys-few em qs (h .1))
+
+-- a variable's key stays, as its emitter does
+key-stays : (em em′ : Emitters) → Keeps em em′ → (x : Operand) (o path place : ℕ) (k : Key) → List·Memᴰ k (keyFor em x o path place) → List·Memᴰ k (keyFor em′ x o path place)
+key-stays em em′ s (local v) o path place k i = by (emitterOf em v) refl i
+  where
+    by : (e : Option Emitter) → emitterOf em v ≡ e → List·Memᴰ k (keyBy e o path place) → List·Memᴰ k (keyBy (emitterOf em′ v) o path place)
+    by none p j = absurd (List·Memᴰ·not-nil j)
+    by (some e) p j = rw (s v e p) j
+key-stays em em′ s (global g) o path place k i = i
+
+-- an element of one list or another, brought over
+append-stays : (a a′ b b′ : List Key) (k : Key) → (List·Memᴰ k a → List·Memᴰ k a′) → (List·Memᴰ k b → List·Memᴰ k b′) → List·Memᴰ k (a ++ b) → List·Memᴰ k (a′ ++ b′)
+append-stays a a′ b b′ k f g i = by (List·Memᴰ·append-cases a i)
+  where
+    by : List·Memᴰ k a ⊎ List·Memᴰ k b → List·Memᴰ k (a′ ++ b′)
+    by (inl j) = Memᴰ·append-left b′ (f j)
+    by (inr j) = Memᴰ·append-right a′ (g j)
+
+child-stays : (em em′ : Emitters) → Keeps em em′ → (o p : ℕ) (xs : List Operand) (k : Key) → List·Memᴰ k (childKeys em o p xs) → List·Memᴰ k (childKeys em′ o p xs)
+unfolding childKeys
+child-stays em em′ s o p [] k i = i
+child-stays em em′ s o p (x ∷ xs) k i = append-stays (keyFor em x o 0 p) (keyFor em′ x o 0 p) _ _ k (key-stays em em′ s x o 0 p k) (child-stays em em′ s o (suc p) xs k) i
+
+element-stays : (em em′ : Emitters) → Keeps em em′ → (o : ℕ) (xs : List Operand) (k : Key) → List·Memᴰ k (elementKeys em o xs) → List·Memᴰ k (elementKeys em′ o xs)
+unfolding elementKeys
+element-stays em em′ s o [] k i = i
+element-stays em em′ s o (x ∷ xs) k i = append-stays (keyFor em x o 1 0) (keyFor em′ x o 1 0) _ _ k (key-stays em em′ s x o 1 0 k) (element-stays em em′ s o xs k) i
+
+atom-stays : (em em′ : Emitters) → Keeps em em′ → (a : Atom) (k : Key) → List·Memᴰ k (atomKeys em a) → List·Memᴰ k (atomKeys em′ a)
+atom-stays em em′ s (Plain n o cs) k i = child-stays em em′ s o 0 cs k i
+atom-stays em em′ s (Lit n o x) k i = i
+atom-stays em em′ s (LitBind n o l) k i = i
+atom-stays em em′ s (Eq a b) k i = i
+atom-stays em em′ s (EqGlobal a g) k i = i
+atom-stays em em′ s (Pred g ds) k i = i
+atom-stays em em′ s (Variadic n o cs f) k i = element-stays em em′ s o cs k i
+
+keys-stay : (em em′ : Emitters) → Keeps em em′ → (qs : List Atom) (k : Key) → List·Memᴰ k (keysOf em qs) → List·Memᴰ k (keysOf em′ qs)
+keys-stay em em′ s qs k i = let r = from (atomKeys em) qs i in into (atomKeys em′) qs (r .mem) (atom-stays em em′ s (r .src) k (r .sub))
+
+-- the keys of the atom numbered i are among those of all
+key-of : (em : Emitters) (qs : List Atom) (i : ℕ) (k : Key) → List·Memᴰ k (atomKeys em (atomOf qs i)) → List·Memᴰ k (keysOf em qs)
+unfolding atomOf flatMap
+key-of em [] i k m = absurd (List·Memᴰ·not-nil m)
+key-of em (a ∷ qs) zero k m = Memᴰ·append-left (keysOf em qs) m
+key-of em (a ∷ qs) (suc i) k m = Memᴰ·append-right (atomKeys em a) (key-of em qs i k m)
+
+-- the memo has no key twice, and only keys of K
+pub record Asked (K : List Key) (t : Tally) : Type 0 where
+  pub apart : Pairs _≢_ (t .memo)
+  pub among : All (λ k. List·Memᴰ k K) (t .memo)
+
+same-self : (k : Key) → sameKey k k ≡ true
+same-self k =
+    both (eq-eqb (k .emitter) (k .emitter) refl) (both (eq-eqb (k .site) (k .site) refl) (both (eq-eqb (k .position) (k .position) refl) (both (eq-eqb (k .op) (k .op) refl) (both (eq-eqb (k .path) (k .path) refl) (eq-eqb (k .place) (k .place) refl)))))
+
+-- a key that is not known is none of the memo's
+unknown : (l : List Key) (k : Key) → isKnown l k ≡ false → All (λ y. k ≢ y) l
+unfolding isKnown
+unknown [] k h y i = absurd (List·Memᴰ·not-nil i)
+unknown (x ∷ l) k h y i = by (sameKey k x) refl h (List·Memᴰ·cases-cons i) (λ g j. unknown l k g y j)
+  where
+    by : (t : Bool) → sameKey k x ≡ t → pick t true (isKnown l k) ≡ false → (y ≡ x) ⊎ List·Memᴰ y l → (isKnown l k ≡ false → List·Memᴰ y l → k ≢ y) → k ≢ y
+    by true e g c r = true-false refl g
+    by false e g (inl q) r = λ p. true-false (same-self k) (rw (← (p ∙ q)) at e)
+    by false e g (inr j) r = r g j
+
+asked-tally : (K : List Key) (r : Option Estimate) (k : Key) (t : Tally) → List·Memᴰ k K → isKnown (t .memo) k ≡ false → Asked K t → Asked K (tallyOf r k t)
+asked-tally K r k t m h a = by r
+  where
+    among : All (λ y. List·Memᴰ y K) (k ∷ t .memo)
+    among y i = at (List·Memᴰ·cases-cons i)
+      where
+        at : (y ≡ k) ⊎ List·Memᴰ y (t .memo) → List·Memᴰ y K
+        at (inl e) = rw e m
+        at (inr j) = a .among y j
+
+    by : (r : Option Estimate) → Asked K (tallyOf r k t)
+    by none = record { apart = (unknown (t .memo) k h, a .apart); among = among }
+    by (some (Accepted v)) = record { apart = (unknown (t .memo) k h, a .apart); among = among }
+    by (some Rejected) = record { apart = (unknown (t .memo) k h, a .apart); among = among }
+
+-- a key for each item of each atom at most
+pub record FewKeys (t : Tally) : Type 0 where
+  pub memo-few : length (t .memo) ≤ 1024
+  pub tallied-few : t .tallied ≤ 1024
+  pub rejected-few : t .rejected ≤ 1024
+
+module _ (fs : List (List ℕ)) (qs : List Atom) where
+  asked-after : (K : List Key) (cfg : SamplerConfig) (k : Key) (t : Tally) → List·Memᴰ k K → Asked K t → Asked K (afterEstimate fs cfg k t)
+  unfolding afterEstimate
+  asked-after K cfg k t m a = pick-elim (Asked K) (isKnown (t .memo) k) t _ (λ _. a) (λ h. asked-tally K (measure fs cfg k) k t m h a)
+
+  -- the rounds ask for the keys under the emitters of the time, and these stay
+  abbrev AllAsked : Memory → Type 0
+  AllAsked m = Asked (keysOf (m .emitters) qs) (m .tally)
+
+  asked-more : (em em′ : Emitters) (t : Tally) → Keeps em em′ → Asked (keysOf em qs) t → Asked (keysOf em′ qs) t
+  asked-more em em′ t s a = record { apart = a .apart; among = λ k i. keys-stay em em′ s qs k (a .among k i) }
+
+  asked-emitted : (o : Option ℕ) (s : State) (m : Memory) → AllAsked m → AllAsked (emittedBy fs qs o s m)
+  asked-emitted none s m a = a
+  asked-emitted (some i) s m a = asked-more (m .emitters) _ (m .tally) (atom-keeps (m .emitters) i (atomOf qs i)) a
+
+  all-asked : AllAsked (remembered fs qs)
+  all-asked = remembered-keeps fs qs AllAsked
+      (λ m s a. asked-more (m .emitters) _ (m .tally) (record-keeps (m .before) (s .used) 0 qs (m .emitters)) a)
+      (λ m s i a. cost-keeps fs (λ k. List·Memᴰ k (keysOf (m .emitters) qs)) (Asked (keysOf (m .emitters) qs)) (asked-after (keysOf (m .emitters) qs)) (m .emitters) (s .bound) i (atomOf qs i) (m .tally) (key-of (m .emitters) qs i) a)
+      asked-emitted
+      (record { apart = tt; among = λ k i. absurd (List·Memᴰ·not-nil i) })
+
+  -- "atoms 64, items 16": whatever the costs
+  pub remembered-few : length qs ≤ atomsMost → Each FewOperands qs → FewKeys (remembered fs qs .tally)
+  remembered-few n h =
+      let a = all-asked in
+      let l = no-longer (remembered fs qs .tally .memo) (keysOf (remembered fs qs .emitters) qs) (a .apart) (a .among) in
+      let b = keys-few (remembered fs qs .emitters) qs h in
+      let t = remembered-tame fs qs in
+      record { memo-few = omega arith; tallied-few = omega arith; rejected-few = omega arith }

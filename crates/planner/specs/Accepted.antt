@@ -1,7 +1,7 @@
 -- What the reading gives of an accepted query, as the code of the planner asks for it: its atoms' frames, their items, and the settings.
 -- Proved from the tests that each frame passed.
-use Prim.Native.Nat.{ℕ, zero, suc, _+_, _<_, _≤_}
-use mathlib.Core.Path.{_≡_, refl, sym, _∙_, ap}
+use Prim.Native.Nat.{ℕ, zero, suc, _<_, _≤_}
+use mathlib.Core.Path.{_≡_, refl, sym, _∙_}
 use mathlib.Core.Bool.{Bool, true, false}
 use mathlib.Core.List.{List, [], _∷_}
 use native.Mathlib.Omega.{arith}
@@ -24,12 +24,13 @@ use Rattle.reading.specs.Keys.{begins, find, isFound}
 use Rattle.reading.specs.Second.{countsOf, reading}
 use Rattle.reading_facts.specs.Passes.{both-hold, frame-field}
 use Rattle.reading_facts.specs.Whole.{accepted, query-within}
-use Rattle.reading_facts.specs.Lookups.{Place, find-some}
+use Rattle.reading_facts.specs.Lookups.{find-some}
 use Rattle.measure.specs.declared.SamplerConfig.{SamplerConfig}
 use Rattle.query.specs.Statistics.{sampledOf, settings}
-use Rattle.query.specs.declared.statistics.Sampled.the-variants.{On, Off}
+use Rattle.query.specs.declared.statistics.Sampled.the-variants.{On}
 use Rattle.model.specs.Atoms.{Atom, Plain, Lit, LitBind, Eq, EqGlobal, Pred, Variadic}
-use Rattle.cost.specs.QueryAtoms.{atomOfFrame, atomFrames, atomsIn}
+use Rattle.cost.specs.QueryAtoms.{atomFrames}
+use Rattle.cost.specs.Choice.{remembered}
 use Rattle.plans.specs.StepFrames.{Each}
 use Rattle.plans.specs.Fitting.{AtomFits}
 use Rattle.lowering.specs.AtomLines.{AtomLine}
@@ -38,7 +39,7 @@ use Rattle.lowering.proofs.AtomLaws.{by-kind}
 use Rattle.lowering.proofs.AcceptedLaws.{atom-line}
 use Rattle.plan_facts.specs.AtomFrames.{Good}
 use Rattle.plan_facts.specs.QueryPlans.{atomsOf, good, atoms-number, query-fits}
-use Rattle.plan_facts.specs.Remembered.{operandsOf}
+use Rattle.plan_facts.specs.Remembered.{FewOperands, FewKeys, remembered-few}
 
 -- ---- the frames of atoms among frames
 
@@ -69,7 +70,7 @@ items-few = by-kind (λ f. framePasses (fieldPasses Limits noCounts) f ≡ true 
     limits = fieldPasses Limits noCounts
 
 -- what an atom within its limits has of operands
-operands-few : (n : Counts) (a : Atom) → AtomFits n a → length (operandsOf a) ≤ itemsMost
+operands-few : (n : Counts) (a : Atom) → AtomFits n a → FewOperands a
 operands-few n (Plain v o cs) h = h .2 .0
 operands-few n (Lit v o x) h = omega arith
 operands-few n (LitBind v o l) h = omega arith
@@ -78,7 +79,7 @@ operands-few n (EqGlobal a g) h = omega arith
 operands-few n (Pred g ds) h = omega arith
 operands-few n (Variadic v o cs f) h = h .2 .0
 
-each-few : (n : Counts) (qs : List Atom) → Each (AtomFits n) qs → Each (λ a. length (operandsOf a) ≤ itemsMost) qs
+each-few : (n : Counts) (qs : List Atom) → Each (AtomFits n) qs → Each FewOperands qs
 each-few n [] h = tt
 each-few n (a ∷ qs) h = (operands-few n a (h .0), each-few n qs (h .1))
 
@@ -120,8 +121,12 @@ module _ (x : List ℕ) (n c : ℕ) (ok : reading Query x ≡ Accepted n c) wher
   pub atom-items : (k : ℕ) → k < length (atomFrames (framesOf x)) → itemsOf (kindOf (getD (atomFrames (framesOf x)) k [])) (getD (atomFrames (framesOf x)) k []) ≤ itemsMost
   atom-items k h = let g = atom-frame (Good (countsOf Query x c)) (framesOf x) (good x n c ok) k h in items-few (getD (atomFrames (framesOf x)) k []) (g .0) (g .1 .limits)
 
-  pub atom-operands : Each (λ a. length (operandsOf a) ≤ itemsMost) (atomsOf x)
+  pub atom-operands : Each FewOperands (atomsOf x)
   atom-operands = each-few _ (atomsOf x) (query-fits x n c ok 0 0 (omega arith) (omega arith) .atoms)
+
+  -- so the memo and the tallies stay small, whatever the costs
+  pub few-keys : FewKeys (remembered (framesOf x) (atomsOf x) .tally)
+  few-keys = remembered-few (framesOf x) (atomsOf x) (rw (atoms-number x n c ok) (query-within x n c ok .atoms)) atom-operands
 
   pub small-settings : (cfg : SamplerConfig) → settings (framesOf x) ≡ On cfg → Small cfg
   unfolding settings
