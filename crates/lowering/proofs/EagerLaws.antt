@@ -3,7 +3,8 @@ use Prim.Native.Nat.{ℕ, suc, _+_, _-_, _<_, _≤_}
 use mathlib.Core.Path.{_≡_, refl, sym, _∙_, ap, subst}
 use mathlib.Core.Bool.{Bool, true, false, not}
 use mathlib.Core.Option.{Option, none, some}
-use mathlib.Core.List.{List, [], _∷_, _++_, append-nil, append-assoc, List·Memᴰ}
+use mathlib.Core.Logic.{_⊎_, inl, inr}
+use mathlib.Core.List.{List, [], _∷_, _++_, append-nil, append-assoc, List·Memᴰ, List·Memᴰ·not-nil, List·Memᴰ·cases-cons, List·Memᴰ·append-cases}
 use native.Mathlib.Omega.{arith}
 use native.Mathlib.Numerals.{add-one}
 use lib.Dec.{T, eqb}
@@ -15,13 +16,13 @@ use lib.Seq.{take-suc, take-suc-set, take-length}
 use Rattle.hex.specs.Lines.{endOf}
 use Rattle.model.specs.Atoms.{Atom, Step}
 use Rattle.model.specs.Tabulate.{tabulate-at, tabulate-length, mem-tabulate}
-use Rattle.model.specs.Bound.{Bound, has, add, most}
-use Rattle.model.specs.Lowering.{Emitted, lower}
-use Rattle.model.specs.Scheduling.{State, isFree, unlowered, tryAt, emitAt, eagerPass, lowerEager, atomOf, numbers}
+use Rattle.model.specs.Bound.{Bound, has, add, addAll, most}
+use Rattle.model.specs.Lowering.{Emitted, lower, Lowered, done, more}
+use Rattle.model.specs.Scheduling.{State, isFree, unlowered, tryAt, eagerPass, lowerEager, atomOf, numbers}
 use Rattle.model.specs.Scheduled.{unlowered-lt, lower-eager-is}
 use Rattle.cost.specs.QueryAtoms.{atomOfFrame}
 use Rattle.lowering.specs.AtomLines.{AtomLine, lowers, boundBehind, Lowers}
-use Rattle.lowering.specs.Eager.{state, replay, Went, Tries, lineAt, atomsOf, Located, Ready, Passed, LoweredEager}
+use Rattle.lowering.specs.Eager.{state, Went, Tries, lineAt, atomsOf, Located, Ready, Passed, LoweredEager}
 use Rattle.lowering.proofs.SetLaws.{add-size}
 use Rattle.lowering.proofs.OperandLaws.{is-true, is-false}
 
@@ -30,12 +31,14 @@ use Rattle.lowering.proofs.OperandLaws.{is-true, is-false}
 module _ (atomAt : ℕ → Atom) (js : List ℕ) where
   -- nothing is taken
   went-none : (go : State → State) (U B : Bound) (O : List ℕ) (c : ℕ) → ((ss : List Step) → go (state U B ss) ≡ state U B ss) → Went atomAt js go U B O c U B O c
-  unfolding replay
+  unfolding addAll
   went-none go U B O c h = record {
     new = [];
-    is = h;
-    used = λ ss. ap (λ (s : State). s .used) (h ss);
-    bound = λ ss. ap (λ (s : State). s .bound) (h ss);
+    steps = [];
+    lowered = done;
+    is = λ ss. h ss ∙ ap (state U B) (sym (append-nil ss));
+    used = refl;
+    known = λ k m. absurd (List·Memᴰ·not-nil m);
     order = sym (append-nil (take c O));
     count = omega arith;
     left = omega arith;
@@ -44,17 +47,23 @@ module _ (atomAt : ℕ → Atom) (js : List ℕ) where
     order-size = refl;
   }
 
-  replay-append : (ks ls : List ℕ) (st : State) → replay atomAt js (ks ++ ls) st ≡ replay atomAt js ls (replay atomAt js ks st)
-  unfolding replay
-  replay-append [] ls st = refl
-  replay-append (k ∷ ks) ls st = replay-append ks ls (emitAt atomAt js k st)
+  lowered-then : {B C D : Bound} {ss ts : List Step} {ks ls : List ℕ} → Lowered atomAt B ss C ks → Lowered atomAt C ts D ls → Lowered atomAt B (ss ++ ts) D (ks ++ ls)
+  lowered-then done b = b
+  lowered-then {ts = ts} (more k l {ss} e r) b = rw (append-assoc (l .steps) ss ts) (more k l e (lowered-then r b))
 
-  went-then : (f g : State → State) {U B : Bound} {O : List ℕ} {c : ℕ} {U′ C : Bound} {P : List ℕ} {d : ℕ} {U″ D : Bound} {Q : List ℕ} {e : ℕ} → Went atomAt js f U B O c U′ C P d → Went atomAt js g U′ C P d U″ D Q e → Went atomAt js (λ st. g (f st)) U B O c U″ D Q e
+  add-append : (Y : Bound) (ks ls : List ℕ) → addAll Y (ks ++ ls) ≡ addAll (addAll Y ks) ls
+  unfolding addAll
+  add-append Y [] ls = refl
+  add-append Y (k ∷ ks) ls = add-append (add Y k) ks ls
+
+  pub went-then : (f g : State → State) {U B : Bound} {O : List ℕ} {c : ℕ} {U′ C : Bound} {P : List ℕ} {d : ℕ} {U″ D : Bound} {Q : List ℕ} {e : ℕ} → Went atomAt js f U B O c U′ C P d → Went atomAt js g U′ C P d U″ D Q e → Went atomAt js (λ st. g (f st)) U B O c U″ D Q e
   went-then f g {U} {B} {O} {c} {U′} {C} {P} {d} {U″} {D} {Q} {e} a b = record {
     new = a .new ++ b .new;
-    is = λ ss. ap g (mid ss) ∙ b .is (steps ss) ∙ ap (replay atomAt js (b .new)) (sym (mid ss) ∙ a .is ss) ∙ sym (replay-append (a .new) (b .new) (state U B ss));
-    used = λ ss. ap (λ (s : State). g s .used) (mid ss) ∙ b .used (steps ss);
-    bound = λ ss. ap (λ (s : State). g s .bound) (mid ss) ∙ b .bound (steps ss);
+    steps = a .steps ++ b .steps;
+    lowered = lowered-then (a .lowered) (b .lowered);
+    is = λ ss. ap g (a .is ss) ∙ b .is (ss ++ a .steps) ∙ ap (state U″ D) (append-assoc ss (a .steps) (b .steps));
+    used = b .used ∙ ap (λ (Y : Bound). addAll Y (b .new)) (a .used) ∙ sym (add-append U (a .new) (b .new));
+    known = λ k m. from k (List·Memᴰ·append-cases (a .new) m);
     order = b .order ∙ ap (λ (l : List ℕ). l ++ b .new) (a .order) ∙ append-assoc (take c O) (a .new) (b .new);
     count = omega (arith, a .count, b .count, length-append (a .new) (b .new));
     left = omega (arith, a .left, b .left);
@@ -63,11 +72,9 @@ module _ (atomAt : ℕ → Atom) (js : List ℕ) where
     order-size = b .order-size ∙ a .order-size;
   }
     where
-      steps : List Step → List Step
-      steps ss = f (state U B ss) .steps
-
-      mid : (ss : List Step) → f (state U B ss) ≡ state U′ C (steps ss)
-      mid ss = λ j. record { used = a .used ss j; bound = a .bound ss j; steps = steps ss }
+      from : (k : ℕ) → List·Memᴰ k (a .new) ⊎ List·Memᴰ k (b .new) → List·Memᴰ k js
+      from k (inl m) = a .known k m
+      from k (inr m) = b .known k m
 
 -- ---- one atom
 
@@ -90,23 +97,32 @@ module _ (f : List ℕ) (i : ℕ) (U B : Bound) (O : List ℕ) (c : ℕ) (t : Bo
           rw (← w .1) (record { went = λ at js e m. went-none at js (tryAt at js i) U B O c (λ ss. rw (sym is ∙ new, e, sym free ∙ is-true q h, w .0)) })
 
       pub tried-takes : (U′ : Bound) → not r ≡ false → U′ ≡ add U i → i < length U → c < length O → Tries f i U B O c U′ C (set O c i) (c + 1)
-      unfolding replay
+      unfolding addAll
       tried-takes U′ g v below room = record { went = λ at js e m. at-some at js e m (lower B i (atomOfFrame f)) refl }
         where
           at-some : (at : ℕ → Atom) (js : List ℕ) → at i ≡ atomOfFrame f → List·Memᴰ i js → (o : Option Emitted) → lower B i (atomOfFrame f) ≡ o → Went at js (tryAt at js i) U B O c U′ C (set O c i) (c + 1)
           at-some at js e m none p = absurd (subst T (sym (ap lowers (sym p) ∙ l .is i ∙ is-true r g)) tt)
-          at-some at js e m (some x) p = record {
-            new = i ∷ [];
-            is = λ ss. rw (sym is ∙ new, e, sym free ∙ is-true q h);
-            used = λ ss. rw (sym is ∙ new, e, sym free ∙ is-true q h, p) (sym v);
-            bound = λ ss. rw (sym is ∙ new, e, sym free ∙ is-true q h, p) (ap (boundBehind B) (sym p) ∙ l .bound i);
-            order = rw (add-one c) (take-suc-set O c i room);
-            count = refl;
-            left = rw v (omega (arith, unlowered-lt U i js (sym is ∙ new) m));
-            used-size = ap length v ∙ add-size U i below;
-            bound-size = l .size;
-            order-size = length-set O c i;
-          }
+          at-some at js e m (some x) p =
+              let g : lower B i (at i) ≡ some x = rw e p in
+              let y : x .bound ≡ C = ap (boundBehind B) (sym p) ∙ l .bound i in
+              record {
+                new = i ∷ [];
+                steps = x .steps ++ [];
+                lowered = more i x g (subst (λ (D : Bound). Lowered at (x .bound) [] D []) y done);
+                is = λ ss. rw (sym is ∙ new, e, sym free ∙ is-true q h, p, append-nil (x .steps)) (λ j. state (sym v j) (y j) (ss ++ x .steps));
+                used = v;
+                known = λ k n. one-mem k (List·Memᴰ·cases-cons n);
+                order = rw (add-one c) (take-suc-set O c i room);
+                count = refl;
+                left = rw v (omega (arith, unlowered-lt U i js (sym is ∙ new) m));
+                used-size = ap length v ∙ add-size U i below;
+                bound-size = l .size;
+                order-size = length-set O c i;
+              }
+            where
+              one-mem : (k : ℕ) → (k ≡ i) ⊎ List·Memᴰ k [] → List·Memᴰ k js
+              one-mem k (inl z) = subst (λ (n : ℕ). List·Memᴰ n js) (sym z) m
+              one-mem k (inr z) = absurd (List·Memᴰ·not-nil z)
 
 pub has-room : (i : ℕ) (U : Bound) (O : List ℕ) (c : ℕ) (t : Bool) → t ≡ has U i → t ≡ false → (has U i ≡ false → c < length O) → c < length O
 has-room i U O c t is h room = room (sym is ∙ h)
@@ -158,8 +174,8 @@ module _ (x from : List ℕ) (n : ℕ) (U₀ B₀ : Bound) (O₀ : List ℕ) (c�
     mem : List·Memᴰ i (numbers (atomsOf x))
     mem = mem-tabulate (length (atomsOf x)) (λ k. k) i (rw (← z .count) h)
 
-    more : take (i + 1) (numbers (atomsOf x)) ≡ take i (numbers (atomsOf x)) ++ i ∷ []
-    more = rw (add-one i, take-suc (numbers (atomsOf x)) i 0 within, number)
+    one-more : take (i + 1) (numbers (atomsOf x)) ≡ take i (numbers (atomsOf x)) ++ i ∷ []
+    one-more = rw (add-one i, take-suc (numbers (atomsOf x)) i 0 within, number)
 
     pub place-sized : i < length from
     place-sized = omega (arith, z .size)
@@ -182,7 +198,7 @@ module _ (x from : List ℕ) (n : ℕ) (U₀ B₀ : Bound) (O₀ : List ℕ) (c�
       pub passing-again : (U′ C : Bound) (P : List ℕ) (d : ℕ) → Tries (bytesOf l) v U B O c U′ C P d → Passing x n U₀ B₀ O₀ c₀ U′ C P d (i + 1)
       passing-again U′ C P d t = record {
         few = omega arith;
-        went = rw (more, pass-snoc (atomOf (atomsOf x)) (numbers (atomsOf x)) (take i (numbers (atomsOf x))) i)
+        went = rw (one-more, pass-snoc (atomOf (atomsOf x)) (numbers (atomsOf x)) (take i (numbers (atomsOf x))) i)
             (went-then (atomOf (atomsOf x)) (numbers (atomsOf x)) (eagerPass (atomOf (atomsOf x)) (numbers (atomsOf x)) (take i (numbers (atomsOf x)))) (tryAt (atomOf (atomsOf x)) (numbers (atomsOf x)) i) (p .went)
             ((rw (narrow, line) at t) .went (atomOf (atomsOf x)) (numbers (atomsOf x)) (z .is i h) mem));
       }
@@ -201,9 +217,11 @@ module _ (x from : List ℕ) (n : ℕ) (U₀ B₀ : Bound) (O₀ : List ℕ) (c�
 went-same : (atomAt : ℕ → Atom) (js : List ℕ) (f g : State → State) (U B : Bound) (O : List ℕ) (c : ℕ) (U′ C : Bound) (P : List ℕ) (d : ℕ) → ((ss : List Step) → f (state U B ss) ≡ g (state U B ss)) → Went atomAt js g U B O c U′ C P d → Went atomAt js f U B O c U′ C P d
 went-same atomAt js f g U B O c U′ C P d h w = record {
   new = w .new;
+  steps = w .steps;
+  lowered = w .lowered;
   is = λ ss. h ss ∙ w .is ss;
-  used = λ ss. ap (λ (s : State). s .used) (h ss) ∙ w .used ss;
-  bound = λ ss. ap (λ (s : State). s .bound) (h ss) ∙ w .bound ss;
+  used = w .used;
+  known = w .known;
   order = w .order;
   count = w .count;
   left = w .left;
@@ -225,22 +243,22 @@ module _ (x : List ℕ) where
   -- a pass that takes nothing is the last
   module _ (U B : Bound) (O : List ℕ) (c : ℕ) (U′ C : Bound) (P : List ℕ) (d : ℕ) (w : Passed x U B O c U′ C P d) (ss : List Step) where
     last-pass : d ≡ c → lowerEager at js (state U B ss) ≡ pass (state U B ss)
-    unfolding replay
+    unfolding addAll
     last-pass h = lower-eager-is at js (state U B ss) ∙ rw (eq-eqb _ _ same)
       where
-        none-new : (l : List ℕ) → length l ≡ 0 → replay at js l (state U B ss) ≡ state U B ss
+        none-new : (l : List ℕ) → length l ≡ 0 → addAll U l ≡ U
         none-new [] e = refl
         none-new (k ∷ l) e = absurd (omega arith)
 
         same : unlowered (pass (state U B ss) .used) js ≡ unlowered U js
-        same = ap (λ (s : State). unlowered (s .used) js) (w .is ss ∙ none-new (w .new) (omega (arith, w .count)))
+        same = ap (λ (s : State). unlowered (s .used) js) (w .is ss) ∙ ap (λ (Y : Bound). unlowered Y js) (w .used ∙ none-new (w .new) (omega (arith, w .count)))
 
     more-passes : (d ≡ c → ⊥) → lowerEager at js (state U B ss) ≡ lowerEager at js (pass (state U B ss))
     more-passes h = lower-eager-is at js (state U B ss) ∙ rw (ne-eqb _ _ fewer)
       where
         fewer : unlowered (pass (state U B ss) .used) js ≡ unlowered U js → ⊥
         fewer e =
-            let f : unlowered U′ js ≡ unlowered U js = rw (w .used ss) at e in
+            let f : unlowered U′ js ≡ unlowered U js = rw (w .is ss) at e in
             h (omega (arith, w .left, w .count))
 
   -- `go` is the passes so far; more are to come unless the last took nothing
@@ -275,12 +293,6 @@ module _ (x : List ℕ) where
       next-pass = record {
         go = λ st. pass (r .go st);
         went = went-then at js (r .go) pass (r .went) w;
-        last = λ k ss. r .again h ss ∙ ap (lowerEager at js) (mid ss) ∙ last-pass U B O c U′ C P d w (steps ss) (eqb-true d c (is-true (eqb d c) k)) ∙ ap pass (sym (mid ss));
-        again = λ k ss. r .again h ss ∙ ap (lowerEager at js) (mid ss) ∙ more-passes U B O c U′ C P d w (steps ss) (eqb-false d c (is-false (eqb d c) k)) ∙ ap (λ (s : State). lowerEager at js (pass s)) (sym (mid ss));
+        last = λ k ss. r .again h ss ∙ ap (lowerEager at js) (r .went .is ss) ∙ last-pass U B O c U′ C P d w (ss ++ r .went .steps) (eqb-true d c (is-true (eqb d c) k)) ∙ ap pass (sym (r .went .is ss));
+        again = λ k ss. r .again h ss ∙ ap (lowerEager at js) (r .went .is ss) ∙ more-passes U B O c U′ C P d w (ss ++ r .went .steps) (eqb-false d c (is-false (eqb d c) k)) ∙ ap (λ (s : State). lowerEager at js (pass s)) (sym (r .went .is ss));
       }
-        where
-          steps : List Step → List Step
-          steps ss = r .go (state U₀ B₀ ss) .steps
-
-          mid : (ss : List Step) → r .go (state U₀ B₀ ss) ≡ state U B (steps ss)
-          mid ss = λ j. record { used = r .went .used ss j; bound = r .went .bound ss j; steps = steps ss }

@@ -7,26 +7,24 @@ use Rattle.hex.specs.Digits.{bytesOf}
 use Rattle.hex.specs.Lines.{endOf}
 use Rattle.frames.specs.First.{framesOf}
 use Rattle.model.specs.Atoms.{Atom, Step}
-use Rattle.model.specs.Bound.{Bound, most}
-use Rattle.model.specs.Scheduling.{State, unlowered, tryAt, emitAt, eagerPass, lowerEager, atomOf, numbers}
+use Rattle.model.specs.Bound.{Bound, addAll, most}
+use Rattle.model.specs.Lowering.{Lowered}
+use Rattle.model.specs.Scheduling.{State, unlowered, tryAt, eagerPass, lowerEager, atomOf, numbers}
 use Rattle.cost.specs.QueryAtoms.{atomOfFrame, atomsIn}
 use Rattle.lowering.specs.AtomLines.{AtomLine}
 
 abbrev pub state : Bound → Bound → List Step → State
 state U B ss = record { used = U; bound = B; steps = ss }
 
--- the atoms ks taken one after another
-unfoldable pub replay : (ℕ → Atom) → List ℕ → List ℕ → State → State
-replay atomAt js [] st = st
-replay atomAt js (k ∷ ks) st = replay atomAt js ks (emitAt atomAt js k st)
-
--- `go` leads from the lowered atoms U and the bound variables B to U′ and C, whatever the steps; c of the order O are filled before, d of P behind it:
--- the new ones are the atoms that it takes, in order
+-- `go` leads from the lowered atoms U and the bound variables B to U′ and C, whatever the steps before; c of the order O are filled before, d of P behind it:
+-- the new ones are the atoms that it lowers, in order
 pub record Went (atomAt : ℕ → Atom) (js : List ℕ) (go : State → State) (U B : Bound) (O : List ℕ) (c : ℕ) (U′ C : Bound) (P : List ℕ) (d : ℕ) : Type 0 where
   pub new : List ℕ
-  pub is : (ss : List Step) → go (state U B ss) ≡ replay atomAt js new (state U B ss)
-  pub used : (ss : List Step) → go (state U B ss) .used ≡ U′
-  pub bound : (ss : List Step) → go (state U B ss) .bound ≡ C
+  pub steps : List Step
+  pub lowered : Lowered atomAt B steps C new
+  pub is : (ss : List Step) → go (state U B ss) ≡ state U′ C (ss ++ steps)
+  pub used : U′ ≡ addAll U new
+  pub known : (k : ℕ) → List·Memᴰ k new → List·Memᴰ k js
   pub order : take d P ≡ take c O ++ new
   pub count : d ≡ c + length new
   pub left : d + unlowered U′ js ≤ c + unlowered U js

@@ -108,17 +108,18 @@ module _ (fs : List (List ℕ)) (em : Emitters) (qs : List Atom) (U B : Bound) w
       omega (arith, g .more)
 
 -- the atoms from number i on, from the best so far, give what all atoms give
-pub record Scanning (x : List ℕ) (em : Emitters) (U B : Bound) (how : Sampled) (n : ℕ) (keys₀ : List ℕ) (b₀ : Best) (keys : List ℕ) (valued : List Bool) (values draws : List Float) (b : Best) (i : ℕ) : Type 0 where
+pub record Scanning (x : List ℕ) (em : Emitters) (U B : Bound) (how : Sampled) (n : ℕ) (keys₀ : List ℕ) (draws₀ : List Float) (b₀ : Best) (keys : List ℕ) (valued : List Bool) (values draws : List Float) (b : Best) (i : ℕ) : Type 0 where
   pub few : i ≤ n
   pub is : candidates (framesOf x) em (atomsOf x) U B (drop i (numbers (atomsOf x))) (tallyAt keys (b .tallies)) (bidOf (b .found) (b .who) (b .price)) ≡ candidates (framesOf x) em (atomsOf x) U B (numbers (atomsOf x)) (tallyAt keys₀ (b₀ .tallies)) none
   pub memo : Remembers (framesOf x) how keys valued values (b .tallies)
   pub samples : Samples (framesOf x) how draws
   pub size : length keys ≡ length keys₀
+  pub room : length draws ≡ length draws₀
 
-pub scanning-none : (x : List ℕ) (em : Emitters) (U B : Bound) (how : Sampled) (n : ℕ) (keys : List ℕ) (valued : List Bool) (values draws : List Float) (b : Best) → b .found ≡ false → Remembers (framesOf x) how keys valued values (b .tallies) → Samples (framesOf x) how draws → Scanning x em U B how n keys b keys valued values draws b 0
-scanning-none x em U B how n keys valued values draws b h m d = record { few = omega arith; is = rw h; memo = m; samples = d; size = refl }
+pub scanning-none : (x : List ℕ) (em : Emitters) (U B : Bound) (how : Sampled) (n : ℕ) (keys : List ℕ) (valued : List Bool) (values draws : List Float) (b : Best) → b .found ≡ false → Remembers (framesOf x) how keys valued values (b .tallies) → Samples (framesOf x) how draws → Scanning x em U B how n keys draws b keys valued values draws b 0
+scanning-none x em U B how n keys valued values draws b h m d = record { few = omega arith; is = rw h; memo = m; samples = d; size = refl; room = refl }
 
-module _ (x from : List ℕ) (em : Emitters) (U B : Bound) (how : Sampled) (n : ℕ) (keys₀ : List ℕ) (b₀ : Best) (keys : List ℕ) (valued : List Bool) (values draws : List Float) (b : Best) (i : ℕ) (r : Scanning x em U B how n keys₀ b₀ keys valued values draws b i) (z : Located x from n) where
+module _ (x from : List ℕ) (em : Emitters) (U B : Bound) (how : Sampled) (n : ℕ) (keys₀ : List ℕ) (draws₀ : List Float) (b₀ : Best) (keys : List ℕ) (valued : List Bool) (values draws : List Float) (b : Best) (i : ℕ) (r : Scanning x em U B how n keys₀ draws₀ b₀ keys valued values draws b i) (z : Located x from n) where
   module _ (h : i < n) where
     pub place-sized : i < length from
     place-sized = omega (arith, z .size)
@@ -152,13 +153,14 @@ module _ (x from : List ℕ) (em : Emitters) (U B : Bound) (how : Sampled) (n : 
             let k = rw rest-is at g in
             omega (arith, r .size)
 
-        pub scanning-again : (keys′ : List ℕ) (valued′ : List Bool) (values′ draws′ : List Float) (c : Best) → Chose (framesOf x) how keys′ valued′ values′ c here → length keys′ ≡ length keys → length draws′ ≡ length draws → Scanning x em U B how n keys₀ b₀ keys′ valued′ values′ draws′ c (i + 1)
+        pub scanning-again : (keys′ : List ℕ) (valued′ : List Bool) (values′ draws′ : List Float) (c : Best) → Chose (framesOf x) how keys′ valued′ values′ c here → length keys′ ≡ length keys → length draws′ ≡ length draws → Scanning x em U B how n keys₀ draws₀ b₀ keys′ valued′ values′ draws′ c (i + 1)
         scanning-again keys′ valued′ values′ draws′ c k p q = record {
           few = omega arith;
           is = rw (k .best, k .next, add-one i) rest-is;
           memo = k .memo;
           samples = record { set = r .samples .set; nodes = r .samples .nodes; resamples = r .samples .resamples; room = λ cfg u. rw q (r .samples .room cfg u) };
           size = p ∙ r .size;
+          room = q ∙ r .room;
         }
 
   pub scanned : n ≤ i → Chose (framesOf x) how keys valued values b (candidates (framesOf x) em (atomsOf x) U B (numbers (atomsOf x)) (tallyAt keys₀ (b₀ .tallies)) none)

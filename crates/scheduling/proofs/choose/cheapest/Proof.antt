@@ -12,7 +12,7 @@ use Rattle.scheduling.proofs.choose.consider.Reads as consider-reads
 use Rattle.scheduling.proofs.choose.narrow.Reads as narrow-reads
 
 abbrev Inv-loop : tie.InvT-loop
-Inv-loop text from n used bound em how keys₀ valued₀ values₀ draws₀ b₀ i₀ keys valued values draws b i = Scanning text (map decode em) used bound how n keys₀ b₀ keys valued values draws b i
+Inv-loop text from n used bound em how keys₀ valued₀ values₀ draws₀ b₀ i₀ keys valued values draws b i = Scanning text (map decode em) used bound how n keys₀ draws₀ b₀ keys valued values draws b i
 
 abbrev μ-loop : tie.MeasureT-loop
 μ-loop text from n used bound em how keys₀ valued₀ values₀ draws₀ b₀ i₀ keys valued values draws b i = n - i
@@ -43,7 +43,7 @@ loop-less c = search needs
 
 -- src/choose.rt:131:5
 loop-again : tie.Need-loop-again Inv-loop μ-loop
-loop-again c = scanning-again _ _ _ _ _ _ _ _ _ _ _ _ _ _ _ (c .before .before .before .before .before .before .before .before .before .before .before .before .before .before .before .before .loop .inv) (c .before .before .before .before .before .before .before .before .before .before .before .before .before .before .before .before .before .before .before .before .before .before .before .before .before .before .pre .1 .0) (c .before .before .before .before .before .before .before .before .before .before .before .before .before .before .before .loop-test .taken) _ (c .before .before .before .before .before .before .before .before .before .before .before .before .before .before .atom-line .ensures) _ (c .before .before .before .before .before .before .before .before .before .before .before .before .before .narrow .ensures) _ _ _ _ _ (c .before .before .before .before .before .before .before .before .consider .ensures) (search needs) (search needs)
+loop-again c = scanning-again _ _ _ _ _ _ _ _ _ _ _ _ _ _ _ _ (c .before .before .before .before .before .before .before .before .before .before .before .before .before .before .before .before .loop .inv) (c .before .before .before .before .before .before .before .before .before .before .before .before .before .before .before .before .before .before .before .before .before .before .before .before .before .before .pre .1 .0) (c .before .before .before .before .before .before .before .before .before .before .before .before .before .before .before .loop-test .taken) _ (c .before .before .before .before .before .before .before .before .before .before .before .before .before .before .atom-line .ensures) _ (c .before .before .before .before .before .before .before .before .before .before .before .before .before .narrow .ensures) _ _ _ _ _ (c .before .before .before .before .before .before .before .before .consider .ensures) (search needs) (search needs)
 
 -- src/choose.rt:103:1
 same-length : tie.Need-same-length Inv-loop μ-loop
@@ -63,7 +63,7 @@ same-length-4 c = search needs
 
 -- src/choose.rt:103:1
 returns : tie.Need-returns Inv-loop μ-loop
-returns c = search scanned
+returns c = scanned _ _ _ _ _ _ _ _ _ _ _ _ _ _ _ _ (c .before .loop .inv) (c .before .before .before .before .before .before .before .before .before .before .before .pre .1 .0) (c .loop-test .left)
 
 pub cheapest-spec : {M : Type 1} → statement M
 cheapest-spec =
