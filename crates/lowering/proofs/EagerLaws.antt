@@ -76,6 +76,29 @@ module _ (atomAt : ℕ → Atom) (js : List ℕ) where
       from k (inl m) = a .known k m
       from k (inr m) = b .known k m
 
+  -- one atom is lowered
+  pub went-one : (go : State → State) (i : ℕ) (U B : Bound) (O : List ℕ) (c : ℕ) (U′ C : Bound) (x : Emitted) → lower B i (atomAt i) ≡ some x → x .bound ≡ C → U′ ≡ add U i → has U i ≡ false → List·Memᴰ i js → i < length U → c < length O → length C ≡ length B
+      → ((ss : List Step) → go (state U B ss) ≡ state (add U i) (x .bound) (ss ++ x .steps)) → Went atomAt js go U B O c U′ C (set O c i) (c + 1)
+  unfolding addAll
+  went-one go i U B O c U′ C x p y v unused m below room size g = record {
+    new = i ∷ [];
+    steps = x .steps ++ [];
+    lowered = more i x p (subst (λ (D : Bound). Lowered atomAt (x .bound) [] D []) y done);
+    is = λ ss. rw (append-nil (x .steps)) (g ss ∙ (λ j. state (sym v j) (y j) (ss ++ x .steps)));
+    used = v;
+    known = λ k n. only k (List·Memᴰ·cases-cons n);
+    order = rw (add-one c) (take-suc-set O c i room);
+    count = refl;
+    left = rw v (omega (arith, unlowered-lt U i js unused m));
+    used-size = ap length v ∙ add-size U i below;
+    bound-size = size;
+    order-size = length-set O c i;
+  }
+    where
+      only : (k : ℕ) → (k ≡ i) ⊎ List·Memᴰ k [] → List·Memᴰ k js
+      only k (inl z) = subst (λ (n : ℕ). List·Memᴰ n js) (sym z) m
+      only k (inr z) = absurd (List·Memᴰ·not-nil z)
+
 -- ---- one atom
 
 module _ (f : List ℕ) (i : ℕ) (U B : Bound) (O : List ℕ) (c : ℕ) (t : Bool) (is : t ≡ has U i) where
@@ -97,32 +120,12 @@ module _ (f : List ℕ) (i : ℕ) (U B : Bound) (O : List ℕ) (c : ℕ) (t : Bo
           rw (← w .1) (record { went = λ at js e m. went-none at js (tryAt at js i) U B O c (λ ss. rw (sym is ∙ new, e, sym free ∙ is-true q h, w .0)) })
 
       pub tried-takes : (U′ : Bound) → not r ≡ false → U′ ≡ add U i → i < length U → c < length O → Tries f i U B O c U′ C (set O c i) (c + 1)
-      unfolding addAll
       tried-takes U′ g v below room = record { went = λ at js e m. at-some at js e m (lower B i (atomOfFrame f)) refl }
         where
           at-some : (at : ℕ → Atom) (js : List ℕ) → at i ≡ atomOfFrame f → List·Memᴰ i js → (o : Option Emitted) → lower B i (atomOfFrame f) ≡ o → Went at js (tryAt at js i) U B O c U′ C (set O c i) (c + 1)
           at-some at js e m none p = absurd (subst T (sym (ap lowers (sym p) ∙ l .is i ∙ is-true r g)) tt)
           at-some at js e m (some x) p =
-              let g : lower B i (at i) ≡ some x = rw e p in
-              let y : x .bound ≡ C = ap (boundBehind B) (sym p) ∙ l .bound i in
-              record {
-                new = i ∷ [];
-                steps = x .steps ++ [];
-                lowered = more i x g (subst (λ (D : Bound). Lowered at (x .bound) [] D []) y done);
-                is = λ ss. rw (sym is ∙ new, e, sym free ∙ is-true q h, p, append-nil (x .steps)) (λ j. state (sym v j) (y j) (ss ++ x .steps));
-                used = v;
-                known = λ k n. one-mem k (List·Memᴰ·cases-cons n);
-                order = rw (add-one c) (take-suc-set O c i room);
-                count = refl;
-                left = rw v (omega (arith, unlowered-lt U i js (sym is ∙ new) m));
-                used-size = ap length v ∙ add-size U i below;
-                bound-size = l .size;
-                order-size = length-set O c i;
-              }
-            where
-              one-mem : (k : ℕ) → (k ≡ i) ⊎ List·Memᴰ k [] → List·Memᴰ k js
-              one-mem k (inl z) = subst (λ (n : ℕ). List·Memᴰ n js) (sym z) m
-              one-mem k (inr z) = absurd (List·Memᴰ·not-nil z)
+              went-one at js (tryAt at js i) i U B O c U′ C x (rw e p) (ap (boundBehind B) (sym p) ∙ l .bound i) v (sym is ∙ new) m below room (l .size) (λ ss. rw (sym is ∙ new, e, sym free ∙ is-true q h, p))
 
 pub has-room : (i : ℕ) (U : Bound) (O : List ℕ) (c : ℕ) (t : Bool) → t ≡ has U i → t ≡ false → (has U i ≡ false → c < length O) → c < length O
 has-room i U O c t is h room = room (sym is ∙ h)

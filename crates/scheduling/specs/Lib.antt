@@ -1,2 +1,3 @@
 pub mod Stub
 pub mod Choosing
+pub mod Rounds

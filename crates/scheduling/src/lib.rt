@@ -1,3 +1,4 @@
 // The choice by cost, and the greedy loop.
 pub mod choose;
 pub mod costs;
+pub mod schedule;

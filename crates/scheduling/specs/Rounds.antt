@@ -1,0 +1,68 @@
+-- The rounds of the scheduler over arrays: the atoms that were lowered, in order, and what the costs remember.
+use Prim.Native.Nat.{ℕ, _+_, _<_, _≤_}
+use mathlib.Core.Path.{_≡_}
+use mathlib.Core.Bool.{Bool, true, false}
+use mathlib.Core.Option.{Option, none, some}
+use mathlib.Core.List.{List, [], _∷_, List·Memᴰ}
+use lib.ListN.{length, getD, take, replicate}
+use lib.Ieee.{Float}
+use Rattle.frames.specs.First.{framesOf}
+use Rattle.model.specs.Atoms.{Atom, Step}
+use Rattle.model.specs.Bound.{Bound, most, blank}
+use Rattle.model.specs.Lowering.{Lowered}
+use Rattle.model.specs.Scheduling.{State, lowerEager, emitAt, atomOf, numbers}
+use Rattle.query.specs.declared.statistics.Sampled.{Sampled}
+use Rattle.cost.specs.QueryAtoms.{atomOfFrame}
+use Rattle.cost.specs.Emitters.{Emitters, recordAtom, recordEmitters}
+use Rattle.cost.specs.Sampling.{Tally}
+use Rattle.cost.specs.Memo.{tallyAt}
+use Rattle.cost.specs.Choice.{Memory, planned, remembered}
+use Rattle.cost.specs.declared.memo.Tallies.{Tallies}
+use Rattle.lowering.specs.Eager.{state, Went, LoweredEager, atomsOf}
+use Rattle.scheduling.specs.Choosing.{candidates, Chose}
+use Rattle.scheduling.specs.declared.schedule.Round.{Round}
+use Rattle.scheduling.specs.declared.schedule.Scheduled.{Scheduled}
+
+-- atom number i, by its frame f, is lowered: c of the order are filled before, one more behind
+pub record Takes (f : List ℕ) (i : ℕ) (U B : Bound) (O : List ℕ) (c : ℕ) (U′ C : Bound) (P : List ℕ) (d : ℕ) : Type 0 where
+  pub went : (atomAt : ℕ → Atom) (js : List ℕ) → atomAt i ≡ atomOfFrame f → List·Memᴰ i js → Went atomAt js (emitAt atomAt js i) U B O c U′ C P d
+
+-- an eager round, the emitters of what it lowered, and the choice behind it
+pub record Chooses (x : List ℕ) (how : Sampled) (U B b : Bound) (E : Emitters) (O : List ℕ) (c : ℕ) (keys : List ℕ) (s : Tallies) (U′ C : Bound) (E′ : Emitters) (P keys′ : List ℕ) (valued′ : List Bool) (values′ : List Float) (r : Round) : Type 0 where
+  pub went : LoweredEager x U B O c U′ C P (r .count)
+  pub emitters : E′ ≡ recordEmitters b U′ 0 (atomsOf x) E
+  pub chose : Chose (framesOf x) how keys′ valued′ values′ (r .best) (candidates (framesOf x) E′ (atomsOf x) U′ C (numbers (atomsOf x)) (tallyAt keys s) none)
+
+-- the tally behind a choice from the state st, with the emitters of what is new in it
+abbrev pub roundTally : List ℕ → State → Bound → Emitters → List ℕ → Tallies → Tally
+roundTally x st b E keys s =
+    candidates (framesOf x) (recordEmitters b (st .used) 0 (atomsOf x) E) (atomsOf x) (st .used) (st .bound) (numbers (atomsOf x)) (tallyAt keys s) none .next
+
+-- the memo has room for what the choice behind the eager round asks
+pub record RoundRoom (x : List ℕ) (U B b : Bound) (E : Emitters) (keys : List ℕ) (s : Tallies) : Type 0 where
+  pub room : length (roundTally x (lowerEager (atomOf (atomsOf x)) (numbers (atomsOf x)) (state U B [])) b E keys s .memo) ≤ length keys
+
+-- the atom chosen is lowered, and its emitters recorded
+pub record TakesNext (x : List ℕ) (i : ℕ) (U B : Bound) (E : Emitters) (O : List ℕ) (c : ℕ) (U′ C b′ : Bound) (E′ : Emitters) (P : List ℕ) (d : ℕ) : Type 0 where
+  pub went : Went (atomOf (atomsOf x)) (numbers (atomsOf x)) (emitAt (atomOf (atomsOf x)) (numbers (atomsOf x)) i) U B O c U′ C P d
+  pub emitters : E′ ≡ recordAtom E i (atomOf (atomsOf x) i)
+  pub before : b′ ≡ U′
+
+-- nothing is lowered, nothing is bound, no variable has an emitter
+pub record Unplanned (U B b : Bound) (em : List ℕ) : Type 0 where
+  pub used : U ≡ blank
+  pub bound : B ≡ blank
+  pub before : b ≡ blank
+  pub emitters : em ≡ replicate most 0
+
+-- the plan of the query x is the lowering of the first atoms of the order; the tallies are those of what is remembered
+pub record Scheduling (x O : List ℕ) (r : Scheduled) : Type 0 where
+  pub used : Bound
+  pub bound : Bound
+  pub steps : List Step
+  pub is : planned (framesOf x) (atomsOf x) ≡ state used bound steps
+  pub lowered : Lowered (atomOf (atomsOf x)) blank steps bound (take (r .count) O)
+  pub known : (k : ℕ) → List·Memᴰ k (take (r .count) O) → List·Memᴰ k (numbers (atomsOf x))
+  pub few : r .count ≤ most
+  pub tallied : remembered (framesOf x) (atomsOf x) .tally .tallied ≡ r .tallied
+  pub rejected : remembered (framesOf x) (atomsOf x) .tally .rejected ≡ r .rejected

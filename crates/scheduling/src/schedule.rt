@@ -1,0 +1,201 @@
+// The greedy loop: an eager round, then the cheapest atom, until none is left.
+ghost use mathlib.Core.Path.{_≡_};
+ghost use mathlib.Core.Bool.{true, false};
+ghost use mathlib.Core.Option.{none};
+ghost use mathlib.Core.List.{map};
+ghost use Prim.Native.Nat.{ℕ, _+_, _<_, _≤_};
+ghost use lib.ListN.{length, getD};
+ghost use Rattle.hex.specs.Digits.{bytesOf};
+ghost use Rattle.frames.specs.First.{framesOf};
+ghost use Rattle.model.specs.Bound.{has, most};
+ghost use Rattle.model.specs.Scheduling.{scans, numbers, atomOf};
+ghost use Rattle.cost.specs.QueryAtoms.{atomOfFrame};
+ghost use Rattle.cost.specs.Emitters.{decode, recordEmitters};
+ghost use Rattle.cost.specs.Memo.{tallyAt};
+ghost use Rattle.cost.specs.Choice.{remembered};
+ghost use Rattle.lowering.specs.AtomLines.{AtomLine};
+ghost use Rattle.lowering.specs.Eager.{Located, Ready, atomsOf};
+ghost use Rattle.pricing.specs.Remembering.{Samples, Remembers};
+ghost use Rattle.scheduling.specs.Stub.{Stub};
+ghost use Rattle.scheduling.specs.Choosing.{candidates};
+ghost use Rattle.scheduling.specs.Rounds.{Takes, Chooses, TakesNext, RoundRoom, Unplanned, Scheduling};
+use super::choose::Best;
+use super::choose::cheapest;
+use cost::memo::Tallies;
+use frames::fields::wide;
+use lowering::atom::lower_bound;
+use lowering::eager::atom_line;
+use lowering::eager::lower_eager;
+use lowering::sets::set_bound;
+use query::statistics::Sampled;
+use sampling::atoms::record_atom;
+use sampling::atoms::record_emitters;
+
+// How many atoms are lowered, and the cheapest of those left.
+pub struct Round {
+    pub count: usize,
+    pub best: Best,
+}
+
+// How many atoms are lowered, and the tallies.
+pub struct Scheduled {
+    pub count: usize,
+    pub tallied: usize,
+    pub rejected: usize,
+}
+
+// An eager round, the emitters of what it lowered, and the choice behind it.
+fn choose_next(
+    text: &[u8],
+    from: &[usize],
+    n: usize,
+    used: &mut [bool],
+    bound: &mut [bool],
+    before: &[bool],
+    em: &mut [u32],
+    order: &mut [u8],
+    count: usize,
+    how: Sampled,
+    keys: &mut [u64],
+    valued: &mut [bool],
+    values: &mut [f64],
+    draws: &mut [f64],
+    s: Tallies,
+) -> Round
+    requires { ⌜ Stub 0 ⌝ }
+    requires { ⌜ Located (now text) (now from) n ⌝ }
+    requires { ⌜ Ready (now text) (now used) (now bound) (now order) count ⌝ }
+    requires { ⌜ length (now em) ≡ most ⌝ }
+    requires { ⌜ Samples (framesOf (now text)) how (now draws) ⌝ }
+    requires { ⌜ Remembers (framesOf (now text)) how (now keys) (now valued) (now values) s ⌝ }
+    requires { ⌜ RoundRoom (now text) (now used) (now bound) (now before) (map decode (now em)) (now keys) s ⌝ }
+    ensures { λ r. ⌜ Chooses (now (text .entry)) how (now (used .entry)) (now (bound .entry)) (now (before .entry)) (map decode (now (em .entry))) (now (order .entry)) count (now (keys .entry)) s (now (used .exit)) (now (bound .exit)) (map decode (now (em .exit))) (now (order .exit)) (now (keys .exit)) (now (valued .exit)) (now (values .exit)) r ⌝ }
+{
+    let c = lower_eager(text, from, n, used, bound, order, count);
+    record_emitters(em, text, from, n, before, used);
+    let best = cheapest(text, from, n, used, bound, em, how, keys, valued, values, draws, s);
+    Round { count: c, best }
+}
+
+// Atom number i, by its line, is lowered; c atoms were before. How many now are.
+fn take(
+    line: &[u8],
+    i: u8,
+    used: &mut [bool],
+    bound: &mut [bool],
+    order: &mut [u8],
+    c: usize,
+) -> usize
+    requires { ⌜ AtomLine (bytesOf (now line)) ⌝ }
+    requires { ⌜ scans (atomOfFrame (bytesOf (now line))) ≡ true ⌝ }
+    requires { ⌜ has (now used) i ≡ false ⌝ }
+    requires { ⌜ length (now bound) ≡ most ⌝ }
+    requires { ⌜ i < length (now used) ⌝ }
+    requires { ⌜ c < length (now order) ⌝ }
+    ensures { λ r. ⌜ Takes (bytesOf (now (line .entry))) i (now (used .entry)) (now (bound .entry)) (now (order .entry)) c (now (used .exit)) (now (bound .exit)) (now (order .exit)) r ⌝ }
+{
+    let _ = lower_bound(line, bound);
+    set_bound(used, i);
+    order[c] = i;
+    c + 1
+}
+
+// Makes `to` the same set.
+fn copy_set(from: &[bool], to: &mut [bool])
+    requires { ⌜ length (now to) ≡ length (now from) ⌝ }
+    ensures { λ _. ⌜ now (to .exit) ≡ now (from .entry) ⌝ }
+{
+    let mut i: usize = 0;
+    while i < from.len() {
+        to[i] = from[i];
+        i += 1;
+    }
+}
+
+// The atom chosen, number i, is lowered, and its emitters recorded.
+fn take_next(
+    text: &[u8],
+    from: &[usize],
+    n: usize,
+    i: u8,
+    used: &mut [bool],
+    bound: &mut [bool],
+    before: &mut [bool],
+    em: &mut [u32],
+    order: &mut [u8],
+    count: usize,
+) -> usize
+    requires { ⌜ Located (now text) (now from) n ⌝ }
+    requires { ⌜ i < n ⌝ }
+    requires { ⌜ scans (atomOf (atomsOf (now text)) i) ≡ true ⌝ }
+    requires { ⌜ has (now used) i ≡ false ⌝ }
+    requires { ⌜ Ready (now text) (now used) (now bound) (now order) count ⌝ }
+    requires { ⌜ length (now em) ≡ most ⌝ }
+    requires { ⌜ length (now before) ≡ most ⌝ }
+    ensures { λ r. ⌜ TakesNext (now (text .entry)) i (now (used .entry)) (now (bound .entry)) (map decode (now (em .entry))) (now (order .entry)) count (now (used .exit)) (now (bound .exit)) (now (before .exit)) (map decode (now (em .exit))) (now (order .exit)) r ⌝ }
+{
+    let line = atom_line(text, from, wide(i));
+    let c = take(line, i, used, bound, order, count);
+    record_atom(em, line, i);
+    copy_set(used, before);
+    c
+}
+
+fn ended(count: usize, s: Tallies) -> Scheduled
+    ensures { λ r. ⌜ r ≡ record { count = count; tallied = s .tallied; rejected = s .rejected } ⌝ }
+{
+    Scheduled {
+        count,
+        tallied: s.tallied,
+        rejected: s.rejected,
+    }
+}
+
+// The order in which the atoms are lowered, by an eager round and the cheapest atom in turn, until no atom is left to choose.
+pub fn schedule(
+    text: &[u8],
+    from: &[usize],
+    n: usize,
+    used: &mut [bool],
+    bound: &mut [bool],
+    before: &mut [bool],
+    em: &mut [u32],
+    order: &mut [u8],
+    how: Sampled,
+    keys: &mut [u64],
+    valued: &mut [bool],
+    values: &mut [f64],
+    draws: &mut [f64],
+) -> Scheduled
+    requires { ⌜ Stub 0 ⌝ }
+    requires { ⌜ Located (now text) (now from) n ⌝ }
+    requires { ⌜ Unplanned (now used) (now bound) (now before) (now em) ⌝ }
+    requires { ⌜ length (now order) ≡ most ⌝ }
+    requires { ⌜ Samples (framesOf (now text)) how (now draws) ⌝ }
+    requires { ⌜ (length (now valued) ≡ length (now keys)) × ((length (now values) ≡ length (now keys)) × (length (now keys) ≤ 1024)) ⌝ }
+    requires { ⌜ length (remembered (framesOf (now text)) (atomsOf (now text)) .tally .memo) ≤ length (now keys) ⌝ }
+    ensures { λ r. ⌜ Scheduling (now (text .entry)) (now (order .exit)) r ⌝ }
+{
+    let mut count: usize = 0;
+    let mut s = Tallies {
+        count: 0,
+        tallied: 0,
+        rejected: 0,
+    };
+    let mut left = n + 1;
+    while 0 < left {
+        left -= 1;
+        let r = choose_next(
+            text, from, n, used, bound, before, em, order, count, how, keys, valued, values, draws,
+            s,
+        );
+        count = r.count;
+        let b = r.best;
+        s = b.tallies;
+        if !b.found {
+            return ended(count, s);
+        }
+        count = take_next(text, from, n, b.who, used, bound, before, em, order, count);
+    }
+    ended(count, s)
+}
