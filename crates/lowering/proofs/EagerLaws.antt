@@ -47,7 +47,7 @@ module _ (atomAt : ℕ → Atom) (js : List ℕ) where
     order-size = refl;
   }
 
-  lowered-then : {B C D : Bound} {ss ts : List Step} {ks ls : List ℕ} → Lowered atomAt B ss C ks → Lowered atomAt C ts D ls → Lowered atomAt B (ss ++ ts) D (ks ++ ls)
+  pub lowered-then : {B C D : Bound} {ss ts : List Step} {ks ls : List ℕ} → Lowered atomAt B ss C ks → Lowered atomAt C ts D ls → Lowered atomAt B (ss ++ ts) D (ks ++ ls)
   lowered-then done b = b
   lowered-then {ts = ts} (more k l {ss} e r) b = rw (append-assoc (l .steps) ss ts) (more k l e (lowered-then r b))
 

@@ -33,11 +33,11 @@ use Rattle.scheduling.specs.declared.costs.Costed.{Costed as CostedAs}
 use Rattle.scheduling.specs.declared.choose.Best.{Best}
 use Rattle.scheduling.specs.Choosing.{bidOf, orBest, considered, candidates, Chose, betterOf}
 
-is-true : (t : Bool) → not t ≡ false → t ≡ true
+pub is-true : (t : Bool) → not t ≡ false → t ≡ true
 is-true true h = refl
 is-true false h = sym h
 
-is-false : (t : Bool) → not t ≡ true → t ≡ false
+pub is-false : (t : Bool) → not t ≡ true → t ≡ false
 is-false true h = sym h
 is-false false h = refl
 

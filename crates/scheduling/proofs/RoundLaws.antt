@@ -35,7 +35,7 @@ use Rattle.scheduling.specs.declared.choose.Best.{Best}
 
 module _ (x : List ℕ) (U B b : Bound) (E : Emitters) (O : List ℕ) (c : ℕ) (keys : List ℕ) (s : Tallies) (U′ C : Bound) (E′ : Emitters) (P : List ℕ) (d : ℕ) (w : LoweredEager x U B O c U′ C P d) (e : E′ ≡ recordEmitters b U′ 0 (atomsOf x) E) where
   pub choice-room : RoundRoom x U B b E keys s → length (candidates (framesOf x) E′ (atomsOf x) U′ C (numbers (atomsOf x)) (tallyAt keys s) none .next .memo) ≤ length keys
-  choice-room r = rw e (subst (λ (st : State). length (roundTally x st b E keys s .memo) ≤ length keys) (w .is []) (r .room))
+  choice-room r = rw e (subst (λ (st : State). length (roundTally x st b E keys s .memo) ≤ length keys) (w .is (r .steps)) (r .room))
 
   pub chooses : (how : Sampled) (keys′ : List ℕ) (valued′ : List Bool) (values′ : List Float) (best : Best) → Chose (framesOf x) how keys′ valued′ values′ best (candidates (framesOf x) E′ (atomsOf x) U′ C (numbers (atomsOf x)) (tallyAt keys s) none)
       → Chooses x how U B b E O c keys s U′ C E′ P keys′ valued′ values′ (record { count = d; best = best })
@@ -56,7 +56,7 @@ scans-lowers B k (Variadic n o cs f) h = refl
 
 module _ (f : List ℕ) (i : ℕ) (U B : Bound) (O : List ℕ) (c : ℕ) (scan : scans (atomOfFrame f) ≡ true) (new : has U i ≡ false) (below : i < length U) (room : c < length O) where
   pub takes : (t : Bool) (U′ C : Bound) → Lowers B (atomOfFrame f) t C → U′ ≡ add U i → Takes f i U B O c U′ C (set O c i) (c + 1)
-  takes t U′ C l v = record { went = λ at js e m. by at js e m (lower B i (atomOfFrame f)) refl }
+  takes t U′ C l v = record { went = λ at js e m. by at js e m (lower B i (atomOfFrame f)) refl; used = v }
     where
       by : (at : ℕ → Atom) (js : List ℕ) → at i ≡ atomOfFrame f → List·Memᴰ i js → (o : Option Emitted) → lower B i (atomOfFrame f) ≡ o → Went at js (emitAt at js i) U B O c U′ C (set O c i) (c + 1)
       by at js e m none p = absurd (subst T (sym (ap lowers (sym p) ∙ scans-lowers B i (atomOfFrame f) scan)) tt)
@@ -119,7 +119,7 @@ module _ (x from : List ℕ) (n i : ℕ) (U B : Bound) (O : List ℕ) (c : ℕ) 
     pub takes-next : (U′ C b′ : Bound) (E E′ : Emitters) (P : List ℕ) (d : ℕ) → Takes (bytesOf s) i U B O c U′ C P d → E′ ≡ recordAtom E i (atomOfFrame (bytesOf s)) → b′ ≡ U′ → TakesNext x i U B E O c U′ C b′ E′ P d
     takes-next U′ C b′ E E′ P d t e g =
         let q : atomOf (atomsOf x) i ≡ atomOfFrame (bytesOf s) = z .is i h ∙ ap (λ (l : List ℕ). atomOfFrame (bytesOf l)) (sym line) in
-        record { went = t .went (atomOf (atomsOf x)) (numbers (atomsOf x)) q mem; emitters = e ∙ ap (recordAtom E i) (sym q); before = g }
+        record { went = t .went (atomOf (atomsOf x)) (numbers (atomsOf x)) q mem; used = t .used; emitters = e ∙ ap (recordAtom E i) (sym q); before = g }
 
     pub bound-sized : (U′ C : Bound) (P : List ℕ) (d : ℕ) → Takes (bytesOf s) i U B O c U′ C P d → length U′ ≡ most
     bound-sized U′ C P d t = t .went (atomOf (atomsOf x)) (numbers (atomsOf x)) (z .is i h ∙ ap (λ (l : List ℕ). atomOfFrame (bytesOf l)) (sym line)) mem .used-size ∙ y .used

@@ -8,7 +8,7 @@ use lib.ListN.{length, getD, take, replicate}
 use lib.Ieee.{Float}
 use Rattle.frames.specs.First.{framesOf}
 use Rattle.model.specs.Atoms.{Atom, Step}
-use Rattle.model.specs.Bound.{Bound, most, blank}
+use Rattle.model.specs.Bound.{Bound, add, most, blank}
 use Rattle.model.specs.Lowering.{Lowered}
 use Rattle.model.specs.Scheduling.{State, lowerEager, emitAt, atomOf, numbers}
 use Rattle.query.specs.declared.statistics.Sampled.{Sampled}
@@ -26,6 +26,7 @@ use Rattle.scheduling.specs.declared.schedule.Scheduled.{Scheduled}
 -- atom number i, by its frame f, is lowered: c of the order are filled before, one more behind
 pub record Takes (f : List ℕ) (i : ℕ) (U B : Bound) (O : List ℕ) (c : ℕ) (U′ C : Bound) (P : List ℕ) (d : ℕ) : Type 0 where
   pub went : (atomAt : ℕ → Atom) (js : List ℕ) → atomAt i ≡ atomOfFrame f → List·Memᴰ i js → Went atomAt js (emitAt atomAt js i) U B O c U′ C P d
+  pub used : U′ ≡ add U i
 
 -- an eager round, the emitters of what it lowered, and the choice behind it
 pub record Chooses (x : List ℕ) (how : Sampled) (U B b : Bound) (E : Emitters) (O : List ℕ) (c : ℕ) (keys : List ℕ) (s : Tallies) (U′ C : Bound) (E′ : Emitters) (P keys′ : List ℕ) (valued′ : List Bool) (values′ : List Float) (r : Round) : Type 0 where
@@ -40,11 +41,13 @@ roundTally x st b E keys s =
 
 -- the memo has room for what the choice behind the eager round asks
 pub record RoundRoom (x : List ℕ) (U B b : Bound) (E : Emitters) (keys : List ℕ) (s : Tallies) : Type 0 where
-  pub room : length (roundTally x (lowerEager (atomOf (atomsOf x)) (numbers (atomsOf x)) (state U B [])) b E keys s .memo) ≤ length keys
+  pub steps : List Step
+  pub room : length (roundTally x (lowerEager (atomOf (atomsOf x)) (numbers (atomsOf x)) (state U B steps)) b E keys s .memo) ≤ length keys
 
 -- the atom chosen is lowered, and its emitters recorded
 pub record TakesNext (x : List ℕ) (i : ℕ) (U B : Bound) (E : Emitters) (O : List ℕ) (c : ℕ) (U′ C b′ : Bound) (E′ : Emitters) (P : List ℕ) (d : ℕ) : Type 0 where
   pub went : Went (atomOf (atomsOf x)) (numbers (atomsOf x)) (emitAt (atomOf (atomsOf x)) (numbers (atomsOf x)) i) U B O c U′ C P d
+  pub used : U′ ≡ add U i
   pub emitters : E′ ≡ recordAtom E i (atomOf (atomsOf x) i)
   pub before : b′ ≡ U′
 
