@@ -267,3 +267,22 @@ module _ (x : List ℕ) where
         tallied = ap (λ (m : Memory). m .tally .tallied) (rw l at (r .remembers));
         rejected = ap (λ (m : Memory). m .tally .rejected) (rw l at (r .remembers));
       })
+
+-- ---- the arrays keep their lengths
+
+pub record Sizes (U₀ B₀ b₀ : Bound) (e₀ O₀ k₀ : List ℕ) (v₀ : List Bool) (x₀ d₀ : List Float) (U B b : Bound) (e O k : List ℕ) (v : List Bool) (x d : List Float) : Type 0 where
+  pub used : length U ≡ length U₀
+  pub bound : length B ≡ length B₀
+  pub before : length b ≡ length b₀
+  pub em : length e ≡ length e₀
+  pub order : length O ≡ length O₀
+  pub keys : length k ≡ length k₀
+  pub valued : length v ≡ length v₀
+  pub values : length x ≡ length x₀
+  pub draws : length d ≡ length d₀
+
+pub sizes-same : (U B b : Bound) (em O keys : List ℕ) (valued : List Bool) (values draws : List Float) → Sizes U B b em O keys valued values draws U B b em O keys valued values draws
+sizes-same U B b em O keys valued values draws = record { used = refl; bound = refl; before = refl; em = refl; order = refl; keys = refl; valued = refl; values = refl; draws = refl }
+
+pub em-sized : (U B b : Bound) (em : List ℕ) → Unplanned U B b em → length em ≡ most
+em-sized U B b em u = ap length (u .emitters)
