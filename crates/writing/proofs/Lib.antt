@@ -4,3 +4,4 @@ pub mod LookupLaws
 pub mod JoinLaws
 pub mod ItemLaws
 pub mod EmitLaws
+pub mod CollectionLaws

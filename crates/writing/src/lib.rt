@@ -1,6 +1,7 @@
 // The plan's text, written into a lent output where there is room; the next place is told always.
 pub mod bytes;
 pub mod children;
+pub mod collections;
 pub mod emit;
 pub mod items;
 pub mod join;
