@@ -5,3 +5,4 @@ pub mod JoinLaws
 pub mod ItemLaws
 pub mod EmitLaws
 pub mod CollectionLaws
+pub mod AtomLaws

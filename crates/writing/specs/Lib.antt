@@ -1,3 +1,4 @@
 pub mod Written
 pub mod Pieces
 pub mod Emitting
+pub mod Steps
