@@ -6,3 +6,4 @@ pub mod ItemLaws
 pub mod EmitLaws
 pub mod CollectionLaws
 pub mod AtomLaws
+pub mod StepLaws

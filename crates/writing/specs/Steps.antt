@@ -1,18 +1,21 @@
 -- The steps of atoms taken one after another, and how many they are.
-use Prim.Native.Nat.{ℕ, suc, _+_}
+use Prim.Native.Nat.{ℕ, suc, _+_, _<_, _≤_}
 use mathlib.Core.Path.{_≡_, refl, sym, _∙_, ap, subst}
 use mathlib.Core.Bool.{Bool, true, false}
 use mathlib.Core.Option.{Option, none, some}
-use mathlib.Core.List.{List, [], _∷_, _++_, append-assoc, append-nil}
+use mathlib.Core.List.{List, [], _∷_, _++_, map, append-assoc, append-nil}
 use native.Mathlib.Omega.{arith}
-use lib.ListN.{length, length-append}
+use lib.ListN.{length, getD, take, length-append}
+use Rattle.hex.specs.Digits.{bytesOf}
 use Rattle.model.specs.Atoms.{Operand, Atom, Plain, Lit, LitBind, Eq, EqGlobal, Pred, Variadic, Step}
-use Rattle.model.specs.Bound.{Bound, has, add}
+use Rattle.model.specs.Bound.{Bound, has, add, most}
 use Rattle.model.specs.Lowering.{Emitted, emitReadChildren, pvMarkBound, lowerEq, lowerEqGlobal, lower, Lowered, done, more}
-use Rattle.model.specs.Scheduling.{settle}
+use Rattle.model.specs.Scheduling.{settle, atomOf}
+use Rattle.plans.specs.StepFrames.{frameOf}
 use Rattle.lowering.specs.AtomLines.{boundBehind}
-use Rattle.lowering.specs.Eager.{state, replay}
-use Rattle.writing.specs.Emitting.{stepsOf}
+use Rattle.lowering.specs.Eager.{state, replay, lineAt, atomsOf}
+use Rattle.writing.specs.Emitting.{stepsOf, Emittable}
+use Rattle.writing.specs.Written.{PutsFrames}
 
 -- what the atoms ks become in turn, from what B binds
 unfoldable pub stepsAlong : (ℕ → Atom) → Bound → List ℕ → List Step
@@ -85,3 +88,17 @@ lowered-count {atomAt} {B} (more k l {ss} e r) =
     let h : length (stepsOf (lower B k (atomAt k))) ≡ stepCount (atomAt k) = lowers-count B k (atomAt k) l e in
     let g : length (l .steps) ≡ stepCount (atomAt k) = rw e at h in
     omega (arith, length-append (l .steps) ss, lowered-count r)
+
+-- ---- over a text
+
+-- the first `count` of the order O are atoms of the text x, and each atom can be emitted
+pub record Ordered (x from : List ℕ) (n : ℕ) (O : List ℕ) (count : ℕ) : Type 0 where
+  pub within : count ≤ length O
+  pub few : count ≤ most
+  pub below : (c : ℕ) → c < count → getD O c 0 < n
+  pub line : (k : ℕ) → k < n → Emittable (bytesOf (lineAt x (getD from k 0)))
+
+-- the lines of their steps are put at `at` into o
+pub record PutsSteps (x : List ℕ) (B : Bound) (ks o : List ℕ) (at : ℕ) (p : List ℕ) (r : ℕ) : Type 0 where
+  pub puts : PutsFrames o at (map frameOf (stepsAlong (atomOf (atomsOf x)) B ks)) p r
+  pub near : r ≤ at + 0x8_0000

@@ -8,3 +8,4 @@ pub mod items;
 pub mod join;
 pub mod lines;
 pub mod lookups;
+pub mod steps;
