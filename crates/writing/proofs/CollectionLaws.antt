@@ -1,8 +1,8 @@
 -- The collections: what the steps 47, 48 and 49 have as items, and the step of each kind. Proved item by item, and kind by kind.
 use Prim.Native.Nat.{ℕ, zero, suc, _+_, _<_, _≤_}
-use mathlib.Core.Path.{_≡_, refl, sym, _∙_, ap, subst}
-use mathlib.Core.Bool.{Bool, true, false}
-use mathlib.Core.List.{List, [], _∷_, _++_, map, flatMap}
+use mathlib.Core.Path.{_≡_, refl, _∙_, ap, subst}
+use mathlib.Core.Bool.{true, false}
+use mathlib.Core.List.{List, [], _∷_, map, flatMap}
 use native.Mathlib.Omega.{arith}
 use lib.ListN.{length, getD}
 use borrow.Author.Tests.{ne-eqb}
@@ -15,6 +15,7 @@ use Rattle.model.specs.Bound.{Bound, has}
 use Rattle.model.specs.Lowering.{joinLookups, containsLookups, lower}
 use Rattle.cost.specs.QueryAtoms.{operandsFrom, bytesFrom, atomOfFrame}
 use Rattle.plans.specs.StepFrames.{operandBytes, elementsOf, elementBytes, frameOf}
+use Rattle.plans.specs.StepsPass.{elements-length}
 use Rattle.lowering.specs.AtomLines.{itemOperands}
 use Rattle.lowering.proofs.AtomLaws.{by-kind}
 use Rattle.writing.specs.Pieces.{lookupsOf, itemsBytes}
@@ -34,10 +35,8 @@ unfolding itemsBytes operandsFrom flatMap
 items-alone f i zero = refl
 items-alone f i (suc n) = rw (items-alone f (i + 2) n)
 
-elements-length : (f : List ℕ) (i j n : ℕ) → length (elementsOf (operandsFrom f i 3 n) (bytesFrom f j 3 n)) ≡ n
-unfolding operandsFrom bytesFrom
-elements-length f i j zero = refl
-elements-length f i j (suc n) = ap suc (elements-length f (i + 3) (j + 3) n)
+elements-number : (f : List ℕ) (i j n : ℕ) → length (elementsOf (operandsFrom f i 3 n) (bytesFrom f j 3 n)) ≡ n
+elements-number f i j n = elements-length (operandsFrom f i 3 n) (bytesFrom f j 3 n) ∙ operands-length f i 3 n
 
 items-counted : (f : List ℕ) (i n : ℕ) → itemsBytes true f i n ≡ flatMap elementBytes (elementsOf (operandsFrom f i 3 n) (bytesFrom f (i + 2) 3 n))
 unfolding itemsBytes operandsFrom bytesFrom flatMap
@@ -72,11 +71,11 @@ module _ (f : List ℕ) (k : ℕ) (is : k ≡ getD f 0 0) (n x y : ℕ) (hn : n 
 
   pub ac-exact : k ≡ 11 → Expands f o at q r (0x48 ∷ n ∷ 0 ∷ 0 ∷ x ∷ itemsBytes true f 4 x)
   unfolding atomOfFrame frameOf
-  ac-exact h = expands f o at q r (0x48 ∷ n ∷ 0 ∷ 0 ∷ x ∷ itemsBytes true f 4 x) (rw (← is, h, hn, hx, elements-length f 4 6 (getD f 3 0), items-counted f 4 (getD f 3 0)))
+  ac-exact h = expands f o at q r (0x48 ∷ n ∷ 0 ∷ 0 ∷ x ∷ itemsBytes true f 4 x) (rw (← is, h, hn, hx, elements-number f 4 6 (getD f 3 0), items-counted f 4 (getD f 3 0)))
 
   pub ac-sub : k ≡ 12 → Expands f o at q r (0x48 ∷ n ∷ 1 ∷ x ∷ y ∷ itemsBytes true f 5 y)
   unfolding atomOfFrame frameOf
-  ac-sub h = expands f o at q r (0x48 ∷ n ∷ 1 ∷ x ∷ y ∷ itemsBytes true f 5 y) (rw (← is, h, hn, hx, hy, elements-length f 5 7 (getD f 4 0), items-counted f 5 (getD f 4 0)))
+  ac-sub h = expands f o at q r (0x48 ∷ n ∷ 1 ∷ x ∷ y ∷ itemsBytes true f 5 y) (rw (← is, h, hn, hx, hy, elements-number f 5 7 (getD f 4 0), items-counted f 5 (getD f 4 0)))
 
   pub aci-exact : k ≡ 13 → Expands f o at q r (0x49 ∷ n ∷ 0 ∷ 0 ∷ x ∷ itemsBytes false f 4 x)
   unfolding atomOfFrame frameOf

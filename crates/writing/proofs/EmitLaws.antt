@@ -1,18 +1,17 @@
 -- The steps of one atom by its kind. Proved from what its lowering is, step by step.
-use Prim.Native.Nat.{ℕ, suc, _+_, _*_, _<_, _≤_}
-use mathlib.Core.Path.{_≡_, refl, sym, _∙_, ap, subst}
+use Prim.Native.Nat.{ℕ, _+_, _<_, _≤_}
+use mathlib.Core.Path.{_≡_, refl, sym, subst}
 use mathlib.Core.Bool.{Bool, true, false}
-use mathlib.Core.Option.{Option, none, some}
-use mathlib.Core.List.{List, [], _∷_, _++_, map, flatMap}
+use mathlib.Core.List.{List, [], _∷_, map, flatMap}
 use native.Mathlib.Omega.{arith}
 use lib.ListN.{length, getD}
 use Rattle.hex.specs.Digits.{wordAt}
-use Rattle.model.specs.Atoms.{localOf, Lookup, Join, Step, Atom, Plain, Lit, LitBind, Eq, EqGlobal, CheckEq, CopyBinding, CheckEqGlobal, BindGlobal, ExtractLitVal, CheckLit}
+use Rattle.model.specs.Atoms.{localOf, Lookup, Join, Step, Atom, Plain, Lit, LitBind, Eq, EqGlobal, ExtractLitVal, CheckLit}
 use Rattle.model.specs.Bound.{Bound, has, add}
 use Rattle.model.specs.Lowering.{markAll, emitReadChildren, joinLookups, containsLookups, lower}
 use Rattle.model.specs.Premises.{numbersBelow}
 use Rattle.cost.specs.QueryAtoms.{operandsFrom}
-use Rattle.plans.specs.StepFrames.{wordBytes, frameOf}
+use Rattle.plans.specs.StepFrames.{frameOf}
 use Rattle.plans.specs.PlanText.{textLength}
 use Rattle.lowering.proofs.SetLaws.{add-size}
 use Rattle.writing.specs.Pieces.{lookupsOf}

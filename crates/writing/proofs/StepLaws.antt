@@ -1,5 +1,5 @@
 -- The atoms of an order in turn: their lines, and how many steps they are. Proved from what one atom gives.
-use Prim.Native.Nat.{ℕ, suc, _+_, _*_, _<_, _≤_}
+use Prim.Native.Nat.{ℕ, _+_, _*_, _<_, _≤_}
 use mathlib.Core.Path.{_≡_, refl, sym, _∙_, ap, subst}
 use mathlib.Core.List.{List, [], _∷_, _++_, map, append-assoc, append-nil, map-append}
 use native.Mathlib.Omega.{arith}
@@ -7,7 +7,7 @@ use native.Mathlib.Numerals.{add-one}
 use lib.ListN.{length, getD, take, drop, length-take, drop-of-length-le}
 use lib.Seq.{drop-cons, getD-take}
 use Rattle.hex.specs.Digits.{bytesOf}
-use Rattle.model.specs.Atoms.{Atom, Step}
+use Rattle.model.specs.Atoms.{Atom}
 use Rattle.model.specs.Bound.{Bound, most}
 use Rattle.model.specs.Lowering.{lower}
 use Rattle.model.specs.Scheduling.{atomOf}

@@ -2,3 +2,4 @@ pub mod Written
 pub mod Pieces
 pub mod Emitting
 pub mod Steps
+pub mod Taken

@@ -1,6 +1,6 @@
 // One atom by its kind: its steps as lines, what it binds, and how many steps it becomes.
 ghost use mathlib.Core.Path.{_≡_};
-ghost use Prim.Native.Nat.{ℕ, _+_, _<_, _≤_};
+ghost use Prim.Native.Nat.{_+_, _<_, _≤_};
 ghost use lib.ListN.{length, getD};
 ghost use Rattle.hex.specs.Digits.{bytesOf};
 ghost use Rattle.model.specs.Bound.{most};

@@ -1,8 +1,7 @@
 // The steps of the atoms of a text, in an order: as lines, and how many they are.
 ghost use mathlib.Core.Path.{_≡_};
-ghost use Prim.Native.Nat.{ℕ, _+_, _<_, _≤_};
-ghost use lib.ListN.{length, getD, take};
-ghost use Rattle.hex.specs.Digits.{bytesOf};
+ghost use Prim.Native.Nat.{_<_, _≤_};
+ghost use lib.ListN.{length, take};
 ghost use Rattle.model.specs.Bound.{most};
 ghost use Rattle.model.specs.Scheduling.{atomOf};
 ghost use Rattle.lowering.specs.Eager.{atomsOf, Located};
