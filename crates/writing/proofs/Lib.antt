@@ -4,3 +4,6 @@ pub mod LookupLaws
 pub mod JoinLaws
 pub mod ItemLaws
 pub mod EmitLaws
+pub mod CollectionLaws
+pub mod AtomLaws
+pub mod StepLaws

@@ -1,3 +1,5 @@
 pub mod Written
 pub mod Pieces
 pub mod Emitting
+pub mod Steps
+pub mod Taken

@@ -3,14 +3,20 @@ ghost use mathlib.Core.Path.{_≡_};
 ghost use Prim.Native.Nat.{ℕ, _+_, _<_, _≤_};
 ghost use lib.ListN.{length, getD};
 ghost use Rattle.hex.specs.Digits.{bytesOf, wordAt};
-ghost use Rattle.model.specs.Atoms.{Lit, LitBind, Eq, EqGlobal};
-ghost use Rattle.writing.specs.Emitting.{Emits};
+ghost use Rattle.model.specs.Atoms.{Plain, Lit, LitBind, Eq, EqGlobal};
+ghost use Rattle.model.specs.Bound.{add};
+ghost use Rattle.model.specs.Lowering.{markAll};
+ghost use Rattle.cost.specs.QueryAtoms.{operandsFrom};
+ghost use Rattle.writing.specs.Emitting.{Emits, PlainLine};
+use super::children::emit_read_children;
 use super::join::join;
 use super::lines::check_lit;
 use super::lines::line_of_three;
+use frames::fields::wide;
 use hex::byte_at;
 use hex::word_at;
 use lowering::sets::is_set;
+use lowering::sets::set_bound;
 
 // Both bound, CheckEq; one bound, CopyBinding; none, it waits.
 pub fn emit_eq(a: u8, b: u8, bound: &[bool], out: &mut [u8], at: usize) -> usize
@@ -60,4 +66,18 @@ pub fn emit_lit_bind(line: &[u8], k: u8, bound: &[bool], out: &mut [u8], at: usi
     let literal = byte_at(line, 3);
     let i = join(line, false, 0, 0, 0, k, bound, out, at);
     line_of_three(out, i, 0x4a, node, literal)
+}
+
+// The Join, then a step for each child; what a child binds counts for those behind it.
+pub fn emit_plain(line: &[u8], k: u8, bound: &mut [bool], out: &mut [u8], at: usize) -> usize
+    requires { ⌜ at < 0x1000_0000 ⌝ }
+    requires { ⌜ PlainLine (bytesOf (now line)) (length (now bound)) ⌝ }
+    ensures { λ r. ⌜ now (bound .exit) ≡ markAll (add (now (bound .entry)) (getD (bytesOf (now (line .entry))) 1 0)) (operandsFrom (bytesOf (now (line .entry))) 4 2 (getD (bytesOf (now (line .entry))) 3 0)) ⌝ }
+    ensures { λ r. ⌜ Emits (now (bound .entry)) k (Plain (getD (bytesOf (now (line .entry))) 1 0) (getD (bytesOf (now (line .entry))) 2 0) (operandsFrom (bytesOf (now (line .entry))) 4 2 (getD (bytesOf (now (line .entry))) 3 0))) (now (out .entry)) at (now (out .exit)) r ⌝ }
+{
+    let node = byte_at(line, 1);
+    let n = wide(byte_at(line, 3));
+    let i = join(line, true, 4, 2, n, k, bound, out, at);
+    set_bound(bound, node);
+    emit_read_children(line, n, node, bound, out, i)
 }

@@ -1,0 +1,104 @@
+-- The steps of atoms taken one after another, and how many they are.
+use Prim.Native.Nat.{ℕ, suc, _+_, _<_, _≤_}
+use mathlib.Core.Path.{_≡_, refl, sym, _∙_, ap}
+use mathlib.Core.Bool.{Bool, true, false}
+use mathlib.Core.Option.{Option, none, some}
+use mathlib.Core.List.{List, [], _∷_, _++_, map, append-assoc, append-nil}
+use native.Mathlib.Omega.{arith}
+use lib.ListN.{length, getD, length-append}
+use Rattle.hex.specs.Digits.{bytesOf}
+use Rattle.model.specs.Atoms.{Operand, Atom, Plain, Lit, LitBind, Eq, EqGlobal, Pred, Variadic, Step}
+use Rattle.model.specs.Bound.{Bound, has, add, most}
+use Rattle.model.specs.Lowering.{Emitted, emitReadChildren, pvMarkBound, lowerEq, lowerEqGlobal, lower, Lowered, done, more}
+use Rattle.model.specs.Scheduling.{settle, atomOf}
+use Rattle.plans.specs.StepFrames.{frameOf}
+use Rattle.lowering.specs.AtomLines.{boundBehind}
+use Rattle.lowering.specs.Eager.{state, replay, lineAt, atomsOf}
+use Rattle.writing.specs.Emitting.{stepsOf, Emittable}
+use Rattle.writing.specs.Written.{PutsFrames}
+
+-- what the atoms ks become in turn, from what B binds
+unfoldable pub stepsAlong : (ℕ → Atom) → Bound → List ℕ → List Step
+stepsAlong atomAt B [] = []
+stepsAlong atomAt B (k ∷ ks) = stepsOf (lower B k (atomAt k)) ++ stepsAlong atomAt (boundBehind B (lower B k (atomAt k))) ks
+
+-- the scheduler's steps are those of the atoms that it takes, in its order
+pub replay-steps : (atomAt : ℕ → Atom) (js ks : List ℕ) (U B : Bound) (ss : List Step) → replay atomAt js ks (state U B ss) .steps ≡ ss ++ stepsAlong atomAt B ks
+unfolding replay stepsAlong
+replay-steps atomAt js [] U B ss = sym (append-nil ss)
+replay-steps atomAt js (k ∷ ks) U B ss = by (lower B k (atomAt k)) (replay-steps atomAt js ks)
+  where
+    by : (r : Option Emitted) → ((U B : Bound) (ss : List Step) → replay atomAt js ks (state U B ss) .steps ≡ ss ++ stepsAlong atomAt B ks) → replay atomAt js ks (settle false r k (state U B ss)) .steps ≡ ss ++ (stepsOf r ++ stepsAlong atomAt (boundBehind B r) ks)
+    by none rest = rest U B ss
+    by (some l) rest = rest (add U k) (l .bound) (ss ++ l .steps) ∙ append-assoc ss (l .steps) (stepsAlong atomAt (l .bound) ks)
+
+-- so are those of a lowering sequence
+pub lowered-steps : {atomAt : ℕ → Atom} {B C : Bound} {ss : List Step} {ks : List ℕ} → Lowered atomAt B ss C ks → stepsAlong atomAt B ks ≡ ss
+unfolding stepsAlong
+lowered-steps done = refl
+lowered-steps (more k l e r) = rw (e, lowered-steps r)
+
+-- ---- how many
+
+-- a Join, and a step for each child of a Plain or one for a literal or a collection; one step for the others
+abbrev pub stepCount : Atom → ℕ
+stepCount (Plain n o cs) = suc (length cs)
+stepCount (Lit n o x) = 2
+stepCount (LitBind n o l) = 2
+stepCount (Eq a b) = 1
+stepCount (EqGlobal a g) = 1
+stepCount (Pred g ds) = 1
+stepCount (Variadic n o cs f) = 2
+
+children-count : (cs : List Operand) (n i : ℕ) (B : Bound) → length (emitReadChildren n i B cs) ≡ length cs
+unfolding emitReadChildren
+children-count [] n i B = refl
+children-count (c ∷ cs) n i B = ap suc (children-count cs n (suc i) (pvMarkBound B c))
+
+-- an atom that lowers becomes as many
+pub lowers-count : (B : Bound) (k : ℕ) (a : Atom) (l : Emitted) → lower B k a ≡ some l → length (stepsOf (lower B k a)) ≡ stepCount a
+unfolding lower
+lowers-count B k (Plain n o cs) l h = ap suc (children-count cs n 0 (add B n))
+lowers-count B k (Lit n o x) l h = refl
+lowers-count B k (LitBind n o x) l h = refl
+lowers-count B k (Eq a b) l h = by (has B a) (has B b) h
+  where
+    by : (t u : Bool) → lowerEq t u B a b ≡ some l → length (stepsOf (lowerEq t u B a b)) ≡ 1
+    by true true h = refl
+    by true false h = refl
+    by false true h = refl
+    by false false h = let z : _≡_ {A = ℕ} 0 1 = cc in z
+lowers-count B k (EqGlobal a g) l h = by (has B a)
+  where
+    by : (t : Bool) → length (stepsOf (lowerEqGlobal t B a g)) ≡ 1
+    by true = refl
+    by false = refl
+lowers-count B k (Pred g ds) l h = refl
+lowers-count B k (Variadic n o cs f) l h = refl
+
+unfoldable pub countAlong : (ℕ → Atom) → List ℕ → ℕ
+countAlong atomAt [] = 0
+countAlong atomAt (k ∷ ks) = stepCount (atomAt k) + countAlong atomAt ks
+
+-- the atoms of a lowering sequence become as many
+pub lowered-count : {atomAt : ℕ → Atom} {B C : Bound} {ss : List Step} {ks : List ℕ} → Lowered atomAt B ss C ks → countAlong atomAt ks ≡ length ss
+unfolding countAlong
+lowered-count done = refl
+lowered-count {atomAt} {B} (more k l {ss} e r) =
+    let h : length (stepsOf (lower B k (atomAt k))) ≡ stepCount (atomAt k) = lowers-count B k (atomAt k) l e in
+    let g : length (l .steps) ≡ stepCount (atomAt k) = rw e at h in
+    omega (arith, length-append (l .steps) ss, lowered-count r)
+
+-- ---- over a text
+
+-- the first `count` of the order O are atoms of the text x, and each atom can be emitted
+pub record Ordered (x from : List ℕ) (n : ℕ) (O : List ℕ) (count : ℕ) : Type 0 where
+  pub within : count ≤ length O
+  pub few : count ≤ most
+  pub below : (c : ℕ) → c < count → getD O c 0 < n
+  pub line : (k : ℕ) → k < n → Emittable (bytesOf (lineAt x (getD from k 0)))
+
+-- the lines of their steps are put at `at` into o
+pub record PutsSteps (x : List ℕ) (B : Bound) (ks o : List ℕ) (at : ℕ) (p : List ℕ) (r : ℕ) : Type 0 where
+  pub puts : PutsFrames o at (map frameOf (stepsAlong (atomOf (atomsOf x)) B ks)) p r
+  pub near : r ≤ at + 0x8_0000
