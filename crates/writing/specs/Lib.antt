@@ -2,4 +2,3 @@ pub mod Written
 pub mod Pieces
 pub mod Emitting
 pub mod Steps
-pub mod Taken

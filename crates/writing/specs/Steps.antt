@@ -3,17 +3,17 @@ use Prim.Native.Nat.{ℕ, suc, _+_, _<_, _≤_}
 use mathlib.Core.Path.{_≡_, refl, sym, _∙_, ap}
 use mathlib.Core.Bool.{Bool, true, false}
 use mathlib.Core.Option.{Option, none, some}
-use mathlib.Core.List.{List, [], _∷_, _++_, map, append-assoc, append-nil}
+use mathlib.Core.List.{List, [], _∷_, _++_, map}
 use native.Mathlib.Omega.{arith}
 use lib.ListN.{length, getD, length-append}
 use Rattle.hex.specs.Digits.{bytesOf}
 use Rattle.model.specs.Atoms.{Operand, Atom, Plain, Lit, LitBind, Eq, EqGlobal, Pred, Variadic, Step}
 use Rattle.model.specs.Bound.{Bound, has, add, most}
 use Rattle.model.specs.Lowering.{Emitted, emitReadChildren, pvMarkBound, lowerEq, lowerEqGlobal, lower, Lowered, done, more}
-use Rattle.model.specs.Scheduling.{settle, atomOf}
+use Rattle.model.specs.Scheduling.{atomOf}
 use Rattle.plans.specs.StepFrames.{frameOf}
 use Rattle.lowering.specs.AtomLines.{boundBehind}
-use Rattle.lowering.specs.Eager.{state, replay, lineAt, atomsOf}
+use Rattle.lowering.specs.Eager.{lineAt, atomsOf}
 use Rattle.writing.specs.Emitting.{stepsOf, Emittable}
 use Rattle.writing.specs.Written.{PutsFrames}
 
@@ -22,17 +22,7 @@ unfoldable pub stepsAlong : (ℕ → Atom) → Bound → List ℕ → List Step
 stepsAlong atomAt B [] = []
 stepsAlong atomAt B (k ∷ ks) = stepsOf (lower B k (atomAt k)) ++ stepsAlong atomAt (boundBehind B (lower B k (atomAt k))) ks
 
--- the scheduler's steps are those of the atoms that it takes, in its order
-pub replay-steps : (atomAt : ℕ → Atom) (js ks : List ℕ) (U B : Bound) (ss : List Step) → replay atomAt js ks (state U B ss) .steps ≡ ss ++ stepsAlong atomAt B ks
-unfolding replay stepsAlong
-replay-steps atomAt js [] U B ss = sym (append-nil ss)
-replay-steps atomAt js (k ∷ ks) U B ss = by (lower B k (atomAt k)) (replay-steps atomAt js ks)
-  where
-    by : (r : Option Emitted) → ((U B : Bound) (ss : List Step) → replay atomAt js ks (state U B ss) .steps ≡ ss ++ stepsAlong atomAt B ks) → replay atomAt js ks (settle false r k (state U B ss)) .steps ≡ ss ++ (stepsOf r ++ stepsAlong atomAt (boundBehind B r) ks)
-    by none rest = rest U B ss
-    by (some l) rest = rest (add U k) (l .bound) (ss ++ l .steps) ∙ append-assoc ss (l .steps) (stepsAlong atomAt (l .bound) ks)
-
--- so are those of a lowering sequence
+-- they are the steps of a lowering sequence
 pub lowered-steps : {atomAt : ℕ → Atom} {B C : Bound} {ss : List Step} {ks : List ℕ} → Lowered atomAt B ss C ks → stepsAlong atomAt B ks ≡ ss
 unfolding stepsAlong
 lowered-steps done = refl
