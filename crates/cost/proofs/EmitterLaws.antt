@@ -15,13 +15,14 @@ use Rattle.model.specs.Premises.{numbersBelow}
 use Rattle.cost.specs.QueryAtoms.{operandAt}
 use Rattle.cost.specs.Emitters.{Emitter, Emitters, decode, from, orKeep, setEmitter, setOperand, copyEmitter, emitterOf}
 
-pub packed-is : (a s p x y z : ℕ) → s < 4 → p < 256 → x ≡ a → y ≡ s → z ≡ p → decode (1 + (x * 4 + y) * 256 + z) ≡ from a s p
-packed-is a s p x y z h g d e f =
+pub packed-is : (a s p x y z : ℕ) → a < 256 → s < 4 → p < 256 → x ≡ a → y ≡ s → z ≡ p → decode (1 + (x * 4 + y) * 256 + z) ≡ from a s p
+packed-is a s p x y z b h g d e f =
     let n : 1 + (x * 4 + y) * 256 + z ≡ suc ((a * 4 + s) * 256 + p) = omega arith in
-    let i : ((a * 4 + s) * 256 + p) / 1024 ≡ a = omega arith in
+    let m : ((a * 4 + s) * 256 + p) / 1024 ≡ a = omega arith in
+    let i : a % 256 ≡ a = omega arith in
     let j : ((a * 4 + s) * 256 + p) / 256 % 4 ≡ s = omega arith in
     let k : ((a * 4 + s) * 256 + p) % 256 ≡ p = omega arith in
-    rw (n, i, j, k)
+    rw (n, m, i, j, k)
 
 -- a number stored is an emitter put
 pub put-decoded : (l : List ℕ) (i e : ℕ) → i < length l → map decode (set l i e) ≡ put none (map decode l) i (decode e)

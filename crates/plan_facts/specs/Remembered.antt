@@ -1,7 +1,7 @@
 -- What the rounds of the scheduler remember. Each law is by induction over the code's definition, for any property of the tally that a
 -- measured key keeps: the memo only grows, the tallies stay within it, and it has at most 1,024 keys.
 use Prim.Native.Nat.{ℕ, zero, suc, _*_, _≤_}
-use mathlib.Core.Path.{_≡_, refl, _∙_}
+use mathlib.Core.Path.{_≡_, refl, sym, _∙_}
 use mathlib.Core.Logic.{_⊎_, inl, inr, _≢_}
 use mathlib.Core.Bool.{Bool, true, false}
 use mathlib.Core.Option.{Option, none, some}
@@ -80,14 +80,14 @@ operandsOf (Variadic n o cs f) = cs
 abbrev pub All : (Key → Type 0) → List Key → Type 0
 All A l = (k : Key) → List·Memᴰ k l → A k
 
-module _ (fs : List (List ℕ)) (A : Key → Type 0) (P : Tally → Type 0) (step : (cfg : SamplerConfig) (k : Key) (t : Tally) → A k → P t → P (afterEstimate fs cfg k t)) where
-  estimate-keeps : (g : Sampled) (k : Key) (t : Tally) → A k → P t → P (estimate fs g k t .tally)
-  estimate-keeps Off k t a p = p
-  estimate-keeps (On cfg) k t a p = step cfg k t a p
+module _ (fs : List (List ℕ)) (A : Key → Type 0) (P : Tally → Type 0) (step : (cfg : SamplerConfig) (k : Key) (t : Tally) → settings fs ≡ On cfg → A k → P t → P (afterEstimate fs cfg k t)) where
+  estimate-keeps : (g : Sampled) (k : Key) (t : Tally) → settings fs ≡ g → A k → P t → P (estimate fs g k t .tally)
+  estimate-keeps Off k t e a p = p
+  estimate-keeps (On cfg) k t e a p = step cfg k t e a p
 
   by-keeps : (e : Option Emitter) (o path place : ℕ) (t : Tally) → All A (keyBy e o path place) → P t → P (sampledBy fs e o path place t .tally)
   by-keeps none o path place t a p = p
-  by-keeps (some e) o path place t a p = estimate-keeps (settings fs) _ t (a _ (List·Memᴰ·head refl)) p
+  by-keeps (some e) o path place t a p = estimate-keeps (settings fs) _ t refl (a _ (List·Memᴰ·head refl)) p
 
   pub sampled-keeps : (em : Emitters) (x : Operand) (o path place : ℕ) (t : Tally) → All A (keyFor em x o path place) → P t → P (sampled fs em x o path place t .tally)
   sampled-keeps em (local v) o path place t a p = by-keeps (emitterOf em v) o path place t a p
@@ -184,16 +184,16 @@ module _ (fs : List (List ℕ)) where
   after-grows cfg k t = grows-after cfg k t t (grows-self t)
 
   pub sampled-grows : (em : Emitters) (x : Operand) (o path place : ℕ) (t : Tally) → Grows t (sampled fs em x o path place t .tally)
-  sampled-grows em x o path place t = sampled-keeps fs any (Grows t) (λ cfg k u _. grows-after cfg k t u) em x o path place t (λ _ _. tt) (grows-self t)
+  sampled-grows em x o path place t = sampled-keeps fs any (Grows t) (λ cfg k u _ _. grows-after cfg k t u) em x o path place t (λ _ _. tt) (grows-self t)
 
   pub children-grow : (em : Emitters) (B : Bound) (o p : ℕ) (xs : List Operand) (c : Costed) → Grows (c .tally) (childCosts fs em B o p xs c .tally)
-  children-grow em B o p xs c = children-keep fs any (Grows (c .tally)) (λ cfg k u _. grows-after cfg k (c .tally) u) em B o p xs c (λ _ _. tt) (grows-self (c .tally))
+  children-grow em B o p xs c = children-keep fs any (Grows (c .tally)) (λ cfg k u _ _. grows-after cfg k (c .tally) u) em B o p xs c (λ _ _. tt) (grows-self (c .tally))
 
   pub elements-grow : (em : Emitters) (B : Bound) (o : ℕ) (xs : List Operand) (c : Costed) → Grows (c .tally) (elementCosts fs em B o xs c .tally)
-  elements-grow em B o xs c = elements-keep fs any (Grows (c .tally)) (λ cfg k u _. grows-after cfg k (c .tally) u) em B o xs c (λ _ _. tt) (grows-self (c .tally))
+  elements-grow em B o xs c = elements-keep fs any (Grows (c .tally)) (λ cfg k u _ _. grows-after cfg k (c .tally) u) em B o xs c (λ _ _. tt) (grows-self (c .tally))
 
   cost-grows-from : (em : Emitters) (B : Bound) (i : ℕ) (a : Atom) (t u : Tally) → Grows t u → Grows t (estimateCost fs em B i a u .tally)
-  cost-grows-from em B i a t u = cost-keeps fs any (Grows t) (λ cfg k u _. grows-after cfg k t u) em B i a u (λ _ _. tt)
+  cost-grows-from em B i a t u = cost-keeps fs any (Grows t) (λ cfg k u _ _. grows-after cfg k t u) em B i a u (λ _ _. tt)
 
   pub cost-grows : (em : Emitters) (B : Bound) (i : ℕ) (a : Atom) (t : Tally) → Grows t (estimateCost fs em B i a t .tally)
   cost-grows em B i a t = cost-grows-from em B i a t t (grows-self t)
@@ -215,6 +215,17 @@ module _ (fs : List (List ℕ)) where
     pub remembered-tame : Tame (remembered fs qs .tally)
     unfolding remembered
     remembered-tame = loop-grows (suc (unlowered blank (numbers qs))) fresh unplanned .tame (record { tallied-few = omega arith; rejected-few = omega arith })
+
+    -- where sampling is off nothing is remembered
+    pub nothing-sampled : settings fs ≡ Off → remembered fs qs .tally .memo ≡ []
+    nothing-sampled off = remembered-keeps fs qs (λ m. m .tally .memo ≡ []) (λ m s h. h) (λ m s i h. cost-keeps fs any (λ t. t .memo ≡ []) (λ cfg k t on _ _. never cfg (sym off ∙ on)) (m .emitters) (s .bound) i (atomOf qs i) (m .tally) (λ _ _. tt) h) same refl
+      where
+        never : {A : Type 0} (cfg : SamplerConfig) → Off ≡ On cfg → A
+        never cfg e = let z : _≡_ {A = ℕ} 0 1 = cc in absurd (omega arith)
+
+        same : (o : Option ℕ) (s : State) (m : Memory) → m .tally .memo ≡ [] → emittedBy fs qs o s m .tally .memo ≡ []
+        same none s m h = h
+        same (some i) s m h = h
 
 -- ---- the memo stays small
 
@@ -365,7 +376,7 @@ module _ (fs : List (List ℕ)) (qs : List Atom) where
   all-asked : AllAsked (remembered fs qs)
   all-asked = remembered-keeps fs qs AllAsked
       (λ m s a. asked-more (m .emitters) _ (m .tally) (record-keeps (m .before) (s .used) 0 qs (m .emitters)) a)
-      (λ m s i a. cost-keeps fs (λ k. List·Memᴰ k (keysOf (m .emitters) qs)) (Asked (keysOf (m .emitters) qs)) (asked-after (keysOf (m .emitters) qs)) (m .emitters) (s .bound) i (atomOf qs i) (m .tally) (key-of (m .emitters) qs i) a)
+      (λ m s i a. cost-keeps fs (λ k. List·Memᴰ k (keysOf (m .emitters) qs)) (Asked (keysOf (m .emitters) qs)) (λ cfg k t _. asked-after (keysOf (m .emitters) qs) cfg k t) (m .emitters) (s .bound) i (atomOf qs i) (m .tally) (key-of (m .emitters) qs i) a)
       asked-emitted
       (record { apart = tt; among = λ k i. absurd (List·Memᴰ·not-nil i) })
 
