@@ -26,7 +26,8 @@ pub record Noted (f : List ℕ) (at : ℕ) (from : List ℕ) (n : ℕ) (into : L
   pub places : into ≡ pick (isAtom (getD f 0 0)) (set from n at) from
   pub count : m ≡ pick (isAtom (getD f 0 0)) (n + 1) n
 
-frames-length : (fs : List (List ℕ)) → length (atomsIn fs) ≡ length (atomFrames fs)
+-- as many frames as atoms, in the same order
+pub frames-length : (fs : List (List ℕ)) → length (atomsIn fs) ≡ length (atomFrames fs)
 unfolding atomsIn atomFrames
 frames-length [] = refl
 frames-length (f ∷ fs) = by (isAtom (getD f 0 0)) (frames-length fs)
@@ -35,7 +36,7 @@ frames-length (f ∷ fs) = by (isAtom (getD f 0 0)) (frames-length fs)
     by true h = ap suc h
     by false h = h
 
-frames-at : (fs : List (List ℕ)) (k : ℕ) → k < length (atomFrames fs) → atomOf (atomsIn fs) k ≡ atomOfFrame (getD (atomFrames fs) k [])
+pub frames-at : (fs : List (List ℕ)) (k : ℕ) → k < length (atomFrames fs) → atomOf (atomsIn fs) k ≡ atomOfFrame (getD (atomFrames fs) k [])
 unfolding atomsIn atomFrames atomOf
 frames-at [] k h = absurd (omega arith)
 frames-at (f ∷ fs) k h = by (isAtom (getD f 0 0)) k h (frames-at fs)

@@ -1,2 +1,5 @@
 pub mod AtomFrames
 pub mod QueryPlans
+pub mod Emitted
+pub mod Pigeonhole
+pub mod Remembered

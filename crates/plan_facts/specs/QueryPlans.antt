@@ -82,7 +82,8 @@ pub record ReadBack (x : List ℕ) (tallied rejected : ℕ) (ss : List Step) : T
   pub few : length ss ≤ 1088
 
 module _ (x : List ℕ) (n c : ℕ) (ok : reading Query x ≡ Accepted n c) where
-  good : Each (Good (countsOf Query x c)) (framesOf x)
+  -- each of its frames
+  pub good : Each (Good (countsOf Query x c)) (framesOf x)
   good =
       let w = accepted Query x n c ok in
       let e = w .lines in

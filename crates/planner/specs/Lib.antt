@@ -1,3 +1,4 @@
 pub mod Planner
 pub mod Promised
 pub mod Marked
+pub mod Accepted
