@@ -1,0 +1,139 @@
+// The cost of an atom, read off its line. "Costs: each operation rounded once, in the order given by the Rust."
+ghost use mathlib.Core.Path.{_≡_};
+ghost use mathlib.Core.Bool.{Bool, true};
+ghost use mathlib.Core.List.{map};
+ghost use Prim.Native.Nat.{ℕ, _+_, _*_, _<_, _≤_};
+ghost use lib.ListN.{length, getD};
+ghost use lib.Dec.{ltb};
+ghost use Rattle.hex.specs.Digits.{bytesOf};
+ghost use Rattle.frames.specs.First.{framesOf};
+ghost use Rattle.cost.specs.Costs.{sampled as sampledOf, estimateCost};
+ghost use Rattle.cost.specs.Emitters.{decode};
+ghost use Rattle.cost.specs.Memo.{tallyAt};
+ghost use Rattle.cost.specs.QueryAtoms.{operandAt, operandsFrom, atomOfFrame};
+ghost use Rattle.lowering.specs.AtomLines.{AtomLine, itemOperands};
+ghost use Rattle.pricing.specs.Items.{numberKey, itemPath, itemPlace, itemFan, orFan, itemCost, oneCost, itemCosts, reprCost, literalKind};
+ghost use Rattle.pricing.specs.Remembering.{Samples, Remembers, Coded, Gives, Stands, costAt};
+use super::memo::Sample;
+use super::memo::estimate;
+use cost::memo::Tallies;
+use cost::sampling::Key;
+use frames::fields::wide;
+use frames::frame::items_of;
+use frames::kinds::fixed_length;
+use frames::kinds::item_width;
+use hex::byte_at;
+use lowering::atom::scans;
+use lowering::operands::pv_is_bound;
+use lowering::sets::is_set;
+use measure::FanOut;
+use measure::path_selectivity;
+use query::statistics::Sampled;
+use query::statistics::base_card;
+use query::statistics::by_child_pos;
+use query::statistics::by_contains;
+use query::statistics::by_repr;
+use query::statistics::denominator;
+use query::statistics::nodes;
+
+// A cost, and what is remembered behind it.
+pub struct Costed {
+    pub cost: f64,
+    pub tallies: Tallies,
+}
+
+fn narrow(i: usize) -> u8
+    requires { ⌜ i < 256 ⌝ }
+    ensures { λ r. ⌜ r ≡ i ⌝ }
+{
+    i as u8
+}
+
+fn narrow_word(n: u32) -> u8
+    requires { ⌜ n < 256 ⌝ }
+    ensures { λ r. ⌜ r ≡ n ⌝ }
+{
+    n as u8
+}
+
+// The number of a variable's emitter, 0 where it has none.
+fn emitter_of(em: &[u32], v: u8) -> u32
+    ensures { λ r. ⌜ r ≡ getD (now (em .entry)) v 0 ⌝ }
+{
+    let i = wide(v);
+    if i < em.len() {
+        return em[i];
+    }
+    0
+}
+
+// The key of a probe, for a variable with the emitter of number e.
+fn key_of(e: u32, op: u8, path: u8, place: u8) -> Key
+    requires { ⌜ 0 < e ⌝ }
+    requires { ⌜ e ≤ 262144 ⌝ }
+    ensures { λ r. ⌜ r ≡ numberKey e op path place ⌝ }
+{
+    let c = e - 1;
+    Key {
+        emitter: narrow_word(c / 1024),
+        site: narrow_word(c / 256 % 4),
+        position: narrow_word(c % 256),
+        op,
+        path,
+        place,
+    }
+}
+
+fn or_fan(f: FanOut, g: FanOut) -> FanOut
+    ensures { λ r. ⌜ r ≡ orFan f g ⌝ }
+{
+    match f {
+        FanOut::Measured(x) => FanOut::Measured(x),
+        FanOut::Unmeasured => g,
+    }
+}
+
+fn item_path(elements: bool) -> u8
+    ensures { λ r. ⌜ r ≡ itemPath elements ⌝ }
+{
+    if elements {
+        return 1;
+    }
+    0
+}
+
+fn item_place(elements: bool, p: u8) -> u8
+    ensures { λ r. ⌜ r ≡ itemPlace elements p ⌝ }
+{
+    if elements {
+        return 0;
+    }
+    p
+}
+
+fn item_fan(text: &[u8], op: u8, elements: bool, p: u8) -> FanOut
+    ensures { λ r. ⌜ r ≡ itemFan (framesOf (now (text .entry))) op elements p ⌝ }
+{
+    if elements {
+        return by_contains(text, op);
+    }
+    by_child_pos(text, op, p)
+}
+
+// The cost of a node that is bound: it is looked up within its class.
+fn by_repr_cost(text: &[u8], op: u8, k: u8) -> f64
+    ensures { λ r. ⌜ r ≡ reprCost (framesOf (now (text .entry))) op k ⌝ }
+{
+    let fan = FanOut::Measured(by_repr(text));
+    base_card(text, op, k) * path_selectivity(fan, nodes(text))
+}
+
+// Whether a kind is Lit or LitBind.
+fn is_literal(kind: u8) -> bool
+    ensures { λ r. ⌜ r ≡ literalKind kind ⌝ }
+{
+    if kind == 2 {
+        return true;
+    }
+    kind == 3
+}
