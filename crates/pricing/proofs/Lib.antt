@@ -1,3 +1,4 @@
 pub mod MemoLaws
 pub mod LeafLaws
 pub mod EstimateLaws
+pub mod SampleLaws

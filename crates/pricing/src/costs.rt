@@ -84,6 +84,52 @@ fn key_of(e: u32, op: u8, path: u8, place: u8) -> Key
     }
 }
 
+// The sample of a probe by the operand at byte j: a global, or a variable without emitter, is not sampled.
+pub fn sampled(
+    text: &[u8],
+    line: &[u8],
+    j: usize,
+    em: &[u32],
+    how: Sampled,
+    op: u8,
+    path: u8,
+    place: u8,
+    keys: &mut [u64],
+    valued: &mut [bool],
+    values: &mut [f64],
+    draws: &mut [f64],
+    s: Tallies,
+) -> Sample
+    requires { ⌜ j < 65536 ⌝ }
+    requires { ⌜ Coded (now em) ⌝ }
+    requires { ⌜ Samples (framesOf (now text)) how (now draws) ⌝ }
+    requires { ⌜ Remembers (framesOf (now text)) how (now keys) (now valued) (now values) s ⌝ }
+    requires { ⌜ length (sampledOf (framesOf (now text)) (map decode (now em)) (operandAt (bytesOf (now line)) j) op path place (tallyAt (now keys) s) .tally .memo) ≤ length (now keys) ⌝ }
+    ensures { λ r. ⌜ Gives (framesOf (now (text .entry))) how (now (keys .exit)) (now (valued .exit)) (now (values .exit)) r (sampledOf (framesOf (now (text .entry))) (map decode (now (em .entry))) (operandAt (bytesOf (now (line .entry))) j) op path place (tallyAt (now (keys .entry)) s)) ⌝ }
+{
+    if byte_at(line, j) != 0 {
+        return Sample {
+            fan: FanOut::Unmeasured,
+            tallies: s,
+        };
+    }
+    let e = emitter_of(em, byte_at(line, j + 1));
+    if e == 0 {
+        return Sample {
+            fan: FanOut::Unmeasured,
+            tallies: s,
+        };
+    }
+    let Sampled::On(cfg) = how else {
+        return Sample {
+            fan: FanOut::Unmeasured,
+            tallies: s,
+        };
+    };
+    let x = key_of(e, op, path, place);
+    estimate(text, cfg, x, keys, valued, values, draws, s)
+}
+
 fn or_fan(f: FanOut, g: FanOut) -> FanOut
     ensures { λ r. ⌜ r ≡ orFan f g ⌝ }
 {
