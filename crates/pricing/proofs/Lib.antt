@@ -2,3 +2,4 @@ pub mod MemoLaws
 pub mod LeafLaws
 pub mod EstimateLaws
 pub mod SampleLaws
+pub mod ItemLaws

@@ -166,6 +166,74 @@ fn item_fan(text: &[u8], op: u8, elements: bool, p: u8) -> FanOut
     by_child_pos(text, op, p)
 }
 
+// A bound item, the operand at byte j, at position p: its selectivity is multiplied in.
+fn bound_cost(
+    text: &[u8],
+    line: &[u8],
+    j: usize,
+    em: &[u32],
+    how: Sampled,
+    op: u8,
+    elements: bool,
+    p: u8,
+    keys: &mut [u64],
+    valued: &mut [bool],
+    values: &mut [f64],
+    draws: &mut [f64],
+    c: Costed,
+) -> Costed
+    requires { ⌜ j < 65536 ⌝ }
+    requires { ⌜ Coded (now em) ⌝ }
+    requires { ⌜ Samples (framesOf (now text)) how (now draws) ⌝ }
+    requires { ⌜ Remembers (framesOf (now text)) how (now keys) (now valued) (now values) (c .tallies) ⌝ }
+    requires { ⌜ length (itemCost (framesOf (now text)) (map decode (now em)) op elements p (operandAt (bytesOf (now line)) j) (costAt (now keys) c) .tally .memo) ≤ length (now keys) ⌝ }
+    ensures { λ r. ⌜ Stands (framesOf (now (text .entry))) how (now (keys .exit)) (now (valued .exit)) (now (values .exit)) r (itemCost (framesOf (now (text .entry))) (map decode (now (em .entry))) op elements p (operandAt (bytesOf (now (line .entry))) j) (costAt (now (keys .entry)) c)) ⌝ }
+{
+    let path = item_path(elements);
+    let place = item_place(elements, p);
+    let t = c.tallies;
+    let s = sampled(
+        text, line, j, em, how, op, path, place, keys, valued, values, draws, t,
+    );
+    let drawn = s.fan;
+    let fan = or_fan(drawn, item_fan(text, op, elements, p));
+    let tallies = s.tallies;
+    let cost = c.cost * path_selectivity(fan, denominator(text, op));
+    Costed { cost, tallies }
+}
+
+// An item adds to the cost where it is bound.
+fn item_cost(
+    text: &[u8],
+    line: &[u8],
+    j: usize,
+    bound: &[bool],
+    em: &[u32],
+    how: Sampled,
+    op: u8,
+    elements: bool,
+    p: u8,
+    keys: &mut [u64],
+    valued: &mut [bool],
+    values: &mut [f64],
+    draws: &mut [f64],
+    c: Costed,
+) -> Costed
+    requires { ⌜ j < 65536 ⌝ }
+    requires { ⌜ Coded (now em) ⌝ }
+    requires { ⌜ Samples (framesOf (now text)) how (now draws) ⌝ }
+    requires { ⌜ Remembers (framesOf (now text)) how (now keys) (now valued) (now values) (c .tallies) ⌝ }
+    requires { ⌜ length (oneCost (framesOf (now text)) (map decode (now em)) (now bound) op elements p (operandAt (bytesOf (now line)) j) (costAt (now keys) c) .tally .memo) ≤ length (now keys) ⌝ }
+    ensures { λ r. ⌜ Stands (framesOf (now (text .entry))) how (now (keys .exit)) (now (valued .exit)) (now (values .exit)) r (oneCost (framesOf (now (text .entry))) (map decode (now (em .entry))) (now (bound .entry)) op elements p (operandAt (bytesOf (now (line .entry))) j) (costAt (now (keys .entry)) c)) ⌝ }
+{
+    if !pv_is_bound(line, j, bound) {
+        return c;
+    }
+    bound_cost(
+        text, line, j, em, how, op, elements, p, keys, valued, values, draws, c,
+    )
+}
+
 // The cost of a node that is bound: it is looked up within its class.
 fn by_repr_cost(text: &[u8], op: u8, k: u8) -> f64
     ensures { λ r. ⌜ r ≡ reprCost (framesOf (now (text .entry))) op k ⌝ }
