@@ -234,6 +234,76 @@ fn item_cost(
     )
 }
 
+// The n items of an atom, each w bytes behind the one before, from byte i on.
+fn item_costs(
+    text: &[u8],
+    line: &[u8],
+    i: usize,
+    w: usize,
+    n: usize,
+    bound: &[bool],
+    em: &[u32],
+    how: Sampled,
+    op: u8,
+    elements: bool,
+    keys: &mut [u64],
+    valued: &mut [bool],
+    values: &mut [f64],
+    draws: &mut [f64],
+    start: Costed,
+) -> Costed
+    requires { ⌜ i < 256 ⌝ }
+    requires { ⌜ w < 256 ⌝ }
+    requires { ⌜ n < 256 ⌝ }
+    requires { ⌜ Coded (now em) ⌝ }
+    requires { ⌜ Samples (framesOf (now text)) how (now draws) ⌝ }
+    requires { ⌜ Remembers (framesOf (now text)) how (now keys) (now valued) (now values) (start .tallies) ⌝ }
+    requires { ⌜ length (itemCosts (framesOf (now text)) (map decode (now em)) (now bound) op elements 0 (operandsFrom (bytesOf (now line)) i w n) (costAt (now keys) start) .tally .memo) ≤ length (now keys) ⌝ }
+    ensures { λ r. ⌜ Stands (framesOf (now (text .entry))) how (now (keys .exit)) (now (valued .exit)) (now (values .exit)) r (itemCosts (framesOf (now (text .entry))) (map decode (now (em .entry))) (now (bound .entry)) op elements 0 (operandsFrom (bytesOf (now (line .entry))) i w n) (costAt (now (keys .entry)) start)) ⌝ }
+{
+    let mut c = start;
+    let mut k: usize = 0;
+    while k < n {
+        let j = i + w * k;
+        let p = narrow(k);
+        c = item_cost(
+            text, line, j, bound, em, how, op, elements, p, keys, valued, values, draws, c,
+        );
+        k += 1;
+    }
+    c
+}
+
+// The items of a frame, as the table of kinds has them.
+fn frame_costs(
+    text: &[u8],
+    line: &[u8],
+    bound: &[bool],
+    em: &[u32],
+    how: Sampled,
+    op: u8,
+    keys: &mut [u64],
+    valued: &mut [bool],
+    values: &mut [f64],
+    draws: &mut [f64],
+    start: Costed,
+) -> Costed
+    requires { ⌜ Coded (now em) ⌝ }
+    requires { ⌜ Samples (framesOf (now text)) how (now draws) ⌝ }
+    requires { ⌜ Remembers (framesOf (now text)) how (now keys) (now valued) (now values) (start .tallies) ⌝ }
+    requires { ⌜ length (itemCosts (framesOf (now text)) (map decode (now em)) (now bound) op (ltb 6 (getD (bytesOf (now line)) 0 0)) 0 (itemOperands (bytesOf (now line))) (costAt (now keys) start) .tally .memo) ≤ length (now keys) ⌝ }
+    ensures { λ r. ⌜ Stands (framesOf (now (text .entry))) how (now (keys .exit)) (now (valued .exit)) (now (values .exit)) r (itemCosts (framesOf (now (text .entry))) (map decode (now (em .entry))) (now (bound .entry)) op (ltb 6 (getD (bytesOf (now (line .entry))) 0 0)) 0 (itemOperands (bytesOf (now (line .entry)))) (costAt (now (keys .entry)) start)) ⌝ }
+{
+    let kind = byte_at(line, 0);
+    let i = fixed_length(kind);
+    let w = item_width(kind);
+    let n = items_of(line);
+    let elements = 6 < kind;
+    item_costs(
+        text, line, i, w, n, bound, em, how, op, elements, keys, valued, values, draws, start,
+    )
+}
+
 // The cost of a node that is bound: it is looked up within its class.
 fn by_repr_cost(text: &[u8], op: u8, k: u8) -> f64
     ensures { λ r. ⌜ r ≡ reprCost (framesOf (now (text .entry))) op k ⌝ }
