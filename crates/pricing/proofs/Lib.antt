@@ -3,3 +3,4 @@ pub mod LeafLaws
 pub mod EstimateLaws
 pub mod SampleLaws
 pub mod ItemLaws
+pub mod CostLaws

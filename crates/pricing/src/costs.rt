@@ -193,7 +193,19 @@ fn bound_cost(
     let place = item_place(elements, p);
     let t = c.tallies;
     let s = sampled(
-        text, line, j, em, how, op, path, place, keys, valued, values, draws, t,
+        text,
+        line,
+        j,
+        em,
+        how,
+        op,
+        path,
+        place,
+        keys,
+        valued,
+        values,
+        draws,
+        t,
     );
     let drawn = s.fan;
     let fan = or_fan(drawn, item_fan(text, op, elements, p));
@@ -230,7 +242,19 @@ fn item_cost(
         return c;
     }
     bound_cost(
-        text, line, j, em, how, op, elements, p, keys, valued, values, draws, c,
+        text,
+        line,
+        j,
+        em,
+        how,
+        op,
+        elements,
+        p,
+        keys,
+        valued,
+        values,
+        draws,
+        c,
     )
 }
 
@@ -267,7 +291,20 @@ fn item_costs(
         let j = i + w * k;
         let p = narrow(k);
         c = item_cost(
-            text, line, j, bound, em, how, op, elements, p, keys, valued, values, draws, c,
+            text,
+            line,
+            j,
+            bound,
+            em,
+            how,
+            op,
+            elements,
+            p,
+            keys,
+            valued,
+            values,
+            draws,
+            c,
         );
         k += 1;
     }
@@ -300,7 +337,21 @@ fn frame_costs(
     let n = items_of(line);
     let elements = 6 < kind;
     item_costs(
-        text, line, i, w, n, bound, em, how, op, elements, keys, valued, values, draws, start,
+        text,
+        line,
+        i,
+        w,
+        n,
+        bound,
+        em,
+        how,
+        op,
+        elements,
+        keys,
+        valued,
+        values,
+        draws,
+        start,
     )
 }
 
@@ -320,4 +371,56 @@ fn is_literal(kind: u8) -> bool
         return true;
     }
     kind == 3
+}
+
+// The cost of atom number k, by its line.
+pub fn estimate_cost(
+    text: &[u8],
+    line: &[u8],
+    k: u8,
+    bound: &[bool],
+    em: &[u32],
+    how: Sampled,
+    keys: &mut [u64],
+    valued: &mut [bool],
+    values: &mut [f64],
+    draws: &mut [f64],
+    s: Tallies,
+) -> Costed
+    requires { ⌜ AtomLine (bytesOf (now line)) ⌝ }
+    requires { ⌜ Coded (now em) ⌝ }
+    requires { ⌜ Samples (framesOf (now text)) how (now draws) ⌝ }
+    requires { ⌜ Remembers (framesOf (now text)) how (now keys) (now valued) (now values) s ⌝ }
+    requires { ⌜ length (estimateCost (framesOf (now text)) (map decode (now em)) (now bound) k (atomOfFrame (bytesOf (now line))) (tallyAt (now keys) s) .tally .memo) ≤ length (now keys) ⌝ }
+    ensures { λ r. ⌜ Stands (framesOf (now (text .entry))) how (now (keys .exit)) (now (valued .exit)) (now (values .exit)) r (estimateCost (framesOf (now (text .entry))) (map decode (now (em .entry))) (now (bound .entry)) k (atomOfFrame (bytesOf (now (line .entry)))) (tallyAt (now (keys .entry)) s)) ⌝ }
+{
+    if !scans(line) {
+        return Costed {
+            cost: 0.0,
+            tallies: s,
+        };
+    }
+    let op = byte_at(line, 2);
+    let cost = base_card(text, op, k);
+    if is_literal(byte_at(line, 0)) {
+        return Costed { cost, tallies: s };
+    }
+    if is_set(bound, byte_at(line, 1)) {
+        let cost = by_repr_cost(text, op, k);
+        return Costed { cost, tallies: s };
+    }
+    let start = Costed { cost, tallies: s };
+    frame_costs(
+        text,
+        line,
+        bound,
+        em,
+        how,
+        op,
+        keys,
+        valued,
+        values,
+        draws,
+        start,
+    )
 }
