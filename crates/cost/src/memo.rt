@@ -1,6 +1,6 @@
 // The memo of what was measured: keys as numbers, the latest last.
 ghost use mathlib.Core.Path.{_≡_};
-ghost use Prim.Native.Nat.{ℕ, _+_, _*_, _<_};
+ghost use Prim.Native.Nat.{_+_, _*_, _<_};
 ghost use Rattle.cost.specs.Memo.{unpackKey, countedBy};
 use super::draws::Measurement;
 use super::sampling::Key;

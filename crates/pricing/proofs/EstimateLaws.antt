@@ -3,7 +3,7 @@ use Prim.Native.Nat.{ℕ, zero, suc, _+_, _<_, _≤_}
 use mathlib.Core.Path.{_≡_, refl, sym, _∙_, ap}
 use mathlib.Core.Bool.{Bool, true, false}
 use mathlib.Core.Option.{Option, none, some}
-use mathlib.Core.List.{List, [], _∷_}
+use mathlib.Core.List.{List, _∷_}
 use native.Mathlib.Omega.{arith}
 use native.Mathlib.Numerals.{add-one}
 use lib.Dec.{ltb}
@@ -17,7 +17,6 @@ use Rattle.measure.specs.declared.FanOut.the-variants.{Unmeasured}
 use Rattle.measure.specs.declared.SamplerConfig.{SamplerConfig}
 use Rattle.measure.specs.declared.Estimate.{Estimate}
 use Rattle.measure.specs.declared.Estimate.the-variants.{Accepted, Rejected}
-use Rattle.query.specs.declared.statistics.Sampled.{Sampled}
 use Rattle.query.specs.declared.statistics.Sampled.the-variants.{On}
 use Rattle.cost.specs.declared.sampling.Key.{Key}
 use Rattle.cost.specs.declared.draws.Measurement.{Measurement}
@@ -28,7 +27,6 @@ use Rattle.cost.specs.Memo.{unpackKey, memoAt, countedBy, tallyAt}
 use Rattle.cost.specs.Draws.{measurementOf}
 use Rattle.cost.specs.Costs.{estimate, orMeasured}
 use Rattle.pricing.specs.Remembering.{memoValue, measuredFan, isMeasured, fanValue, Samples, Remembers, Placed, Gives}
-use Rattle.pricing.specs.declared.memo.Sample.{Sample}
 use Rattle.pricing.proofs.MemoLaws.{memo-more}
 
 -- ---- what a measurement gives, in the arrays and in the tallies

@@ -1,28 +1,27 @@
 -- The cost of the items of an atom, one at a time. Proved by what one item's sample gives, and by induction on how many.
-use Prim.Native.Nat.{ℕ, zero, suc, _+_, _-_, _*_, _<_, _≤_}
-use mathlib.Core.Path.{_≡_, refl, sym, _∙_, ap}
+use Prim.Native.Nat.{ℕ, suc, _+_, _-_, _*_, _<_, _≤_}
+use mathlib.Core.Path.{_≡_, refl, _∙_}
 use mathlib.Core.Bool.{Bool, true, false, not}
 use mathlib.Core.Option.{Option, none, some}
-use mathlib.Core.List.{List, [], _∷_, map}
+use mathlib.Core.List.{List, [], _∷_}
 use native.Mathlib.Omega.{arith}
 use native.Mathlib.Numerals.{add-one}
 use lib.Dec.{ltb}
 use lib.Ieee.{Float, binary64, mul}
 use lib.ListN.{length, getD}
-use Rattle.base.specs.Choose.{pick}
 use Rattle.measure.specs.Selectivity.{pathSelectivity}
 use Rattle.measure.specs.declared.FanOut.{FanOut}
-use Rattle.measure.specs.declared.FanOut.the-variants.{Measured, Unmeasured}
+use Rattle.measure.specs.declared.FanOut.the-variants.{Unmeasured}
 use Rattle.query.specs.Statistics.{denominator}
 use Rattle.query.specs.declared.statistics.Sampled.{Sampled}
 use Rattle.model.specs.Atoms.{Operand}
 use Rattle.model.specs.Bound.{Bound}
 use Rattle.model.specs.Lowering.{pvIsBound}
-use Rattle.cost.specs.Emitters.{Emitters, decode}
+use Rattle.cost.specs.Emitters.{Emitters}
 use Rattle.cost.specs.Memo.{tallyAt}
 use Rattle.cost.specs.QueryAtoms.{operandAt, operandsFrom}
 use Rattle.cost.specs.Costs.{Costed as Cost, sampled, orMeasured, childCosts, elementCosts}
-use Rattle.plan_facts.specs.Remembered.{Grows, children-grow, elements-grow}
+use Rattle.plan_facts.specs.Remembered.{children-grow, elements-grow}
 use Rattle.frames.specs.Fields.{width}
 use Rattle.frames.specs.Kinds.{kindAt, fixedLength, itemsOf}
 use Rattle.frames.specs.Frames.{kindOf}

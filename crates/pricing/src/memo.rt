@@ -1,7 +1,7 @@
 // The memo of what was measured, with the values: a known key gives its value again.
 ghost use mathlib.Core.Path.{_≡_};
 ghost use mathlib.Core.Bool.{false};
-ghost use Prim.Native.Nat.{ℕ, _+_, _*_, _<_, _≤_};
+ghost use Prim.Native.Nat.{_<_, _≤_};
 ghost use lib.ListN.{length, getD};
 ghost use Rattle.measure.specs.Selectivity.{zero64};
 ghost use Rattle.measure.specs.declared.FanOut.the-variants.{Unmeasured};

@@ -2,7 +2,6 @@
 use denote.Ref.{now}
 use mathlib.Core.List.{map}
 use Rattle.hex.specs.Digits.{bytesOf}
-use Rattle.frames.specs.First.{framesOf}
 use Rattle.cost.specs.Emitters.{decode}
 use Rattle.pricing.proofs.CostLaws.{test-stands, literal-stands, node-stands, items-room, items-stand}
 use borrow.Author.Needs.{needs}
