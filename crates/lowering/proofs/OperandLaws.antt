@@ -152,7 +152,7 @@ module _ (f : List ℕ) (i w n : ℕ) (U : Bound) (k : ℕ) (m : AllIn f i w n U
 -- ---- the items of a frame
 
 module _ (f : List ℕ) (k i w n : ℕ) (is : k ≡ getD f 0 0) (hi : i ≡ fixedLength (kindAt k)) (hw : w ≡ width (kindAt k .item)) (hn : n ≡ itemsOf (kindOf f) f) where
-  items-are : operandsFrom f i w n ≡ itemOperands f
+  pub items-are : operandsFrom f i w n ≡ itemOperands f
   items-are = rw (hi, hw, hn, is)
 
   pub items-below : (B : Bound) → numbersBelow (length B) (flatMap localOf (itemOperands f)) ≡ true → numbersBelow (length B) (flatMap localOf (operandsFrom f i w n)) ≡ true

@@ -5,19 +5,42 @@ use mathlib.Core.Bool.{Bool, true, false}
 use mathlib.Core.Option.{Option, none, some}
 use mathlib.Core.List.{List}
 use lib.ListN.{length, getD}
+use lib.Dec.{ltb}
 use lib.Ieee.{Float}
 use Rattle.measure.specs.Selectivity.{zero64}
 use Rattle.measure.specs.declared.SamplerConfig.{SamplerConfig}
+use Rattle.measure.specs.declared.FanOut.{FanOut}
+use Rattle.measure.specs.declared.FanOut.the-variants.{Measured, Unmeasured}
 use Rattle.query.specs.Statistics.{settings}
 use Rattle.query.specs.declared.statistics.Sampled.{Sampled}
 use Rattle.query.specs.declared.statistics.Sampled.the-variants.{On}
-use Rattle.cost.specs.Sampling.{measure, valueOf}
-use Rattle.cost.specs.Memo.{unpackKey}
+use Rattle.cost.specs.Sampling.{measure, valueOf, isKnown}
+use Rattle.cost.specs.Memo.{unpackKey, memoAt, tallyAt}
+use Rattle.cost.specs.Costs.{Sampled′, Costed as Cost, orMeasured}
+use Rattle.cost.specs.declared.draws.Measurement.{Measurement}
+use Rattle.cost.specs.declared.draws.Measurement.the-variants.{NoDraws, Accepted, Rejected}
 use Rattle.cost.specs.declared.memo.Tallies.{Tallies}
+use Rattle.pricing.specs.declared.memo.Sample.{Sample}
+use Rattle.pricing.specs.declared.costs.Costed.{Costed}
 
 abbrev pub memoValue : Bool → Float → Option Float
 memoValue true x = some x
 memoValue false x = none
+
+-- the fan-out of a measurement: "A rejected sample falls back to the measured fan-out"
+abbrev pub measuredFan : Measurement → FanOut
+measuredFan NoDraws = Unmeasured
+measuredFan (Accepted m) = Measured m
+measuredFan Rejected = Unmeasured
+
+-- a fan-out in two arrays: whether there is one, and its value
+abbrev pub isMeasured : FanOut → Bool
+isMeasured (Measured x) = true
+isMeasured Unmeasured = false
+
+abbrev pub fanValue : FanOut → Float
+fanValue (Measured x) = x
+fanValue Unmeasured = zero64
 
 -- as many keys as atoms have items: 64 atoms of 16
 abbrev pub keysMost : ℕ
@@ -39,3 +62,29 @@ pub record Remembers (fs : List (List ℕ)) (how : Sampled) (keys : List ℕ) (v
   pub tallied : s .tallied ≤ s .count
   pub rejected : s .rejected ≤ s .count
   pub is : (cfg : SamplerConfig) → how ≡ On cfg → (j : ℕ) → j < s .count → memoValue (getD valued j false) (getD values j zero64) ≡ valueOf (measure fs cfg (unpackKey (getD keys j 0)))
+
+-- each number is an emitter's: its atom is a byte
+pub record Coded (em : List ℕ) : Type 0 where
+  pub few : (v : ℕ) → getD em v 0 ≤ 262144
+
+-- r is where the key stands among the first m, m where it does not
+pub record Placed (keys : List ℕ) (m key r : ℕ) : Type 0 where
+  pub few : r ≤ m
+  pub known : isKnown (memoAt keys m) (unpackKey key) ≡ ltb r m
+  pub is : r < m → getD keys r 0 ≡ key
+
+-- r is the sampled value o, and the arrays are what is remembered behind it
+pub record Gives (fs : List (List ℕ)) (how : Sampled) (keys : List ℕ) (valued : List Bool) (values : List Float) (r : Sample) (o : Sampled′) : Type 0 where
+  pub fan : r .fan ≡ orMeasured (o .value) Unmeasured
+  pub tally : tallyAt keys (r .tallies) ≡ o .tally
+  pub memo : Remembers fs how keys valued values (r .tallies)
+
+-- what a cost and an array of keys stand for
+abbrev pub costAt : List ℕ → Costed → Cost
+costAt keys c = record { cost = c .cost; tally = tallyAt keys (c .tallies) }
+
+-- r is the cost c, and the arrays are what is remembered behind it
+pub record Stands (fs : List (List ℕ)) (how : Sampled) (keys : List ℕ) (valued : List Bool) (values : List Float) (r : Costed) (c : Cost) : Type 0 where
+  pub cost : r .cost ≡ c .cost
+  pub tally : tallyAt keys (r .tallies) ≡ c .tally
+  pub memo : Remembers fs how keys valued values (r .tallies)

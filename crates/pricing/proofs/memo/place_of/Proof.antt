@@ -1,8 +1,8 @@
--- `cost::memo::is_known` meets its contract: from the latest key on.
-use Rattle.cost.proofs.MemoLaws.{Searching, searching-all, searching-found, searching-again, searching-none}
+-- `pricing::memo::place_of` meets its contract: from the latest key on.
 use borrow.Author.Needs.{needs}
-use Rattle.cost.proofs.memo.is_known.Statement.{statement}
-use Rattle.cost.proofs.memo.is_known.Tie as tie
+use Rattle.pricing.proofs.MemoLaws.{Searching, searching-all, searching-found, searching-again, searching-none}
+use Rattle.pricing.proofs.memo.place_of.Statement.{statement}
+use Rattle.pricing.proofs.memo.place_of.Tie as tie
 
 abbrev Inv-loop : tie.InvT-loop
 Inv-loop keys m key i₀ i = Searching keys m key i
@@ -34,8 +34,8 @@ loop-again c = search searching-again
 returns-2 : tie.Need-returns-2 Inv-loop μ-loop
 returns-2 c = search searching-none
 
-pub is-known-spec : {M : Type 1} → statement M
-is-known-spec =
+pub place-of-spec : {M : Type 1} → statement M
+place-of-spec =
     tie.close
     (tie.spec
     Inv-loop

@@ -1,0 +1,6 @@
+pub mod MemoLaws
+pub mod LeafLaws
+pub mod EstimateLaws
+pub mod SampleLaws
+pub mod ItemLaws
+pub mod CostLaws

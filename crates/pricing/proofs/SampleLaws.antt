@@ -1,0 +1,69 @@
+-- The sample of a probe by one operand. Proved by the operand's tag, its emitter and the settings.
+use Prim.Native.Nat.{ℕ, zero, suc, _+_, _-_, _<_, _≤_}
+use mathlib.Core.Path.{_≡_, refl, _∙_, ap}
+use mathlib.Core.Bool.{Bool}
+use mathlib.Core.Option.{Option, none}
+use mathlib.Core.List.{List, map}
+use native.Mathlib.Omega.{arith}
+use lib.Ieee.{Float}
+use lib.ListN.{length, getD, List·getD-map}
+use borrow.Author.Tests.{eq-eqb, ne-eqb}
+use Rattle.measure.specs.declared.FanOut.the-variants.{Unmeasured}
+use Rattle.measure.specs.declared.SamplerConfig.{SamplerConfig}
+use Rattle.query.specs.Statistics.{settings}
+use Rattle.query.specs.declared.statistics.Sampled.{Sampled}
+use Rattle.query.specs.declared.statistics.Sampled.the-variants.{On, Off}
+use Rattle.cost.specs.declared.sampling.Key.{Key}
+use Rattle.cost.specs.declared.memo.Tallies.{Tallies}
+use Rattle.cost.specs.Sampling.{Tally, afterEstimate}
+use Rattle.cost.specs.Emitters.{Emitter, decode}
+use Rattle.cost.specs.Memo.{tallyAt}
+use Rattle.cost.specs.QueryAtoms.{operandAt}
+use Rattle.cost.specs.Costs.{Sampled′, estimate, sampledBy, sampled}
+use Rattle.pricing.specs.Items.{numberKey}
+use Rattle.pricing.specs.Remembering.{Samples, Remembers, Coded, Gives}
+use Rattle.pricing.specs.declared.memo.Sample.{Sample}
+
+pub some-number : (e : ℕ) → (e ≡ 0 → ⊥) → 0 < e
+some-number zero h = absurd (h refl)
+some-number (suc c) h = omega arith
+
+pub coded-number : (em : List ℕ) (v e : ℕ) → Coded em → e ≡ getD em v 0 → e ≤ 262144
+coded-number em v e z h = rw h (z .few v)
+
+nothing-gives : (fs : List (List ℕ)) (how : Sampled) (ks : List ℕ) (vs : List Bool) (xs : List Float) (s : Tallies) (o : Sampled′) → Remembers fs how ks vs xs s → o ≡ record { value = none; tally = tallyAt ks s } → Gives fs how ks vs xs (record { fan = Unmeasured; tallies = s }) o
+nothing-gives fs how ks vs xs s o m e = rw e record { fan = refl; tally = refl; memo = m }
+
+module _ (fs : List (List ℕ)) (em f : List ℕ) (j o path place : ℕ) (how : Sampled) (ks : List ℕ) (vs : List Bool) (xs : List Float) (s : Tallies) (m : Remembers fs how ks vs xs s) (b : ℕ) (is : b ≡ getD f j 0) where
+  pub global-sample : (b ≡ 0 → ⊥) → Gives fs how ks vs xs (record { fan = Unmeasured; tallies = s }) (sampled fs (map decode em) (operandAt f j) o path place (tallyAt ks s))
+  global-sample h = nothing-gives fs how ks vs xs s _ m (rw (← is, ne-eqb b 0 h))
+
+  module _ (v e : ℕ) (h : b ≡ 0) (hv : v ≡ getD f (j + 1) 0) (he : e ≡ getD em v 0) where
+    local-by : (t : Tally) → sampled fs (map decode em) (operandAt f j) o path place t ≡ sampledBy fs (decode e) o path place t
+    local-by t = rw (← is, eq-eqb b 0 h, ← hv, he) (ap (λ (q : Option Emitter). sampledBy fs q o path place t) (List·getD-map decode em v 0))
+
+    pub no-emitter : e ≡ 0 → Gives fs how ks vs xs (record { fan = Unmeasured; tallies = s }) (sampled fs (map decode em) (operandAt f j) o path place (tallyAt ks s))
+    no-emitter g = nothing-gives fs how ks vs xs s _ m (local-by (tallyAt ks s) ∙ rw g)
+
+    module _ (ds : List Float) (z : Samples fs how ds) (g : e ≡ 0 → ⊥) where
+      probe-by : (t : Tally) → sampled fs (map decode em) (operandAt f j) o path place t ≡ estimate fs how (numberKey e o path place) t
+      probe-by t = local-by t ∙ rw (z .set) (at e g)
+        where
+          at : (e : ℕ) → (e ≡ 0 → ⊥) → sampledBy fs (decode e) o path place t ≡ estimate fs (settings fs) (numberKey e o path place) t
+          at zero g = absurd (g refl)
+          at (suc c) g =
+              let d : suc c - 1 ≡ c = omega arith in
+              rw d
+
+      pub sampling-off : how ≡ Off → Gives fs how ks vs xs (record { fan = Unmeasured; tallies = s }) (sampled fs (map decode em) (operandAt f j) o path place (tallyAt ks s))
+      sampling-off w = nothing-gives fs how ks vs xs s _ m (probe-by (tallyAt ks s) ∙ rw w)
+
+      module _ (cfg : SamplerConfig) (w : how ≡ On cfg) (x : Key) (hx : x ≡ numberKey e o path place) where
+        sampled-on : sampled fs (map decode em) (operandAt f j) o path place (tallyAt ks s) ≡ estimate fs (On cfg) x (tallyAt ks s)
+        sampled-on = probe-by (tallyAt ks s) ∙ rw (w, hx)
+
+        pub estimate-ready : length (sampled fs (map decode em) (operandAt f j) o path place (tallyAt ks s) .tally .memo) ≤ length ks → Samples fs (On cfg) ds × (Remembers fs (On cfg) ks vs xs s × (length (afterEstimate fs cfg x (tallyAt ks s) .memo) ≤ length ks))
+        estimate-ready l = (rw w at z, (rw w at m, rw sampled-on at l))
+
+        pub sampled-gives : (ks′ : List ℕ) (vs′ : List Bool) (xs′ : List Float) (r : Sample) → Gives fs (On cfg) ks′ vs′ xs′ r (estimate fs (On cfg) x (tallyAt ks s)) → Gives fs how ks′ vs′ xs′ r (sampled fs (map decode em) (operandAt f j) o path place (tallyAt ks s))
+        sampled-gives ks′ vs′ xs′ r q = rw (sampled-on, w) q

@@ -1,0 +1,82 @@
+-- `pricing::costs::estimate_cost` meets its contract: kind by kind.
+use denote.Ref.{now}
+use mathlib.Core.List.{map}
+use Rattle.hex.specs.Digits.{bytesOf}
+use Rattle.cost.specs.Emitters.{decode}
+use Rattle.pricing.proofs.CostLaws.{test-stands, literal-stands, node-stands, items-room, items-stand}
+use borrow.Author.Needs.{needs}
+use Rattle.pricing.proofs.costs.estimate_cost.Statement.{statement}
+use Rattle.pricing.proofs.costs.estimate_cost.Tie as tie
+
+scans-requires : tie.Need-scans-requires
+scans-requires c κs = search needs
+
+returns : tie.Need-returns
+returns c = search test-stands
+
+byte-at-requires : tie.Need-byte-at-requires
+byte-at-requires c κs = search needs
+
+base-card-requires : tie.Need-base-card-requires
+base-card-requires c κs = search needs
+
+byte-at-requires-2 : tie.Need-byte-at-requires-2
+byte-at-requires-2 c κs = search needs
+
+is-literal-requires : tie.Need-is-literal-requires
+is-literal-requires c κs = search needs
+
+returns-2 : tie.Need-returns-2
+returns-2 c = search literal-stands
+
+byte-at-requires-3 : tie.Need-byte-at-requires-3
+byte-at-requires-3 c κs = search needs
+
+is-set-requires : tie.Need-is-set-requires
+is-set-requires c κs = search needs
+
+by-repr-cost-requires : tie.Need-by-repr-cost-requires
+by-repr-cost-requires c κs = search needs
+
+returns-3 : tie.Need-returns-3
+returns-3 c = search node-stands
+
+frame-costs-requires : tie.Need-frame-costs-requires
+frame-costs-requires c κs = (search needs, (search needs, (search needs, items-room _ (map decode (now (c .before .before .before .before .before .before .before .before .before .before .before .before .before .before .before .before .before .before .before .before .before .before .args .em))) (now (c .before .before .before .before .before .before .before .before .before .before .before .before .before .before .before .before .before .before .before .before .before .before .args .bound)) _ (bytesOf (now (c .before .before .before .before .before .before .before .before .before .before .before .before .before .before .before .before .before .before .before .before .before .before .args .line))) (c .before .before .before .before .before .before .before .before .before .before .before .before .before .before .before .before .before .before .before .before .before .before .args .how) (now (c .before .before .before .before .before .before .before .before .before .before .before .before .before .before .before .before .before .before .before .before .before .before .args .keys)) (now (c .before .before .before .before .before .before .before .before .before .before .before .before .before .before .before .before .before .before .before .before .before .before .args .valued)) (now (c .before .before .before .before .before .before .before .before .before .before .before .before .before .before .before .before .before .before .before .before .before .before .args .values)) (c .before .before .before .before .before .before .before .before .before .before .before .before .before .before .before .before .before .before .before .before .before .before .args .s) _ (c .before .before .before .before .before .before .before .before .before .before .before .before .before .scans .ensures) (c .before .before .before .before .before .before .before .before .before .before .before .before .before .before .before .before .before .before .before .before .before .before .pre .0) _ (c .before .before .before .before .before .before .before .before .before .before .before .byte-at .ensures) _ _ (c .before .before .before .before .before .before .before .before .before .byte-at2 .ensures) _ (c .before .before .before .before .before .before .before .before .is-literal .ensures) (c .before .before .before .before .before .before .before .before .before .before .before .before .if1 .left) (c .before .before .before .before .before .before .before .if2 .left) _ (c .before .before .before .before .before .before .byte-at3 .ensures) _ (c .before .before .before .before .before .is-set .ensures) (c .before .before .before .before .if3 .left) (c .before .before .before .before .before .before .before .before .before .before .base-card .ensures) (c .before .before .before .before .before .before .before .before .before .before .before .before .before .before .before .before .before .before .before .before .before .before .pre .1 .1 .1 .1))))
+
+same-length : tie.Need-same-length
+same-length c = search needs
+
+same-length-2 : tie.Need-same-length-2
+same-length-2 c = search needs
+
+same-length-3 : tie.Need-same-length-3
+same-length-3 c = search needs
+
+same-length-4 : tie.Need-same-length-4
+same-length-4 c = search needs
+
+returns-4 : tie.Need-returns-4
+returns-4 c = items-stand _ (map decode (now (c .before .before .before .before .before .before .before .before .before .before .before .before .before .before .before .before .before .before .before .before .before .before .before .before .before .before .before .before .before .before .before .args .em))) (now (c .before .before .before .before .before .before .before .before .before .before .before .before .before .before .before .before .before .before .before .before .before .before .before .before .before .before .before .before .before .before .before .args .bound)) _ (bytesOf (now (c .before .before .before .before .before .before .before .before .before .before .before .before .before .before .before .before .before .before .before .before .before .before .before .before .before .before .before .before .before .before .before .args .line))) (c .before .before .before .before .before .before .before .before .before .before .before .before .before .before .before .before .before .before .before .before .before .before .before .before .before .before .before .before .before .before .before .args .how) (now (c .before .before .before .before .before .before .before .before .before .before .before .before .before .before .before .before .before .before .before .before .before .before .before .before .before .before .before .before .before .before .before .args .keys)) (now (c .before .before .before .before .before .before .before .before .before .before .before .before .before .before .before .before .before .before .before .before .before .before .before .before .before .before .before .before .before .before .before .args .valued)) (now (c .before .before .before .before .before .before .before .before .before .before .before .before .before .before .before .before .before .before .before .before .before .before .before .before .before .before .before .before .before .before .before .args .values)) (c .before .before .before .before .before .before .before .before .before .before .before .before .before .before .before .before .before .before .before .before .before .before .before .before .before .before .before .before .before .before .before .args .s) _ (c .before .before .before .before .before .before .before .before .before .before .before .before .before .before .before .before .before .before .before .before .before .before .scans .ensures) (c .before .before .before .before .before .before .before .before .before .before .before .before .before .before .before .before .before .before .before .before .before .before .before .before .before .before .before .before .before .before .before .pre .0) _ (c .before .before .before .before .before .before .before .before .before .before .before .before .before .before .before .before .before .before .before .before .byte-at .ensures) _ _ (c .before .before .before .before .before .before .before .before .before .before .before .before .before .before .before .before .before .before .byte-at2 .ensures) _ (c .before .before .before .before .before .before .before .before .before .before .before .before .before .before .before .before .before .is-literal .ensures) (c .before .before .before .before .before .before .before .before .before .before .before .before .before .before .before .before .before .before .before .before .before .if1 .left) (c .before .before .before .before .before .before .before .before .before .before .before .before .before .before .before .before .if2 .left) _ (c .before .before .before .before .before .before .before .before .before .before .before .before .before .before .before .byte-at3 .ensures) _ (c .before .before .before .before .before .before .before .before .before .before .before .before .before .before .is-set .ensures) (c .before .before .before .before .before .before .before .before .before .before .before .before .before .if3 .left) (c .before .before .before .before .before .before .before .before .before .before .before .before .before .before .before .before .before .before .before .base-card .ensures) _ _ _ _ (c .before .before .before .before .before .before .before .before .frame-costs .ensures)
+
+pub estimate-cost-spec : {M : Type 1} → statement M
+estimate-cost-spec =
+    tie.close
+    (tie.spec
+    scans-requires
+    returns
+    byte-at-requires
+    base-card-requires
+    byte-at-requires-2
+    is-literal-requires
+    returns-2
+    byte-at-requires-3
+    is-set-requires
+    by-repr-cost-requires
+    returns-3
+    frame-costs-requires
+    same-length
+    same-length-2
+    same-length-3
+    same-length-4
+    returns-4)

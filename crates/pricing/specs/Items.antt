@@ -1,0 +1,63 @@
+-- The cost of the items of an atom's frame, children of a Plain or elements of a collection, in one definition.
+use Prim.Native.Nat.{ℕ, suc, _-_, _/_, _%_}
+use mathlib.Core.Bool.{Bool, true, false}
+use mathlib.Core.List.{List, [], _∷_}
+use lib.Dec.{eqb}
+use lib.Ieee.{Float, binary64, mul}
+use Rattle.base.specs.Choose.{pick}
+use Rattle.measure.specs.Selectivity.{pathSelectivity}
+use Rattle.measure.specs.declared.FanOut.{FanOut}
+use Rattle.measure.specs.declared.FanOut.the-variants.{Measured, Unmeasured}
+use Rattle.query.specs.Statistics.{baseCard, denominator, byChildPos, byContains, byRepr, nodes}
+use Rattle.model.specs.Atoms.{Operand}
+use Rattle.model.specs.Bound.{Bound}
+use Rattle.model.specs.Lowering.{pvIsBound}
+use Rattle.cost.specs.declared.sampling.Key.{Key}
+use Rattle.cost.specs.Emitters.{Emitters}
+use Rattle.cost.specs.Costs.{Costed, sampled, orMeasured, times}
+
+-- the key of a probe of operator o by the path and place, for a variable with the emitter of number e
+abbrev pub numberKey : ℕ → ℕ → ℕ → ℕ → Key
+numberKey e o path place = record { emitter = (e - 1) / 1024; site = (e - 1) / 256 % 4; position = (e - 1) % 256; op = o; path = path; place = place }
+
+-- the path of a probe: 00 by a child's position, 01 by an element
+abbrev pub itemPath : Bool → ℕ
+itemPath true = 1
+itemPath false = 0
+
+-- a child's position, else 0
+abbrev pub itemPlace : Bool → ℕ → ℕ
+itemPlace true p = 0
+itemPlace false p = p
+
+abbrev pub itemFan : List (List ℕ) → ℕ → Bool → ℕ → FanOut
+itemFan fs o true p = byContains fs o
+itemFan fs o false p = byChildPos fs o p
+
+-- a fan-out, else another
+abbrev pub orFan : FanOut → FanOut → FanOut
+orFan (Measured x) f = Measured x
+orFan Unmeasured f = f
+
+-- one bound item, at position p
+unfoldable pub itemCost : List (List ℕ) → Emitters → ℕ → Bool → ℕ → Operand → Costed → Costed
+itemCost fs em o t p x c =
+    let s = sampled fs em x o (itemPath t) (itemPlace t p) (c .tally) in
+    record { cost = times (c .cost) (orMeasured (s .value) (itemFan fs o t p)) (denominator fs o); tally = s .tally }
+
+-- an item, where it is bound
+abbrev pub oneCost : List (List ℕ) → Emitters → Bound → ℕ → Bool → ℕ → Operand → Costed → Costed
+oneCost fs em B o t p x c = pick (pvIsBound B x) (itemCost fs em o t p x c) c
+
+-- the items that are bound, from position p on
+unfoldable pub itemCosts : List (List ℕ) → Emitters → Bound → ℕ → Bool → ℕ → List Operand → Costed → Costed
+itemCosts fs em B o t p [] c = c
+itemCosts fs em B o t p (x ∷ xs) c = itemCosts fs em B o t (suc p) xs (oneCost fs em B o t p x c)
+
+-- "base times selectivity(by_repr, nodes)", as `byReprCost` has it
+abbrev pub reprCost : List (List ℕ) → ℕ → ℕ → Float
+reprCost fs o i = mul binary64 (baseCard fs o i) (pathSelectivity (Measured (byRepr fs)) (nodes fs))
+
+-- 02 Lit and 03 LitBind
+abbrev pub literalKind : ℕ → Bool
+literalKind k = pick (eqb k 2) true (eqb k 3)

@@ -1,0 +1,115 @@
+// The memo of what was measured, with the values: a known key gives its value again.
+ghost use mathlib.Core.Path.{_≡_};
+ghost use mathlib.Core.Bool.{false};
+ghost use Prim.Native.Nat.{_<_, _≤_};
+ghost use lib.ListN.{length, getD};
+ghost use Rattle.measure.specs.Selectivity.{zero64};
+ghost use Rattle.measure.specs.declared.FanOut.the-variants.{Unmeasured};
+ghost use Rattle.frames.specs.First.{framesOf};
+ghost use Rattle.query.specs.declared.statistics.Sampled.the-variants.{On};
+ghost use Rattle.cost.specs.Sampling.{afterEstimate};
+ghost use Rattle.cost.specs.Memo.{tallyAt};
+ghost use Rattle.cost.specs.Costs.{estimate as estimateOf, orMeasured};
+ghost use Rattle.pricing.specs.Remembering.{memoValue, Samples, Remembers, Placed, Gives, measuredFan, isMeasured, fanValue};
+use cost::draws::Measurement;
+use cost::draws::measure_key;
+use cost::memo::Tallies;
+use cost::memo::counted;
+use cost::memo::pack_key;
+use cost::sampling::Key;
+use measure::FanOut;
+use measure::SamplerConfig;
+
+// A sampled fan-out, where there is one, and what is remembered behind it.
+pub struct Sample {
+    pub fan: FanOut,
+    pub tallies: Tallies,
+}
+
+// Where a key stands among the first m, m where it does not.
+pub fn place_of(keys: &[u64], m: usize, key: u64) -> usize
+    requires { ⌜ m ≤ length (now keys) ⌝ }
+    ensures { λ r. ⌜ Placed (now (keys .entry)) m key r ⌝ }
+{
+    let mut i = m;
+    while 0 < i {
+        i -= 1;
+        if keys[i] == key {
+            return i;
+        }
+    }
+    m
+}
+
+// The value remembered at place i.
+fn fan_at(valued: &[bool], values: &[f64], i: usize) -> FanOut
+    requires { ⌜ i < length (now valued) ⌝ }
+    requires { ⌜ i < length (now values) ⌝ }
+    ensures { λ r. ⌜ r ≡ orMeasured (memoValue (getD (now (valued .entry)) i false) (getD (now (values .entry)) i zero64)) Unmeasured ⌝ }
+{
+    if valued[i] {
+        return FanOut::Measured(values[i]);
+    }
+    FanOut::Unmeasured
+}
+
+// A rejected sample has no value.
+fn measured_fan(m: Measurement) -> FanOut
+    ensures { λ r. ⌜ r ≡ measuredFan m ⌝ }
+{
+    match m {
+        Measurement::NoDraws => FanOut::Unmeasured,
+        Measurement::Accepted(x) => FanOut::Measured(x),
+        Measurement::Rejected => FanOut::Unmeasured,
+    }
+}
+
+fn is_measured(f: FanOut) -> bool
+    ensures { λ r. ⌜ r ≡ isMeasured f ⌝ }
+{
+    match f {
+        FanOut::Measured(_) => true,
+        FanOut::Unmeasured => false,
+    }
+}
+
+fn fan_value(f: FanOut) -> f64
+    ensures { λ r. ⌜ r ≡ fanValue f ⌝ }
+{
+    match f {
+        FanOut::Measured(x) => x,
+        FanOut::Unmeasured => 0.0,
+    }
+}
+
+// The value of a key; one that is not known is measured, remembered and counted.
+pub fn estimate(
+    text: &[u8],
+    cfg: SamplerConfig,
+    x: Key,
+    keys: &mut [u64],
+    valued: &mut [bool],
+    values: &mut [f64],
+    draws: &mut [f64],
+    s: Tallies,
+) -> Sample
+    requires { ⌜ Samples (framesOf (now text)) (On cfg) (now draws) ⌝ }
+    requires { ⌜ Remembers (framesOf (now text)) (On cfg) (now keys) (now valued) (now values) s ⌝ }
+    requires { ⌜ length (afterEstimate (framesOf (now text)) cfg x (tallyAt (now keys) s) .memo) ≤ length (now keys) ⌝ }
+    ensures { λ r. ⌜ Gives (framesOf (now (text .entry))) (On cfg) (now (keys .exit)) (now (valued .exit)) (now (values .exit)) r (estimateOf (framesOf (now (text .entry))) (On cfg) x (tallyAt (now (keys .entry)) s)) ⌝ }
+{
+    let key = pack_key(x);
+    let c = s.count;
+    let i = place_of(keys, c, key);
+    if i < c {
+        let fan = fan_at(valued, values, i);
+        return Sample { fan, tallies: s };
+    }
+    let m = measure_key(text, x, cfg, draws);
+    let fan = measured_fan(m);
+    keys[c] = key;
+    valued[c] = is_measured(fan);
+    values[c] = fan_value(fan);
+    let tallies = counted(s, m);
+    Sample { fan, tallies }
+}
