@@ -23,7 +23,7 @@ emitter-past em v i e h =
     let l : length em ≤ v = omega arith in
     sym (List·getD-eq-default em 0 l)
 
-pub key-number : (e a b c o p q : ℕ) → a ≡ (e - 1) / 1024 → b ≡ (e - 1) / 256 % 4 → c ≡ (e - 1) % 256 → _≡_ {A = Key} (record { emitter = a; site = b; position = c; op = o; path = p; place = q }) (numberKey e o p q)
+pub key-number : (e a b c o p q : ℕ) → a ≡ (e - 1) / 1024 % 256 → b ≡ (e - 1) / 256 % 4 → c ≡ (e - 1) % 256 → _≡_ {A = Key} (record { emitter = a; site = b; position = c; op = o; path = p; place = q }) (numberKey e o p q)
 key-number e a b c o p q ha hb hc = rw (ha, hb, hc)
 
 -- within a list, what stands past its end does not matter

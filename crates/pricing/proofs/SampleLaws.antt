@@ -21,15 +21,12 @@ use Rattle.cost.specs.Memo.{tallyAt}
 use Rattle.cost.specs.QueryAtoms.{operandAt}
 use Rattle.cost.specs.Costs.{Sampled′, estimate, sampledBy, sampled}
 use Rattle.pricing.specs.Items.{numberKey}
-use Rattle.pricing.specs.Remembering.{Samples, Remembers, Coded, Gives}
+use Rattle.pricing.specs.Remembering.{Samples, Remembers, Gives}
 use Rattle.pricing.specs.declared.memo.Sample.{Sample}
 
 pub some-number : (e : ℕ) → (e ≡ 0 → ⊥) → 0 < e
 some-number zero h = absurd (h refl)
 some-number (suc c) h = omega arith
-
-pub coded-number : (em : List ℕ) (v e : ℕ) → Coded em → e ≡ getD em v 0 → e ≤ 262144
-coded-number em v e z h = rw h (z .few v)
 
 nothing-gives : (fs : List (List ℕ)) (how : Sampled) (ks : List ℕ) (vs : List Bool) (xs : List Float) (s : Tallies) (o : Sampled′) → Remembers fs how ks vs xs s → o ≡ record { value = none; tally = tallyAt ks s } → Gives fs how ks vs xs (record { fan = Unmeasured; tallies = s }) o
 nothing-gives fs how ks vs xs s o m e = rw e record { fan = refl; tally = refl; memo = m }

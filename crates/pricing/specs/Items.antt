@@ -18,7 +18,7 @@ use Rattle.cost.specs.Costs.{Costed, sampled, orMeasured, times}
 
 -- the key of a probe of operator o by the path and place, for a variable with the emitter of number e
 abbrev pub numberKey : ℕ → ℕ → ℕ → ℕ → Key
-numberKey e o path place = record { emitter = (e - 1) / 1024; site = (e - 1) / 256 % 4; position = (e - 1) % 256; op = o; path = path; place = place }
+numberKey e o path place = record { emitter = (e - 1) / 1024 % 256; site = (e - 1) / 256 % 4; position = (e - 1) % 256; op = o; path = path; place = place }
 
 -- the path of a probe: 00 by a child's position, 01 by an element
 abbrev pub itemPath : Bool → ℕ

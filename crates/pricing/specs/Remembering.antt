@@ -63,10 +63,6 @@ pub record Remembers (fs : List (List ℕ)) (how : Sampled) (keys : List ℕ) (v
   pub rejected : s .rejected ≤ s .count
   pub is : (cfg : SamplerConfig) → how ≡ On cfg → (j : ℕ) → j < s .count → memoValue (getD valued j false) (getD values j zero64) ≡ valueOf (measure fs cfg (unpackKey (getD keys j 0)))
 
--- each number is an emitter's: its atom is a byte
-pub record Coded (em : List ℕ) : Type 0 where
-  pub few : (v : ℕ) → getD em v 0 ≤ 262144
-
 -- r is where the key stands among the first m, m where it does not
 pub record Placed (keys : List ℕ) (m key r : ℕ) : Type 0 where
   pub few : r ≤ m

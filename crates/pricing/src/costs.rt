@@ -12,7 +12,7 @@ ghost use Rattle.cost.specs.Memo.{tallyAt};
 ghost use Rattle.cost.specs.QueryAtoms.{operandAt, operandsFrom, atomOfFrame};
 ghost use Rattle.lowering.specs.AtomLines.{AtomLine, itemOperands};
 ghost use Rattle.pricing.specs.Items.{numberKey, itemPath, itemPlace, itemFan, orFan, itemCost, oneCost, itemCosts, reprCost, literalKind};
-ghost use Rattle.pricing.specs.Remembering.{Samples, Remembers, Coded, Gives, Stands, costAt};
+ghost use Rattle.pricing.specs.Remembering.{Samples, Remembers, Gives, Stands, costAt};
 use super::memo::Sample;
 use super::memo::estimate;
 use cost::memo::Tallies;
@@ -69,12 +69,11 @@ fn emitter_of(em: &[u32], v: u8) -> u32
 // The key of a probe, for a variable with the emitter of number e.
 fn key_of(e: u32, op: u8, path: u8, place: u8) -> Key
     requires { ⌜ 0 < e ⌝ }
-    requires { ⌜ e ≤ 262144 ⌝ }
     ensures { λ r. ⌜ r ≡ numberKey e op path place ⌝ }
 {
     let c = e - 1;
     Key {
-        emitter: narrow_word(c / 1024),
+        emitter: narrow_word(c / 1024 % 256),
         site: narrow_word(c / 256 % 4),
         position: narrow_word(c % 256),
         op,
@@ -100,7 +99,6 @@ pub fn sampled(
     s: Tallies,
 ) -> Sample
     requires { ⌜ j < 65536 ⌝ }
-    requires { ⌜ Coded (now em) ⌝ }
     requires { ⌜ Samples (framesOf (now text)) how (now draws) ⌝ }
     requires { ⌜ Remembers (framesOf (now text)) how (now keys) (now valued) (now values) s ⌝ }
     requires { ⌜ length (sampledOf (framesOf (now text)) (map decode (now em)) (operandAt (bytesOf (now line)) j) op path place (tallyAt (now keys) s) .tally .memo) ≤ length (now keys) ⌝ }
@@ -182,7 +180,6 @@ fn bound_cost(
     c: Costed,
 ) -> Costed
     requires { ⌜ j < 65536 ⌝ }
-    requires { ⌜ Coded (now em) ⌝ }
     requires { ⌜ Samples (framesOf (now text)) how (now draws) ⌝ }
     requires { ⌜ Remembers (framesOf (now text)) how (now keys) (now valued) (now values) (c .tallies) ⌝ }
     requires { ⌜ length (itemCost (framesOf (now text)) (map decode (now em)) op elements p (operandAt (bytesOf (now line)) j) (costAt (now keys) c) .tally .memo) ≤ length (now keys) ⌝ }
@@ -231,7 +228,6 @@ fn item_cost(
     c: Costed,
 ) -> Costed
     requires { ⌜ j < 65536 ⌝ }
-    requires { ⌜ Coded (now em) ⌝ }
     requires { ⌜ Samples (framesOf (now text)) how (now draws) ⌝ }
     requires { ⌜ Remembers (framesOf (now text)) how (now keys) (now valued) (now values) (c .tallies) ⌝ }
     requires { ⌜ length (oneCost (framesOf (now text)) (map decode (now em)) (now bound) op elements p (operandAt (bytesOf (now line)) j) (costAt (now keys) c) .tally .memo) ≤ length (now keys) ⌝ }
@@ -278,7 +274,6 @@ fn item_costs(
     requires { ⌜ i < 256 ⌝ }
     requires { ⌜ w < 256 ⌝ }
     requires { ⌜ n < 256 ⌝ }
-    requires { ⌜ Coded (now em) ⌝ }
     requires { ⌜ Samples (framesOf (now text)) how (now draws) ⌝ }
     requires { ⌜ Remembers (framesOf (now text)) how (now keys) (now valued) (now values) (start .tallies) ⌝ }
     requires { ⌜ length (itemCosts (framesOf (now text)) (map decode (now em)) (now bound) op elements 0 (operandsFrom (bytesOf (now line)) i w n) (costAt (now keys) start) .tally .memo) ≤ length (now keys) ⌝ }
@@ -324,7 +319,6 @@ fn frame_costs(
     draws: &mut [f64],
     start: Costed,
 ) -> Costed
-    requires { ⌜ Coded (now em) ⌝ }
     requires { ⌜ Samples (framesOf (now text)) how (now draws) ⌝ }
     requires { ⌜ Remembers (framesOf (now text)) how (now keys) (now valued) (now values) (start .tallies) ⌝ }
     requires { ⌜ length (itemCosts (framesOf (now text)) (map decode (now em)) (now bound) op (ltb 6 (getD (bytesOf (now line)) 0 0)) 0 (itemOperands (bytesOf (now line))) (costAt (now keys) start) .tally .memo) ≤ length (now keys) ⌝ }
@@ -387,7 +381,6 @@ pub fn estimate_cost(
     s: Tallies,
 ) -> Costed
     requires { ⌜ AtomLine (bytesOf (now line)) ⌝ }
-    requires { ⌜ Coded (now em) ⌝ }
     requires { ⌜ Samples (framesOf (now text)) how (now draws) ⌝ }
     requires { ⌜ Remembers (framesOf (now text)) how (now keys) (now valued) (now values) s ⌝ }
     requires { ⌜ length (estimateCost (framesOf (now text)) (map decode (now em)) (now bound) k (atomOfFrame (bytesOf (now line))) (tallyAt (now keys) s) .tally .memo) ≤ length (now keys) ⌝ }

@@ -11,7 +11,7 @@ item-place-requires : tie.Need-item-place-requires
 item-place-requires c κs = search needs
 
 sampled-requires : tie.Need-sampled-requires
-sampled-requires c κs = (search needs, (search needs, (search needs, (search needs, search item-room))))
+sampled-requires c κs = (search needs, (search needs, (search needs, search item-room)))
 
 item-fan-requires : tie.Need-item-fan-requires
 item-fan-requires c κs = search needs

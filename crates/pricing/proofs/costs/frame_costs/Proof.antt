@@ -17,7 +17,7 @@ items-of-requires : tie.Need-items-of-requires
 items-of-requires c κs = search needs
 
 item-costs-requires : tie.Need-item-costs-requires
-item-costs-requires c κs = (search needs, (search needs, (search needs, (search needs, (search needs, (search needs, search frame-room))))))
+item-costs-requires c κs = (search needs, (search needs, (search needs, (search needs, (search needs, search frame-room)))))
 
 same-length : tie.Need-same-length
 same-length c = search needs

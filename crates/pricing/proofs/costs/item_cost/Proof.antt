@@ -11,7 +11,7 @@ returns : tie.Need-returns
 returns c = search unbound-stands
 
 bound-cost-requires : tie.Need-bound-cost-requires
-bound-cost-requires c κs = (search needs, (search needs, (search needs, (search needs, search bound-room))))
+bound-cost-requires c κs = (search needs, (search needs, (search needs, search bound-room)))
 
 same-length : tie.Need-same-length
 same-length c = search needs
