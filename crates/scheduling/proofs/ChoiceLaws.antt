@@ -27,9 +27,8 @@ use Rattle.cost.specs.declared.memo.Tallies.{Tallies}
 use Rattle.plan_facts.specs.Remembered.{Grows, grows-self, cost-grows}
 use Rattle.lowering.specs.Eager.{lineAt, Located, atomsOf}
 use Rattle.lowering.specs.AtomLines.{AtomLine}
-use Rattle.pricing.specs.Remembering.{Samples, Remembers}
-use Rattle.scheduling.specs.Stub.{Stands}
-use Rattle.scheduling.specs.declared.costs.Costed.{Costed as CostedAs}
+use Rattle.pricing.specs.Remembering.{Samples, Remembers, Stands}
+use Rattle.pricing.specs.declared.costs.Costed.{Costed as CostedAs}
 use Rattle.scheduling.specs.declared.choose.Best.{Best}
 use Rattle.scheduling.specs.Choosing.{bidOf, orBest, considered, candidates, Chose, betterOf}
 

@@ -16,7 +16,7 @@ use Rattle.cost.specs.Sampling.{Tally}
 use Rattle.cost.specs.Costs.{Costed, estimateCost}
 use Rattle.cost.specs.Memo.{tallyAt}
 use Rattle.pricing.specs.Remembering.{Remembers}
-use Rattle.scheduling.specs.declared.costs.Costed.{Costed as CostedAs}
+use Rattle.pricing.specs.declared.costs.Costed.{Costed as CostedAs}
 use Rattle.scheduling.specs.declared.choose.Best.{Best}
 
 -- the best so far, where there is one

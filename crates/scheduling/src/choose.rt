@@ -13,14 +13,13 @@ ghost use Rattle.cost.specs.Memo.{tallyAt};
 ghost use Rattle.lowering.specs.AtomLines.{AtomLine};
 ghost use Rattle.lowering.specs.Eager.{Located, atomsOf};
 ghost use Rattle.pricing.specs.Remembering.{Samples, Remembers};
-ghost use Rattle.scheduling.specs.Stub.{Stub};
 ghost use Rattle.scheduling.specs.Choosing.{bidOf, considered, candidates, Chose, betterOf};
 use cost::memo::Tallies;
 use lowering::atom::scans;
 use lowering::eager::atom_line;
 use lowering::sets::is_set;
-use super::costs::Costed;
-use super::costs::estimate_cost;
+use pricing::costs::Costed;
+use pricing::costs::estimate_cost;
 use query::statistics::Sampled;
 
 // The cheapest atom so far, if one was found, its cost, and the tallies behind it.
@@ -74,7 +73,6 @@ fn consider(
     draws: &mut [f64],
     b: Best,
 ) -> Best
-    requires { ⌜ Stub 0 ⌝ }
     requires { ⌜ AtomLine (bytesOf (now line)) ⌝ }
     requires { ⌜ Samples (framesOf (now text)) how (now draws) ⌝ }
     requires { ⌜ Remembers (framesOf (now text)) how (now keys) (now valued) (now values) (b .tallies) ⌝ }
@@ -114,7 +112,6 @@ pub fn cheapest(
     draws: &mut [f64],
     s: Tallies,
 ) -> Best
-    requires { ⌜ Stub 0 ⌝ }
     requires { ⌜ Located (now text) (now from) n ⌝ }
     requires { ⌜ Samples (framesOf (now text)) how (now draws) ⌝ }
     requires { ⌜ Remembers (framesOf (now text)) how (now keys) (now valued) (now values) s ⌝ }

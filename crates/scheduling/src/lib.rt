@@ -1,4 +1,3 @@
 // The choice by cost, and the greedy loop.
 pub mod choose;
-pub mod costs;
 pub mod schedule;

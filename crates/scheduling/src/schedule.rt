@@ -16,7 +16,6 @@ ghost use Rattle.cost.specs.Choice.{remembered};
 ghost use Rattle.lowering.specs.AtomLines.{AtomLine};
 ghost use Rattle.lowering.specs.Eager.{Located, Ready, atomsOf};
 ghost use Rattle.pricing.specs.Remembering.{Samples, Remembers};
-ghost use Rattle.scheduling.specs.Stub.{Stub};
 ghost use Rattle.scheduling.specs.Choosing.{candidates};
 ghost use Rattle.scheduling.specs.Rounds.{Takes, Chooses, TakesNext, RoundRoom, Unplanned, Scheduling};
 use super::choose::Best;
@@ -62,7 +61,6 @@ fn choose_next(
     draws: &mut [f64],
     s: Tallies,
 ) -> Round
-    requires { ⌜ Stub 0 ⌝ }
     requires { ⌜ Located (now text) (now from) n ⌝ }
     requires { ⌜ Ready (now text) (now used) (now bound) (now order) count ⌝ }
     requires { ⌜ length (now em) ≡ most ⌝ }
@@ -167,7 +165,6 @@ pub fn schedule(
     values: &mut [f64],
     draws: &mut [f64],
 ) -> Scheduled
-    requires { ⌜ Stub 0 ⌝ }
     requires { ⌜ Located (now text) (now from) n ⌝ }
     requires { ⌜ Unplanned (now used) (now bound) (now before) (now em) ⌝ }
     requires { ⌜ length (now order) ≡ most ⌝ }
