@@ -3,4 +3,5 @@ pub mod Tables
 pub mod Turning
 pub mod Run
 -- Theorems
+pub mod DistinctRows
 pub mod Examples
