@@ -1,0 +1,8 @@
+-- The words of demand 3, and the theorem
+pub mod Terms
+-- Its parts
+pub mod PlanBack
+pub mod Globals
+pub mod Unrefused
+pub mod Below
+pub mod Found
