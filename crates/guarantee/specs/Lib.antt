@@ -1,5 +1,6 @@
 -- The words of demand 3, and the theorem
 pub mod Terms
+pub mod Demand3
 -- Its parts
 pub mod PlanBack
 pub mod Globals

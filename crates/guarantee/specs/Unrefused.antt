@@ -1,19 +1,22 @@
 -- The plan of an accepted query of the kinds that run is the cause of no refusal: over a table in shape, with a class for every global that
 -- an atom names, only the table's own tests can fail (`only-the-table`). Proved from the lowering sequence.
-use Prim.Native.Nat.{ℕ, suc}
-use mathlib.Core.Path.{_≡_, refl}
-use mathlib.Core.Bool.{true}
+use Prim.Native.Nat.{ℕ, zero, suc}
+use mathlib.Core.Path.{_≡_, refl, sym}
+use mathlib.Core.Logic.{_⊎_, inl, inr}
+use mathlib.Core.Bool.{Bool, true, false}
 use mathlib.Core.List.{List, [], _∷_, map, List·Memᴰ, Memᴰ·of-map, Memᴰ·cast}
-use mathlib.Core.Path.{sym}
+use native.Mathlib.Omega.{arith}
 use lib.ListN.{replicate}
-use Rattle.frames.specs.Kinds.{table}
+use Rattle.base.specs.Choose.{pick}
+use Rattle.frames.specs.Kinds.{plan, table}
 use Rattle.frames.specs.Limits.{variablesMost}
 use Rattle.frames.specs.First.{framesOf}
 use Rattle.frames.specs.declared.first.Text.the-variants.{Query, Table as TableText}
-use Rattle.frames.specs.declared.first.Reading.the-variants.{Accepted}
+use Rattle.frames.specs.declared.first.Reading.{Reading}
+use Rattle.frames.specs.declared.first.Reading.the-variants.{Accepted, Refused}
 use Rattle.reading.specs.Second.{reading}
 use Rattle.model.specs.Bools.{first, second}
-use Rattle.model.specs.Atoms.{Atom, Step, Table}
+use Rattle.model.specs.Atoms.{Atom, Step, Row, Table}
 use Rattle.model.specs.Bound.{Bound, blank, has-blank}
 use Rattle.model.specs.Reading.{ready, boundFirst, boundBy, pickedBy}
 use Rattle.model.specs.Refusing.{isRun, runnable, allRunnable, fits, opsBy, allFit}
@@ -28,7 +31,7 @@ use Rattle.plans.specs.StepFrames.{Each}
 use Rattle.plan_facts.specs.QueryPlans.{atomsOf}
 use Rattle.planner.specs.Planner.{stepsOf}
 use Rattle.running.specs.Tables.{tableOf}
-use Rattle.running.specs.Turning.{Verdict, Passed, TurnedBack, andThen, ofReading, shapesFrom, stepsFrom, stepsPass, allGiven, turning}
+use Rattle.running.specs.Turning.{Verdict, Passed, TurnedBack, andThen, ofReading, ofFault, rowFault, withRow, shapesFrom, globalsOf, allGiven, stepsFrom, stepsPass, turning}
 use Rattle.guarantee.specs.Terms.{planFor, atomGlobals, GlobalsGiven, tableTests}
 use Rattle.guarantee.specs.PlanBack.{plan-accepted, plan-steps}
 use Rattle.guarantee.specs.Globals.{StepGiven, plan-given}
@@ -40,6 +43,29 @@ steps-pass tb [] B R O n r b f g = refl
 steps-pass tb (s ∷ ss) B R O n r b f g =
     rw (first (runnable s) _ r, first (ready B R s) _ b, first (fits tb O s) _ f, g .0)
     (steps-pass tb ss (boundBy s B) (pickedBy s R) (opsBy s O) (suc n) (second (runnable s) _ r) (second (ready B R s) _ b) (second (fits tb O s) _ f) (g .1))
+
+-- steps that run and read nothing unbound are refused for 11 or 5 alone
+steps-refused : (tb : Table) (ss : List Step) (B R : Bound) (O : List ℕ) (n k y l : ℕ) → allRunnable ss ≡ true → boundFirst B R ss ≡ true → stepsFrom tb B R O n ss ≡ TurnedBack k y l → (k ≡ 11) ⊎ (k ≡ 5)
+unfolding stepsFrom allRunnable boundFirst
+steps-refused tb [] B R O n k y l r b h = let z : _≡_ {A = ℕ} 0 1 = cc in absurd (omega arith)
+steps-refused tb (s ∷ ss) B R O n k y l r b h =
+    by (fits tb O s) (allGiven tb (globalsOf s)) (rw (first (runnable s) _ r, first (ready B R s) _ b) at h)
+    (steps-refused tb ss (boundBy s B) (pickedBy s R) (opsBy s O) (suc n) k y l (second (runnable s) _ r) (second (ready B R s) _ b))
+  where
+    by : {v : Verdict} (f g : Bool) → ofFault plan (pick f (pick g 0 5) 11) n v ≡ TurnedBack k y l → (v ≡ TurnedBack k y l → (k ≡ 11) ⊎ (k ≡ 5)) → (k ≡ 11) ⊎ (k ≡ 5)
+    by true true h more = more h
+    by true false h more = inr (cc)
+    by false g h more = inl (cc)
+
+-- the test of the table's shapes tells of the table
+shapes-refused : (rs : List Row) (n : ℕ) (fs : List (List ℕ)) (k y l : ℕ) → shapesFrom rs n fs ≡ TurnedBack k y l → y ≡ table
+unfolding shapesFrom
+shapes-refused rs n [] k y l h = let z : _≡_ {A = ℕ} 0 1 = cc in absurd (omega arith)
+shapes-refused rs n (f ∷ fs) k y l h = by (rowFault rs f) h (shapes-refused (withRow rs f) (suc n) fs k y l)
+  where
+    by : {v : Verdict} (m : ℕ) → ofFault table m n v ≡ TurnedBack k y l → (v ≡ TurnedBack k y l → y ≡ table) → y ≡ table
+    by zero h more = more h
+    by (suc m) h more = cc
 
 -- the plan of atoms that run, by any fair choice
 module _ (tb : Table) (qs : List Atom) {X : Type 0} (choose : X → State → Chosen X) (x : X) (fair : Fair (atomOf qs) (numbers qs) choose) where
@@ -72,3 +98,16 @@ module _ (x t : List ℕ) (n c : ℕ) (ok : reading Query x ≡ Accepted n c) wh
       last Passed Passed = refl
       last Passed (TurnedBack k y l) = refl
       last (TurnedBack k y l) w = refl
+
+  -- over any table: the plan's lines are refused for 11 or the missing global alone
+  pub plan-refusal : ((a : Atom) → List·Memᴰ a (atomsOf x) → isRun a ≡ true) → (k l : ℕ) → turning (planFor x) t ≡ TurnedBack k plan l → (k ≡ 11) ⊎ (k ≡ 5)
+  unfolding turning stepsOf planned
+  plan-refusal run k l h = by (reading TableText t) (shapesFrom [] 0 (framesOf t)) (shapes-refused [] 0 (framesOf t) k plan l) (rw (plan-accepted x n c ok, plan-steps x n c ok) at h)
+    where
+      by : (a : Reading) (v : Verdict) → (v ≡ TurnedBack k plan l → plan ≡ table) → andThen (ofReading table a) (andThen v (stepsPass (tableOf t) (stepsOf x))) ≡ TurnedBack k plan l → (k ≡ 11) ⊎ (k ≡ 5)
+      by (Refused m j) v u h = let z : table ≡ plan = cc in absurd (omega arith)
+      by (Accepted m j) (TurnedBack i y j′) u h = absurd (omega (arith, u h))
+      by (Accepted m j) Passed u h = steps-refused (tableOf t) (stepsOf x) blank blank (replicate variablesMost 0) 1 k plan l
+          (schedule-runnable (atomsOf x) (choose (framesOf x) (atomsOf x)) fresh (choose-fair (framesOf x) (atomsOf x)) run)
+          (schedule-bound-first (atomsOf x) (choose (framesOf x) (atomsOf x)) fresh (choose-fair (framesOf x) (atomsOf x)) blank blank has-blank)
+          h

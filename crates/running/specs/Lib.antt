@@ -3,5 +3,6 @@ pub mod Tables
 pub mod Turning
 pub mod Run
 -- Theorems
+pub mod Refusals
 pub mod DistinctRows
 pub mod Examples
