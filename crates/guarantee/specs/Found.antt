@@ -49,7 +49,7 @@ table-read p t h = by (ofReading plan (reading Plan p)) (reading Table t) (andTh
 -- ---- a plan text p that reads as the steps ss, with n variables and m literals
 
 module _ (p t : List ℕ) (n m : ℕ) (ss : List Step) (steps : planSteps p ≡ ss) (variables : countsIn p .variables ≡ n) (literals : countsIn p .literals ≡ m) where
-  events-are : events p t ≡ trace (tableOf t) ss unbound
+  pub events-are : events p t ≡ trace (tableOf t) ss unbound
   unfolding events
   events-are = rw steps
 

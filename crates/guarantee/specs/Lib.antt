@@ -7,3 +7,4 @@ pub mod Globals
 pub mod Unrefused
 pub mod Below
 pub mod Found
+pub mod SecondEntry

@@ -4,5 +4,6 @@ pub mod Turning
 pub mod Run
 -- Theorems
 pub mod Refusals
+pub mod Second
 pub mod DistinctRows
 pub mod Examples
