@@ -8,3 +8,4 @@ pub mod Unrefused
 pub mod Below
 pub mod Found
 pub mod SecondEntry
+pub mod Worked

@@ -1,7 +1,7 @@
 -- The plan of an accepted query as the runner reads it: its text is accepted, and gives the planner's steps and the query's counts. Proved
 -- from what is said of the plan as written.
 use Prim.Native.Nat.{ℕ, _+_, _*_, _/_, _%_, _<_}
-use mathlib.Core.Path.{_≡_, refl}
+use mathlib.Core.Path.{_≡_}
 use mathlib.Core.List.{List, map}
 use native.Mathlib.Omega.{arith}
 use lib.ListN.{length, getD}

@@ -11,9 +11,9 @@ use lib.Dec.{T, ltb, eqb}
 use lib.Pow.{areBytes}
 use borrow.Author.Tests.{ltb-true, eqb-true}
 use Rattle.base.specs.Choose.{pick}
-use Rattle.hex.specs.Digits.{shortAt, wordAt}
+use Rattle.hex.specs.Digits.{shortAt}
 use Rattle.frames.specs.Kinds.{kinds, kindAt}
-use Rattle.frames.specs.Frames.{kindOf, frameLength}
+use Rattle.frames.specs.Frames.{frameLength}
 use Rattle.frames.specs.First.{framesOf, isRow}
 use Rattle.frames.specs.declared.first.Text.the-variants.{Table}
 use Rattle.frames.specs.declared.first.Reading.the-variants.{Accepted}

@@ -1,17 +1,17 @@
 -- The second entry beside the full run: it has an answer, only the match is free, and spent is said exactly where "the full run is spent
 -- without a match". Proved from the trace.
-use Prim.Native.Nat.{ℕ, suc, _+_, _<_}
-use mathlib.Core.Path.{_≡_, refl, sym, _∙_, ap, subst}
+use Prim.Native.Nat.{ℕ, _+_, _<_}
+use mathlib.Core.Path.{_≡_, refl, sym, _∙_}
 use mathlib.Core.List.{List, [], _∷_, flatMap}
 use native.Mathlib.Omega.{arith}
 use native.Mathlib.Nat.{zero-add}
 use lib.ListN.{length}
 use Rattle.model.specs.Running.{Env}
-use Rattle.model.specs.Limits.{Event, Status, Spent, Played, noTally, play, Answer, SomeMatch, NoMatch, OutOfTries, triesToFirst, Answers, some-match, no-match, out-of-tries, firstMatch}
+use Rattle.model.specs.Limits.{Event, Spent, noTally, play, Answer, OutOfTries, triesToFirst, Answers, some-match, no-match, out-of-tries, firstMatch}
 use Rattle.model.specs.Limited.{wrote, bounded}
-use Rattle.model.specs.Answered.{first-answers, SpentFirst, spent-to, spent-back}
+use Rattle.model.specs.Answered.{first-answers, spent-to, spent-back}
 use Rattle.running.specs.Turning.{Verdict, Passed, TurnedBack, turning}
-use Rattle.running.specs.Run.{events, matchLine, lineText, Refused, Ran, ran, afterTests, run, Reply, Rejected, Match, None, Exhausted, replied, Replies, rejects, answers}
+use Rattle.running.specs.Run.{events, matchLine, lineText, Ran, ran, afterTests, run, Reply, Rejected, Exhausted, replied, Replies, rejects, answers}
 
 -- a run that stops at its first match replies so
 abbrev firstReply : Verdict → List ℕ → Answer → Reply
