@@ -3,24 +3,31 @@
 -- The words: `Runs x` says that the query has neither predicates nor collections and no Eq that is never lowered, `planFor x` is the plan's
 -- text, `InShapes` that each operator has the shape that the query uses, `Enough` what allowance and output must give, `Finds` that the
 -- lines written are exactly those of the query's matches, each once.
-use Prim.Native.Nat.{ℕ}
+use Prim.Native.Nat.{ℕ, _≤_}
 use mathlib.Core.Path.{_≡_}
 use mathlib.Core.Logic.{_⊎_}
-use mathlib.Core.List.{List, Perm}
-use Rattle.frames.specs.Kinds.{plan}
+use mathlib.Core.List.{List, _++_, Perm}
+use lib.ListN.{length, drop}
+use borrow.Author.Tests.{le-ltb}
+use Rattle.frames.specs.Kinds.{plan as planText}
 use Rattle.frames.specs.declared.first.Text.the-variants.{Query}
 use Rattle.frames.specs.declared.first.Reading.the-variants.{Accepted}
 use Rattle.reading.specs.Second.{reading}
 use Rattle.model.specs.Matching.{InShapes}
-use Rattle.model.specs.Lines.{SameAtoms}
 use Rattle.model.specs.Guarantee.{alike, exact-same}
 use Rattle.plan_facts.specs.QueryPlans.{atomsOf, countAt}
+use Rattle.planner.specs.Planner.{plan}
 use Rattle.running.specs.Tables.{tableOf}
 use Rattle.running.specs.Turning.{Passed, TurnedBack, turning}
 use Rattle.running.specs.Run.{Result, run}
-use Rattle.guarantee.specs.Terms.{planFor, Runs, GlobalsGiven, tableTests, Enough, Finds}
+use Rattle.guarantee.specs.Terms.{planFor, Runs, GlobalsGiven, tableTests, Enough, Finds, Alike}
 use Rattle.guarantee.specs.Unrefused.{only-the-table, plan-refusal}
 use Rattle.guarantee.specs.Found.{finds}
+
+-- The text that the planner writes for an accepted query, where there is room for it, is the plan that is spoken of below.
+pub writes-plan : (x o : List ℕ) (n c : ℕ) → reading Query x ≡ Accepted n c → length (planFor x) ≤ length o → plan x o .output ≡ planFor x ++ drop (length (planFor x)) o
+unfolding plan
+writes-plan x o n c ok h = rw (ok, le-ltb (length o) (length (planFor x)) h)
 
 -- Every accepted query x that runs, every table text t in shape on which the run of its plan is not refused, whatever allowance and output
 -- that are enough: the run is done and writes the matches. That the run is not refused depends on neither: `not-refused` of Refusals.
@@ -34,16 +41,11 @@ pub no-refusal : (x t : List ℕ) (n c : ℕ) → reading Query x ≡ Accepted n
 no-refusal x t n c ok q = only-the-table x t n c ok (q .kinds)
 
 -- Over any table at all its lines are refused for 11 or for a missing global alone: it is accepted as a text, and none is 9 or 10.
-pub no-nine-no-ten : (x t : List ℕ) (n c : ℕ) → reading Query x ≡ Accepted n c → Runs x → (k l : ℕ) → turning (planFor x) t ≡ TurnedBack k plan l → (k ≡ 11) ⊎ (k ≡ 5)
+pub no-nine-no-ten : (x t : List ℕ) (n c : ℕ) → reading Query x ≡ Accepted n c → Runs x → (k l : ℕ) → turning (planFor x) t ≡ TurnedBack k planText l → (k ≡ 11) ⊎ (k ≡ 5)
 no-nine-no-ten x t n c ok q = plan-refusal x t n c ok (q .kinds)
 
--- two queries alike in header and atoms, in whatever order, with whatever costs, fan-outs and samples
-pub record Alike (x y : List ℕ) : Type 0 where
-  pub variables : countAt x 1 ≡ countAt y 1
-  pub literals : countAt x 3 ≡ countAt y 3
-  pub atoms : SameAtoms (atomsOf x) (atomsOf y)
-
--- The plans of two such queries find the same lines, as often.
+-- The plans of two queries alike in header and atoms find the same lines, as often. (So are two texts that differ in the order of lines and
+-- in costs, fan-outs and samples: `alike-lines` of AlikeLines.)
 pub same-lines : (x y t : List ℕ) → Alike x y → (o : List ℕ) (r : Result) (f : Finds x t o r) (u : List ℕ) (s : Result) (g : Finds y t u s) → Perm (f .lines) (g .lines)
 same-lines x y t a o r f u s g =
     let e = exact-same (tableOf t) (countAt x 1) (countAt x 3) (atomsOf x) (atomsOf y) (a .atoms) (f .lines) (f .matches-are) in

@@ -8,4 +8,5 @@ pub mod Unrefused
 pub mod Below
 pub mod Found
 pub mod SecondEntry
+pub mod AlikeLines
 pub mod Worked

@@ -13,6 +13,7 @@ use Rattle.model.specs.Atoms.{Atom, Plain, Lit, LitBind, Eq, EqGlobal, Pred, Va
 use Rattle.model.specs.Refusing.{isRun}
 use Rattle.model.specs.Waiting.{Unbound}
 use Rattle.model.specs.Matching.{Line, Exact}
+use Rattle.model.specs.Lines.{SameAtoms}
 use Rattle.model.specs.Limits.{founds, attempts, Done}
 use Rattle.plan_facts.specs.QueryPlans.{atomsOf, countAt}
 use Rattle.planner.specs.Planner.{planOf}
@@ -62,3 +63,9 @@ pub record Finds (x t o : List ℕ) (r : Result) : Type 0 where
   pub matches-are : Exact (tableOf t) (countAt x 1) (countAt x 3) (atomsOf x) lines
   pub outcome : r .outcome ≡ Ran Done (attempts (events (planFor x) t)) (length lines) (length (flatMap lineText lines))
   pub output : r .output ≡ flatMap lineText lines ++ drop (length (flatMap lineText lines)) o
+
+-- two queries alike in header and atoms, in whatever order, with whatever costs, fan-outs and samples
+pub record Alike (x y : List ℕ) : Type 0 where
+  pub variables : countAt x 1 ≡ countAt y 1
+  pub literals : countAt x 3 ≡ countAt y 3
+  pub atoms : SameAtoms (atomsOf x) (atomsOf y)
