@@ -41,6 +41,8 @@ pub no-refusal : (x t : List ℕ) (n c : ℕ) → reading Query x ≡ Accepted n
 no-refusal x t n c ok q = only-the-table x t n c ok (q .kinds)
 
 -- Over any table at all its lines are refused for 11 or for a missing global alone: it is accepted as a text, and none is 9 or 10.
+-- (That no step of a plan, of any of the 14 kinds, reads a variable that no earlier step has bound is `bound-before-read` of the planner's
+-- Promised.)
 pub no-nine-no-ten : (x t : List ℕ) (n c : ℕ) → reading Query x ≡ Accepted n c → Runs x → (k l : ℕ) → turning (planFor x) t ≡ TurnedBack k planText l → (k ≡ 11) ⊎ (k ≡ 5)
 no-nine-no-ten x t n c ok q = plan-refusal x t n c ok (q .kinds)
 

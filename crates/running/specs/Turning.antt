@@ -14,10 +14,9 @@ use Rattle.frames.specs.declared.first.Reading.{Reading}
 use Rattle.frames.specs.declared.first.Reading.the-variants.{Accepted, Refused}
 use Rattle.reading.specs.Second.{reading}
 use Rattle.model.specs.Atoms.{Operand, local, global, Lookup, ByOp, ByChildPos, ByRepr, ByContains, Step, Join, ExtractChild, CheckChildEq, CheckEq, CheckEqGlobal, BindGlobal, CopyBinding, Expand, ExtractLitVal, CheckLit, CheckPred, Row, Node, Literal, opOf, unset, Table, globalClass}
-use Rattle.model.specs.Bound.{Bound, blank, hasAll, hasNone}
-use Rattle.model.specs.Lowering.{markAll}
-use Rattle.model.specs.Reading.{boundBy, pickedBy, namedByRepr, ready}
-use Rattle.model.specs.Refusing.{runnable, countOps, joinOp, allRows, lookupsFit, fits, opsBy}
+use Rattle.model.specs.Bound.{Bound, blank}
+use Rattle.model.specs.Reading.{boundBy, pickedBy, ready}
+use Rattle.model.specs.Refusing.{runnable, allRows, fits, opsBy}
 use Rattle.running.specs.Tables.{rowOf, tableOf, planSteps}
 
 -- "A refusal returns number, text (query, plan, table) and line from 1": the texts are 00, 01 and 02
@@ -60,7 +59,6 @@ withRow earlier f = pick (isRow (getD f 0 0)) (earlier ++ rowOf f ∷ []) earlie
 
 -- the table's lines in turn: n are passed, the earlier rows
 unfoldable pub shapesFrom : List Row → ℕ → List (List ℕ) → Verdict
-unfolding allRows rowOf
 shapesFrom earlier n [] = Passed
 shapesFrom earlier n (f ∷ fs) = ofFault table (rowFault earlier f) n (shapesFrom (withRow earlier f) (suc n) fs)
 
@@ -113,7 +111,6 @@ stepFault tb B R O s =
 
 -- the steps in turn: n lines are passed
 unfoldable pub stepsFrom : Table → Bound → Bound → List ℕ → ℕ → List Step → Verdict
-unfolding allGiven countOps joinOp allRows lookupsFit namedByRepr hasAll hasNone markAll flatMap
 stepsFrom tb B R O n [] = Passed
 stepsFrom tb B R O n (s ∷ ss) = ofFault plan (stepFault tb B R O s) n (stepsFrom tb (boundBy s B) (pickedBy s R) (opsBy s O) (suc n) ss)
 
@@ -124,7 +121,6 @@ stepsPass tb ss = stepsFrom tb blank blank (replicate variablesMost 0) 1 ss
 -- ---- all tests of the plan text p and the table text t
 
 unfoldable pub turning : List ℕ → List ℕ → Verdict
-unfolding reading framesOf shapesFrom stepsFrom tableOf planSteps
 turning p t =
     andThen (ofReading plan (reading Plan p))
     (andThen (ofReading table (reading TableText t))
