@@ -1,0 +1,9 @@
+-- Definitions, in document 01's words
+pub mod Tables
+pub mod Turning
+pub mod Run
+-- Theorems
+pub mod Refusals
+pub mod Second
+pub mod DistinctRows
+pub mod Examples

@@ -1,0 +1,128 @@
+-- Why the runner turns texts back: "The runner reads the plan, then the table so, then tests the table for 11, then each plan line for 10, 9,
+-- 11 and the missing global."
+use Prim.Native.Nat.{ℕ, zero, suc}
+use mathlib.Core.Bool.{Bool, true, false, _&&_, not}
+use mathlib.Core.List.{List, [], _∷_, _++_, flatMap}
+use lib.ListN.{length, getD, replicate}
+use lib.Dec.{eqb}
+use Rattle.base.specs.Choose.{pick}
+use Rattle.frames.specs.Kinds.{plan, table}
+use Rattle.frames.specs.Limits.{variablesMost}
+use Rattle.frames.specs.First.{framesOf, isRow}
+use Rattle.frames.specs.declared.first.Text.the-variants.{Plan, Table as TableText}
+use Rattle.frames.specs.declared.first.Reading.{Reading}
+use Rattle.frames.specs.declared.first.Reading.the-variants.{Accepted, Refused}
+use Rattle.reading.specs.Second.{reading}
+use Rattle.model.specs.Atoms.{Operand, local, global, Lookup, ByOp, ByChildPos, ByRepr, ByContains, Step, Join, ExtractChild, CheckChildEq, CheckEq, CheckEqGlobal, BindGlobal, CopyBinding, Expand, ExtractLitVal, CheckLit, CheckPred, Row, Node, Literal, opOf, unset, Table, globalClass}
+use Rattle.model.specs.Bound.{Bound, blank}
+use Rattle.model.specs.Reading.{boundBy, pickedBy, ready}
+use Rattle.model.specs.Refusing.{runnable, allRows, fits, opsBy}
+use Rattle.running.specs.Tables.{rowOf, tableOf, planSteps}
+
+-- "A refusal returns number, text (query, plan, table) and line from 1": the texts are 00, 01 and 02
+pub data Verdict : Type 0 where
+  Passed : Verdict
+  -- number, text, line
+  TurnedBack : ℕ → ℕ → ℕ → Verdict
+
+-- the tests in turn: the first that fails decides
+abbrev pub andThen : Verdict → Verdict → Verdict
+andThen Passed v = v
+andThen (TurnedBack k x l) v = TurnedBack k x l
+
+-- 1 to 5 and 7, as each text is read
+abbrev pub ofReading : ℕ → Reading → Verdict
+ofReading x (Accepted n c) = Passed
+ofReading x (Refused k l) = TurnedBack k x l
+
+-- a fault of the line after n, where its number is not 0
+abbrev pub ofFault : ℕ → ℕ → ℕ → Verdict → Verdict
+ofFault x zero n v = v
+ofFault x (suc k) n v = TurnedBack (suc k) x (suc n)
+
+-- ---- "11: operator with two shapes in the table"
+
+-- a frame 30 by its children; a frame 31 has another shape than a frame 30 with no children
+abbrev pub sameShape : Row → Row → Bool
+sameShape (Node c o ds) (Node d p es) = eqb (length ds) (length es)
+sameShape (Node c o ds) (Literal d p x) = false
+sameShape (Literal c o x) (Node d p es) = false
+sameShape (Literal c o x) (Literal d p y) = true
+
+-- the row of a frame is like the earlier ones of its operator; a frame 32 is no row
+abbrev pub rowFault : List Row → List ℕ → ℕ
+rowFault earlier f = pick (isRow (getD f 0 0)) (pick (allRows (sameShape (rowOf f)) (opOf (rowOf f)) earlier) 0 11) 0
+
+-- the rows with that of a frame
+abbrev pub withRow : List Row → List ℕ → List Row
+withRow earlier f = pick (isRow (getD f 0 0)) (earlier ++ rowOf f ∷ []) earlier
+
+-- the table's lines in turn: n are passed, the earlier rows
+unfoldable pub shapesFrom : List Row → ℕ → List (List ℕ) → Verdict
+shapesFrom earlier n [] = Passed
+shapesFrom earlier n (f ∷ fs) = ofFault table (rowFault earlier f) n (shapesFrom (withRow earlier f) (suc n) fs)
+
+-- ---- "a used global without frame 32"
+
+abbrev pub globalOf : Operand → List ℕ
+globalOf (local v) = []
+globalOf (global g) = g ∷ []
+
+abbrev pub lookupGlobals : Lookup → List ℕ
+lookupGlobals (ByOp o) = []
+lookupGlobals (ByChildPos c i) = globalOf c
+lookupGlobals (ByRepr v) = []
+lookupGlobals (ByContains c) = globalOf c
+
+-- the globals that a step names
+abbrev pub globalsOf : Step → List ℕ
+globalsOf (Join v k ls) = flatMap lookupGlobals ls
+globalsOf (ExtractChild v p i) = []
+globalsOf (CheckChildEq p i c) = globalOf c
+globalsOf (CheckEq a b) = []
+globalsOf (CheckEqGlobal a g) = g ∷ []
+globalsOf (BindGlobal v g) = g ∷ []
+globalsOf (CopyBinding v o) = []
+globalsOf (Expand n cs f) = flatMap globalOf cs
+globalsOf (ExtractLitVal n l) = []
+globalsOf (CheckLit n x) = []
+globalsOf (CheckPred g) = []
+
+-- each of them has a class
+unfoldable pub allGiven : Table → List ℕ → Bool
+allGiven tb [] = true
+allGiven tb (g ∷ gs) = not (eqb (globalClass tb g) unset) && allGiven tb gs
+
+-- ---- "each plan line for 10, 9, 11 and the missing global"
+
+-- a step where the variables of B are bound, those of R were picked, and O has the operators of their Joins: the number of the first test
+-- that it fails, 0 where it passes
+abbrev pub stepFault : Table → Bound → Bound → List ℕ → Step → ℕ
+stepFault tb B R O s =
+    pick (runnable s)
+    (pick (ready B R s)
+    (pick (fits tb O s)
+    (pick (allGiven tb (globalsOf s))
+    0
+    5)
+    11)
+    9)
+    10
+
+-- the steps in turn: n lines are passed
+unfoldable pub stepsFrom : Table → Bound → Bound → List ℕ → ℕ → List Step → Verdict
+stepsFrom tb B R O n [] = Passed
+stepsFrom tb B R O n (s ∷ ss) = ofFault plan (stepFault tb B R O s) n (stepsFrom tb (boundBy s B) (pickedBy s R) (opsBy s O) (suc n) ss)
+
+-- nothing is bound or picked at first; the header is line 1
+abbrev pub stepsPass : Table → List Step → Verdict
+stepsPass tb ss = stepsFrom tb blank blank (replicate variablesMost 0) 1 ss
+
+-- ---- all tests of the plan text p and the table text t
+
+unfoldable pub turning : List ℕ → List ℕ → Verdict
+turning p t =
+    andThen (ofReading plan (reading Plan p))
+    (andThen (ofReading table (reading TableText t))
+    (andThen (shapesFrom [] 0 (framesOf t))
+    (stepsPass (tableOf t) (planSteps p))))
