@@ -1,4 +1,5 @@
 pub mod Planner
+pub mod Accepted
+pub mod Entry
 pub mod Promised
 pub mod Marked
-pub mod Accepted

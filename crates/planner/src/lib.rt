@@ -1,1 +1,4 @@
-// The planner from a query's text to a plan's, as a definition in specs/; its code is to come.
+// The planner: a query text and a lent output in, the plan and its numbers out.
+pub mod entry;
+pub mod order;
+pub mod text;

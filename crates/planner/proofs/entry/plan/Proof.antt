@@ -1,0 +1,47 @@
+use borrow.Author.Needs.{needs}
+use Rattle.planner.proofs.entry.plan.Statement.{statement}
+use Rattle.planner.proofs.entry.plan.Tie as tie
+use Rattle.planner.proofs.entry.plan.Reads as reads
+use Rattle.planner.proofs.entry.plan.Lts as lts
+use Rattle.planner.proofs.entry.plan_accepted.Reads as plan-accepted-reads
+use Rattle.reading.proofs.second.read_text.Reads as read-text-reads
+
+-- src/entry.rt:66:11
+read-text-requires : tie.Need-read-text-requires
+read-text-requires c κs = search needs
+
+-- src/entry.rt:67:26
+enum-known-k : tie.Need-enum-known-k
+enum-known-k c = search needs
+
+-- src/entry.rt:68:56
+enum-told : tie.Need-enum-told
+enum-told c = search needs
+
+-- src/entry.rt:68:36
+plan-accepted-requires : tie.Need-plan-accepted-requires
+plan-accepted-requires c κs = ?
+
+-- src/entry.rt:63:1
+returns : tie.Need-returns
+returns c = ?
+
+-- src/entry.rt:63:1
+same-length : tie.Need-same-length
+same-length c = search needs
+
+-- src/entry.rt:63:1
+returns-2 : tie.Need-returns-2
+returns-2 c = ?
+
+pub plan-spec : {M : Type 1} → statement M
+plan-spec =
+    tie.close
+    (tie.spec
+    read-text-requires
+    enum-known-k
+    enum-told
+    plan-accepted-requires
+    returns
+    same-length
+    returns-2)

@@ -1,0 +1,31 @@
+use borrow.Author.Needs.{needs}
+use Rattle.planner.proofs.text.plan_size.Statement.{statement}
+use Rattle.planner.proofs.text.plan_size.Tie as tie
+use Rattle.planner.proofs.text.plan_size.Reads as reads
+use Rattle.planner.proofs.text.plan_size.Lts as lts
+use Rattle.writing.proofs.steps.write_steps.Reads as write-steps-reads
+
+-- src/text.rt:35:46
+slice-aggregate-write-steps : tie.Need-slice-aggregate-write-steps
+slice-aggregate-write-steps c = search needs
+
+-- src/text.rt:35:58
+slice-aggregate-write-steps-2 : tie.Need-slice-aggregate-write-steps-2
+slice-aggregate-write-steps-2 c = search needs
+
+-- src/text.rt:35:5
+write-steps-requires : tie.Need-write-steps-requires
+write-steps-requires c κs = ?
+
+-- src/text.rt:28:1
+returns : tie.Need-returns
+returns c = ?
+
+pub plan-size-spec : {M : Type 1} → statement M
+plan-size-spec =
+    tie.close
+    (tie.spec
+    slice-aggregate-write-steps
+    slice-aggregate-write-steps-2
+    write-steps-requires
+    returns)

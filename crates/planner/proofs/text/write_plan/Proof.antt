@@ -1,0 +1,59 @@
+use borrow.Author.Needs.{needs}
+use Rattle.planner.proofs.text.write_plan.Statement.{statement}
+use Rattle.planner.proofs.text.write_plan.Tie as tie
+use Rattle.planner.proofs.text.write_plan.Reads as reads
+use Rattle.planner.proofs.text.write_plan.Lts as lts
+use Rattle.planner.proofs.text.narrow.Reads as narrow-reads
+use Rattle.reading.proofs.second.counts_of.Reads as counts-of-reads
+use Rattle.writing.proofs.lines.header.Reads as header-reads
+use Rattle.writing.proofs.steps.write_steps.Reads as write-steps-reads
+
+-- src/text.rt:57:9
+counts-of-requires : tie.Need-counts-of-requires
+counts-of-requires c κs = search needs
+
+-- src/text.rt:64:9
+narrow-requires : tie.Need-narrow-requires
+narrow-requires c κs = search needs
+
+-- src/text.rt:65:9
+narrow-requires-2 : tie.Need-narrow-requires-2
+narrow-requires-2 c κs = search needs
+
+-- src/text.rt:66:9
+narrow-requires-3 : tie.Need-narrow-requires-3
+narrow-requires-3 c κs = search needs
+
+-- src/text.rt:58:9
+header-requires : tie.Need-header-requires
+header-requires c κs = search needs
+
+-- src/text.rt:69:46
+slice-aggregate-write-steps : tie.Need-slice-aggregate-write-steps
+slice-aggregate-write-steps c = search needs
+
+-- src/text.rt:69:5
+write-steps-requires : tie.Need-write-steps-requires
+write-steps-requires c κs = ?
+
+-- src/text.rt:39:1
+same-length : tie.Need-same-length
+same-length c = search needs
+
+-- src/text.rt:39:1
+returns : tie.Need-returns
+returns c = ?
+
+pub write-plan-spec : {M : Type 1} → statement M
+write-plan-spec =
+    tie.close
+    (tie.spec
+    counts-of-requires
+    narrow-requires
+    narrow-requires-2
+    narrow-requires-3
+    header-requires
+    slice-aggregate-write-steps
+    write-steps-requires
+    same-length
+    returns)

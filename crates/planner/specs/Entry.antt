@@ -1,0 +1,25 @@
+-- The answers of the code, in document 01's numbers, and what its parts rely on.
+use Prim.Native.Nat.{ℕ}
+use mathlib.Core.Path.{_≡_}
+use mathlib.Core.List.{List}
+use Rattle.frames.specs.declared.first.Text.the-variants.{Query}
+use Rattle.frames.specs.declared.first.Reading.the-variants.{Accepted}
+use Rattle.reading.specs.Second.{reading}
+use Rattle.planner.specs.Planner.{Answer, Written, TurnedBack, Result}
+use Rattle.planner.specs.declared.entry.Planned.{Planned}
+use Rattle.planner.specs.declared.entry.Planned.the-variants.{Written as Wrote, Refused}
+
+-- bytes written, steps, tallied, rejected; or number and line
+abbrev pub answerOf : Planned → Answer
+answerOf (Wrote b s t r) = Written b s t r
+answerOf (Refused k l) = TurnedBack k l
+
+-- the answer r with the output o is what the definition gives
+abbrev pub resultOf : Planned → List ℕ → Result
+resultOf r o = record { answer = answerOf r; output = o }
+
+-- the query text x is accepted
+pub record Accepts (x : List ℕ) : Type 0 where
+  pub lines : ℕ
+  pub atoms : ℕ
+  pub is : reading Query x ≡ Accepted lines atoms

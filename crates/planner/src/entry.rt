@@ -1,0 +1,70 @@
+// The entry: a query text and a lent output.
+ghost use mathlib.Core.Path.{_≡_};
+ghost use lib.ListN.{length};
+ghost use Rattle.lowering.specs.Eager.{Located};
+ghost use Rattle.scheduling.specs.Rounds.{Scheduling};
+ghost use Rattle.planner.specs.Planner.{planOf, fitted, plan as planned};
+ghost use Rattle.planner.specs.Entry.{Accepts, resultOf};
+use super::order::find_order;
+use super::text::plan_size;
+use super::text::write_plan;
+use frames::first::Reading;
+use frames::first::Text;
+use lowering::places::atom_places;
+use reading::second::read_text;
+use scheduling::schedule::Scheduled;
+use writing::steps::count_steps;
+
+pub enum Planned {
+    // bytes written, steps, tallied, rejected
+    Written(usize, usize, usize, usize),
+    // number and line; the text is the query
+    Refused(u8, usize),
+}
+
+// The plan by the order that was found, where it fits. The longest plan has 20,565 bytes.
+fn plan_in_order(
+    text: &[u8],
+    from: &[usize],
+    n: usize,
+    order: &[u8],
+    s: Scheduled,
+    out: &mut [u8],
+) -> Planned
+    requires { ⌜ Accepts (now text) ⌝ }
+    requires { ⌜ Located (now text) (now from) n ⌝ }
+    requires { ⌜ Scheduling (now text) (now order) s ⌝ }
+    ensures { λ r. ⌜ resultOf r (now (out .exit)) ≡ fitted (planOf (now (text .entry))) (now (out .entry)) ⌝ }
+{
+    if out.len() < 20565 {
+        if out.len() < plan_size(text, from, n, order, s.count) {
+            return Planned::Refused(8, 0);
+        }
+    }
+    let steps = count_steps(text, from, n, order, s.count);
+    let tallied = s.tallied;
+    let rejected = s.rejected;
+    let size = write_plan(text, from, n, order, s.count, steps, tallied, rejected, out);
+    Planned::Written(size, steps, tallied, rejected)
+}
+
+fn plan_accepted(text: &[u8], out: &mut [u8]) -> Planned
+    requires { ⌜ Accepts (now text) ⌝ }
+    ensures { λ r. ⌜ resultOf r (now (out .exit)) ≡ fitted (planOf (now (text .entry))) (now (out .entry)) ⌝ }
+{
+    let mut from = [0usize; 64];
+    let n = atom_places(text, &mut from);
+    let mut order = [0u8; 64];
+    let s = find_order(text, &from, n, &mut order);
+    plan_in_order(text, &from, n, &order, s, out)
+}
+
+// Plans a query text into a lent output.
+pub fn plan(text: &[u8], out: &mut [u8]) -> Planned
+    ensures { λ r. ⌜ resultOf r (now (out .exit)) ≡ planned (now (text .entry)) (now (out .entry)) ⌝ }
+{
+    match read_text(Text::Query, text) {
+        Reading::Refused(k, line) => Planned::Refused(k, line),
+        Reading::Accepted(_, _) => plan_accepted(text, out),
+    }
+}

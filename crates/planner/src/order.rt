@@ -1,0 +1,99 @@
+// The order in which the atoms of an accepted query are lowered.
+ghost use mathlib.Core.Path.{_≡_};
+ghost use Prim.Native.Nat.{_<_, _≤_};
+ghost use lib.ListN.{length};
+ghost use Rattle.frames.specs.First.{framesOf};
+ghost use Rattle.query.specs.Statistics.{settings as settingsOf};
+ghost use Rattle.query.specs.declared.statistics.Sampled.the-variants.{On, Off};
+ghost use Rattle.model.specs.Bound.{most};
+ghost use Rattle.lowering.specs.Eager.{Located};
+ghost use Rattle.scheduling.specs.Rounds.{Scheduling};
+ghost use Rattle.planner.specs.Entry.{Accepts};
+use measure::SamplerConfig;
+use query::statistics::Sampled;
+use query::statistics::settings;
+use scheduling::schedule::Scheduled;
+use scheduling::schedule::schedule;
+
+// Where sampling is off nothing is remembered.
+fn order_unsampled(text: &[u8], from: &[usize], n: usize, order: &mut [u8]) -> Scheduled
+    requires { ⌜ Located (now text) (now from) n ⌝ }
+    requires { ⌜ length (now order) ≡ most ⌝ }
+    requires { ⌜ settingsOf (framesOf (now text)) ≡ Off ⌝ }
+    ensures { λ r. ⌜ Scheduling (now (text .entry)) (now (order .exit)) r ⌝ }
+{
+    let mut used = [false; 64];
+    let mut bound = [false; 64];
+    let mut before = [false; 64];
+    let mut em = [0u32; 64];
+    let mut keys = [0u64; 1];
+    let mut valued = [false; 1];
+    let mut values = [0.0; 1];
+    let mut draws = [0.0; 1];
+    schedule(
+        text,
+        from,
+        n,
+        &mut used,
+        &mut bound,
+        &mut before,
+        &mut em,
+        order,
+        Sampled::Off,
+        &mut keys,
+        &mut valued,
+        &mut values,
+        &mut draws,
+    )
+}
+
+// Where it is on there is a key for each item of each atom at most.
+fn order_sampled(
+    text: &[u8],
+    from: &[usize],
+    n: usize,
+    cfg: SamplerConfig,
+    order: &mut [u8],
+) -> Scheduled
+    requires { ⌜ Accepts (now text) ⌝ }
+    requires { ⌜ Located (now text) (now from) n ⌝ }
+    requires { ⌜ length (now order) ≡ most ⌝ }
+    requires { ⌜ settingsOf (framesOf (now text)) ≡ On cfg ⌝ }
+    ensures { λ r. ⌜ Scheduling (now (text .entry)) (now (order .exit)) r ⌝ }
+{
+    let mut used = [false; 64];
+    let mut bound = [false; 64];
+    let mut before = [false; 64];
+    let mut em = [0u32; 64];
+    let mut keys = [0u64; 1024];
+    let mut valued = [false; 1024];
+    let mut values = [0.0; 1024];
+    let mut draws = [0.0; 64];
+    schedule(
+        text,
+        from,
+        n,
+        &mut used,
+        &mut bound,
+        &mut before,
+        &mut em,
+        order,
+        Sampled::On(cfg),
+        &mut keys,
+        &mut valued,
+        &mut values,
+        &mut draws,
+    )
+}
+
+pub fn find_order(text: &[u8], from: &[usize], n: usize, order: &mut [u8]) -> Scheduled
+    requires { ⌜ Accepts (now text) ⌝ }
+    requires { ⌜ Located (now text) (now from) n ⌝ }
+    requires { ⌜ length (now order) ≡ most ⌝ }
+    ensures { λ r. ⌜ Scheduling (now (text .entry)) (now (order .exit)) r ⌝ }
+{
+    match settings(text) {
+        Sampled::Off => order_unsampled(text, from, n, order),
+        Sampled::On(cfg) => order_sampled(text, from, n, cfg, order),
+    }
+}

@@ -1,0 +1,70 @@
+// The plan's text, by the order of the atoms.
+ghost use mathlib.Core.Path.{_≡_};
+ghost use mathlib.Core.List.{_∷_, map};
+ghost use Prim.Native.Nat.{_+_, _<_, _≤_};
+ghost use lib.ListN.{length, take};
+ghost use Rattle.model.specs.Bound.{blank};
+ghost use Rattle.model.specs.Scheduling.{atomOf};
+ghost use Rattle.frames.specs.declared.first.Text.the-variants.{Query};
+ghost use Rattle.reading.specs.Second.{countsOf};
+ghost use Rattle.plans.specs.PlanText.{textLength};
+ghost use Rattle.plans.specs.StepFrames.{frameOf, headerOf};
+ghost use Rattle.lowering.specs.Eager.{Located, atomsOf};
+ghost use Rattle.writing.specs.Steps.{Ordered, stepsAlong};
+ghost use Rattle.writing.specs.Written.{PutsFrames};
+use frames::first::Text;
+use reading::second::counts_of;
+use writing::lines::header;
+use writing::steps::write_steps;
+
+fn narrow(x: usize) -> u16
+    requires { ⌜ x < 65536 ⌝ }
+    ensures { λ r. ⌜ r ≡ x ⌝ }
+{
+    x as u16
+}
+
+// The length of the plan of the first `count` atoms of the order.
+pub fn plan_size(text: &[u8], from: &[usize], n: usize, order: &[u8], count: usize) -> usize
+    requires { ⌜ Located (now text) (now from) n ⌝ }
+    requires { ⌜ Ordered (now text) (now from) n (now order) count ⌝ }
+    ensures { λ r. ⌜ r ≡ 21 + textLength (map frameOf (stepsAlong (atomOf (atomsOf (now (text .entry)))) blank (take count (now (order .entry))))) ⌝ }
+{
+    let mut bound = [false; 64];
+    let mut none = [0u8; 1];
+    write_steps(text, from, n, order, count, &mut bound, &mut none, 21)
+}
+
+// The plan, written from the beginning of the output on; its length.
+pub fn write_plan(
+    text: &[u8],
+    from: &[usize],
+    n: usize,
+    order: &[u8],
+    count: usize,
+    steps: usize,
+    tallied: usize,
+    rejected: usize,
+    out: &mut [u8],
+) -> usize
+    requires { ⌜ Located (now text) (now from) n ⌝ }
+    requires { ⌜ Ordered (now text) (now from) n (now order) count ⌝ }
+    requires { ⌜ steps < 65536 ⌝ }
+    requires { ⌜ tallied < 65536 ⌝ }
+    requires { ⌜ rejected < 65536 ⌝ }
+    ensures { λ r. ⌜ PutsFrames (now (out .entry)) 0 (headerOf (countsOf Query (now (text .entry)) 0 .variables) (countsOf Query (now (text .entry)) 0 .globals) (countsOf Query (now (text .entry)) 0 .literals) steps tallied rejected ∷ map frameOf (stepsAlong (atomOf (atomsOf (now (text .entry)))) blank (take count (now (order .entry))))) (now (out .exit)) r ⌝ }
+{
+    let counts = counts_of(Text::Query, text, 0);
+    let at = header(
+        out,
+        0,
+        counts.variables,
+        counts.globals,
+        counts.literals,
+        narrow(steps),
+        narrow(tallied),
+        narrow(rejected),
+    );
+    let mut bound = [false; 64];
+    write_steps(text, from, n, order, count, &mut bound, out, at)
+}
