@@ -1,7 +1,8 @@
 // The entry: a query text and a lent output.
 ghost use mathlib.Core.Path.{_≡_};
 ghost use lib.ListN.{length};
-ghost use Rattle.lowering.specs.Eager.{Located};
+ghost use Rattle.model.specs.Bound.{most};
+ghost use Rattle.lowering.specs.Places.{Places};
 ghost use Rattle.scheduling.specs.Rounds.{Scheduling};
 ghost use Rattle.planner.specs.Planner.{planOf, fitted, plan as planned};
 ghost use Rattle.planner.specs.Entry.{Accepts, resultOf};
@@ -32,8 +33,9 @@ fn plan_in_order(
     out: &mut [u8],
 ) -> Planned
     requires { ⌜ Accepts (now text) ⌝ }
-    requires { ⌜ Located (now text) (now from) n ⌝ }
+    requires { ⌜ Places (now text) (now from) n ⌝ }
     requires { ⌜ Scheduling (now text) (now order) s ⌝ }
+    requires { ⌜ length (now order) ≡ most ⌝ }
     ensures { λ r. ⌜ resultOf r (now (out .exit)) ≡ fitted (planOf (now (text .entry))) (now (out .entry)) ⌝ }
 {
     if out.len() < 20565 {

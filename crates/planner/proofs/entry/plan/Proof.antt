@@ -6,31 +6,31 @@ use Rattle.planner.proofs.entry.plan.Lts as lts
 use Rattle.planner.proofs.entry.plan_accepted.Reads as plan-accepted-reads
 use Rattle.reading.proofs.second.read_text.Reads as read-text-reads
 
--- src/entry.rt:66:11
+-- src/entry.rt:68:11
 read-text-requires : tie.Need-read-text-requires
 read-text-requires c κs = search needs
 
--- src/entry.rt:67:26
+-- src/entry.rt:69:26
 enum-known-k : tie.Need-enum-known-k
 enum-known-k c = search needs
 
--- src/entry.rt:68:56
+-- src/entry.rt:70:56
 enum-told : tie.Need-enum-told
 enum-told c = search needs
 
--- src/entry.rt:68:36
+-- src/entry.rt:70:36
 plan-accepted-requires : tie.Need-plan-accepted-requires
 plan-accepted-requires c κs = ?
 
--- src/entry.rt:63:1
+-- src/entry.rt:65:1
 returns : tie.Need-returns
 returns c = ?
 
--- src/entry.rt:63:1
+-- src/entry.rt:65:1
 same-length : tie.Need-same-length
 same-length c = search needs
 
--- src/entry.rt:63:1
+-- src/entry.rt:65:1
 returns-2 : tie.Need-returns-2
 returns-2 c = ?
 

@@ -7,27 +7,27 @@ use Rattle.planner.proofs.text.plan_size.Reads as plan-size-reads
 use Rattle.planner.proofs.text.write_plan.Reads as write-plan-reads
 use Rattle.writing.proofs.steps.count_steps.Reads as count-steps-reads
 
--- src/entry.rt:40:24
+-- src/entry.rt:42:24
 plan-size-requires : tie.Need-plan-size-requires
 plan-size-requires c κs = ?
 
--- src/entry.rt:41:13
+-- src/entry.rt:43:13
 returns : tie.Need-returns
 returns c = ?
 
--- src/entry.rt:44:9
+-- src/entry.rt:46:9
 count-steps-requires : tie.Need-count-steps-requires
 count-steps-requires c κs = ?
 
--- src/entry.rt:47:9
+-- src/entry.rt:49:9
 write-plan-requires : tie.Need-write-plan-requires
 write-plan-requires c κs = ?
 
--- src/entry.rt:26:1
+-- src/entry.rt:27:1
 same-length : tie.Need-same-length
 same-length c = search needs
 
--- src/entry.rt:26:1
+-- src/entry.rt:27:1
 returns-2 : tie.Need-returns-2
 returns-2 c = ?
 

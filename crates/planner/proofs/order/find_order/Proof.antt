@@ -1,3 +1,4 @@
+use mathlib.Core.Path.{sym, _∙_}
 use borrow.Author.Needs.{needs}
 use Rattle.planner.proofs.order.find_order.Statement.{statement}
 use Rattle.planner.proofs.order.find_order.Tie as tie
@@ -17,7 +18,7 @@ enum-told c = search needs
 
 -- src/order.rt:96:25
 order-unsampled-requires : tie.Need-order-unsampled-requires
-order-unsampled-requires c κs = ?
+order-unsampled-requires c κs = (c .before .before .before .before .before .before .before .pre .1 .0, (c .before .before .before .before .before .before .before .pre .1 .1, sym (c .before .before .before .settings .ensures) ∙ c .before .enum-told .given .1))
 
 -- src/order.rt:97:21
 enum-known-cfg : tie.Need-enum-known-cfg
@@ -25,7 +26,7 @@ enum-known-cfg c = search needs
 
 -- src/order.rt:97:29
 order-sampled-requires : tie.Need-order-sampled-requires
-order-sampled-requires c κs = ?
+order-sampled-requires c κs = (c .before .before .before .before .before .before .before .before .pre .0, (c .before .before .before .before .before .before .before .before .pre .1 .0, (c .before .before .before .before .before .before .before .before .pre .1 .1, sym (c .before .before .before .before .settings .ensures) ∙ c .before .before .cfg .given .1)))
 
 -- src/order.rt:89:1
 same-length : tie.Need-same-length

@@ -1,3 +1,6 @@
+use mathlib.Core.Path.{refl}
+use native.Mathlib.Omega.{arith}
+use Rattle.planner.proofs.EntryLaws.{all-unplanned, samples-some, remembers-some}
 use borrow.Author.Needs.{needs}
 use Rattle.planner.proofs.order.order_sampled.Statement.{statement}
 use Rattle.planner.proofs.order.order_sampled.Tie as tie
@@ -39,7 +42,7 @@ slice-aggregate-schedule-8 c = search needs
 
 -- src/order.rt:72:5
 schedule-requires : tie.Need-schedule-requires
-schedule-requires c κs = ?
+schedule-requires c κs = (c .before .before .before .before .before .before .before .before .before .before .before .before .pre .1 .0, (all-unplanned, (c .before .before .before .before .before .before .before .before .before .before .before .before .pre .1 .1 .0, (samples-some _ _ _ (c .before .before .before .before .before .before .before .before .before .before .before .before .pre .0) (c .before .before .before .before .before .before .before .before .before .before .before .before .pre .1 .1 .1) refl, ((refl, (refl, omega arith)), remembers-some _ (c .before .before .before .before .before .before .before .before .before .before .before .before .pre .0))))))
 
 -- src/order.rt:51:1
 same-length : tie.Need-same-length

@@ -1,3 +1,6 @@
+use mathlib.Core.Path.{refl}
+use native.Mathlib.Omega.{arith}
+use Rattle.planner.proofs.EntryLaws.{all-unplanned, samples-nothing, remembers-nothing}
 use borrow.Author.Needs.{needs}
 use Rattle.planner.proofs.order.order_unsampled.Statement.{statement}
 use Rattle.planner.proofs.order.order_unsampled.Tie as tie
@@ -39,7 +42,7 @@ slice-aggregate-schedule-8 c = search needs
 
 -- src/order.rt:33:5
 schedule-requires : tie.Need-schedule-requires
-schedule-requires c κs = ?
+schedule-requires c κs = (c .before .before .before .before .before .before .before .before .before .before .before .before .pre .0, (all-unplanned, (c .before .before .before .before .before .before .before .before .before .before .before .before .pre .1 .0, (samples-nothing _ _ (c .before .before .before .before .before .before .before .before .before .before .before .before .pre .1 .1), ((refl, (refl, omega arith)), remembers-nothing _ (c .before .before .before .before .before .before .before .before .before .before .before .before .pre .1 .1))))))
 
 -- src/order.rt:19:1
 same-length : tie.Need-same-length

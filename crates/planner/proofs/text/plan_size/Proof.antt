@@ -1,3 +1,6 @@
+use mathlib.Core.Path.{refl}
+use native.Mathlib.Omega.{arith}
+use Rattle.planner.proofs.EntryLaws.{size-is}
 use borrow.Author.Needs.{needs}
 use Rattle.planner.proofs.text.plan_size.Statement.{statement}
 use Rattle.planner.proofs.text.plan_size.Tie as tie
@@ -15,11 +18,11 @@ slice-aggregate-write-steps-2 c = search needs
 
 -- src/text.rt:35:5
 write-steps-requires : tie.Need-write-steps-requires
-write-steps-requires c κs = ?
+write-steps-requires c κs = (c .before .before .before .before .before .pre .0, (c .before .before .before .before .before .pre .1, (refl, omega arith)))
 
 -- src/text.rt:28:1
 returns : tie.Need-returns
-returns c = ?
+returns c = size-is _ _ _ _ _ (c .before .before .write-steps .ensures)
 
 pub plan-size-spec : {M : Type 1} → statement M
 plan-size-spec =

@@ -1,3 +1,6 @@
+use mathlib.Core.Path.{refl, ap}
+use Rattle.frames.specs.declared.fields.Counts.{Counts}
+use Rattle.planner.proofs.EntryLaws.{plan-is, header-near}
 use borrow.Author.Needs.{needs}
 use Rattle.planner.proofs.text.write_plan.Statement.{statement}
 use Rattle.planner.proofs.text.write_plan.Tie as tie
@@ -34,7 +37,7 @@ slice-aggregate-write-steps c = search needs
 
 -- src/text.rt:69:5
 write-steps-requires : tie.Need-write-steps-requires
-write-steps-requires c κs = ?
+write-steps-requires c κs = (c .before .before .before .before .before .before .before .before .before .before .before .before .before .before .pre .0, (c .before .before .before .before .before .before .before .before .before .before .before .before .before .before .pre .1 .0, (refl, header-near _ _ _ _ _ _ _ _ _ (c .before .before .before .before .header .ensures))))
 
 -- src/text.rt:39:1
 same-length : tie.Need-same-length
@@ -42,7 +45,7 @@ same-length c = search needs
 
 -- src/text.rt:39:1
 returns : tie.Need-returns
-returns c = ?
+returns c = plan-is _ _ _ _ _ _ _ _ _ _ _ _ _ _ _ _ (ap (λ (k : Counts). k .variables) (c .before .before .before .before .before .before .before .before .before .before .before .before .before .counts-of .ensures)) (ap (λ (k : Counts). k .globals) (c .before .before .before .before .before .before .before .before .before .before .before .before .before .counts-of .ensures)) (ap (λ (k : Counts). k .literals) (c .before .before .before .before .before .before .before .before .before .before .before .before .before .counts-of .ensures)) (c .before .before .before .before .before .before .before .before .before .before .before .narrow .ensures) (c .before .before .before .before .before .before .before .before .before .before .narrow2 .ensures) (c .before .before .before .before .before .before .before .before .before .narrow3 .ensures) (c .before .before .before .before .before .before .before .before .header .ensures) (c .before .before .before .write-steps .ensures)
 
 pub write-plan-spec : {M : Type 1} → statement M
 write-plan-spec =

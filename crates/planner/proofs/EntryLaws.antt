@@ -1,0 +1,156 @@
+-- The parts of the entry: what an accepted query gives them, and what they give the entry. Proved from the reading, the rounds and the writing.
+use Prim.Native.Nat.{ℕ, zero, suc, _+_, _<_, _≤_}
+use mathlib.Core.Path.{_≡_, refl, sym, _∙_, ap, subst}
+use mathlib.Core.Bool.{Bool, true, false}
+use mathlib.Core.List.{List, [], _∷_, _++_, map, List·Memᴰ, List·Memᴰ·head, List·Memᴰ·tail}
+use native.Mathlib.Omega.{arith}
+use lib.Dec.{ltb}
+use lib.ListN.{length, getD, take, drop, replicate}
+use lib.Seq.{sets-eq, getD-take, length-take-le}
+use lib.Ieee.{Float}
+use borrow.Author.Tests.{lt-ltb, le-ltb}
+use Rattle.hex.specs.Digits.{bytesOf}
+use Rattle.frames.specs.First.{framesOf}
+use Rattle.frames.specs.declared.first.Text.the-variants.{Query}
+use Rattle.frames.specs.declared.first.Reading.{Reading}
+use Rattle.frames.specs.declared.first.Reading.the-variants.{Accepted, Refused}
+use Rattle.reading.specs.Second.{countsOf, reading}
+use Rattle.measure.specs.declared.SamplerConfig.{SamplerConfig}
+use Rattle.query.specs.Statistics.{settings}
+use Rattle.query.specs.declared.statistics.Sampled.{Sampled}
+use Rattle.query.specs.declared.statistics.Sampled.the-variants.{On, Off}
+use Rattle.model.specs.Bound.{most, blank}
+use Rattle.model.specs.Tabulate.{tabulate-mem}
+use Rattle.model.specs.Scheduling.{State, atomOf, numbers}
+use Rattle.cost.specs.QueryAtoms.{atomFrames}
+use Rattle.cost.specs.Choice.{planned, remembered}
+use Rattle.plans.specs.StepFrames.{frameOf, headerOf}
+use Rattle.plans.specs.PlanText.{textOf, textLength, planText}
+use Rattle.plans.specs.PlanRead.{plan-length}
+use Rattle.plan_facts.specs.Remembered.{FewKeys, nothing-sampled}
+use Rattle.plan_facts.specs.QueryPlans.{ReadBack}
+use Rattle.lowering.specs.Eager.{lineAt, Located, atomsOf}
+use Rattle.lowering.specs.Places.{Places, located}
+use Rattle.pricing.specs.Remembering.{Samples}
+use Rattle.scheduling.specs.Rounds.{Unplanned, Scheduling}
+use Rattle.scheduling.specs.declared.schedule.Scheduled.{Scheduled}
+use Rattle.writing.specs.Emitting.{Emittable}
+use Rattle.writing.specs.Steps.{stepsAlong, countAlong, lowered-steps, lowered-count, Ordered, PutsSteps}
+use Rattle.writing.specs.Written.{written, PutsFrames}
+use Rattle.writing.proofs.PutLaws.{frames-then}
+use Rattle.planner.specs.Planner.{Plan, Answer, Written, TurnedBack, stepsOf, talliedOf, rejectedOf, planOf, fitted, plan}
+use Rattle.planner.specs.Promised.{read-back}
+use Rattle.planner.specs.Entry.{answerOf, resultOf, Accepts}
+use Rattle.planner.specs.Accepted.{frames-few, atom-lines, atom-items, few-keys, small-settings, Small}
+use Rattle.planner.specs.declared.entry.Planned.{Planned}
+use Rattle.planner.specs.declared.entry.Planned.the-variants.{Written as Wrote, Refused as TurnsBack}
+
+-- ---- the order
+
+pub all-unplanned : Unplanned (replicate 64 false) (replicate 64 false) (replicate 64 false) (replicate 64 0)
+unfolding blank
+all-unplanned = record { used = refl; bound = refl; before = refl; emitters = refl }
+
+never : {A : Type 0} (cfg : SamplerConfig) → Off ≡ On cfg → A
+never cfg e = let z : _≡_ {A = ℕ} 0 1 = cc in absurd (omega arith)
+
+pub samples-nothing : (fs : List (List ℕ)) (draws : List Float) → settings fs ≡ Off → Samples fs Off draws
+samples-nothing fs draws e = record { set = sym e; nodes = λ cfg h. never cfg h; resamples = λ cfg h. never cfg h; room = λ cfg h. never cfg h }
+
+pub remembers-nothing : (x : List ℕ) → settings (framesOf x) ≡ Off → length (remembered (framesOf x) (atomsOf x) .tally .memo) ≤ 1
+remembers-nothing x e = rw (nothing-sampled (framesOf x) (atomsOf x) e) (omega arith)
+
+pub samples-some : (x : List ℕ) (cfg : SamplerConfig) (draws : List Float) → Accepts x → settings (framesOf x) ≡ On cfg → length draws ≡ 64 → Samples (framesOf x) (On cfg) draws
+samples-some x cfg draws a e d = record {
+  set = sym e;
+  nodes = λ c h. small-settings x (a .lines) (a .atoms) (a .is) c (e ∙ h) .draws;
+  resamples = λ c h. small-settings x (a .lines) (a .atoms) (a .is) c (e ∙ h) .rounds;
+  room = λ c h. rw d (small-settings x (a .lines) (a .atoms) (a .is) c (e ∙ h) .draws);
+}
+
+pub remembers-some : (x : List ℕ) → Accepts x → length (remembered (framesOf x) (atomsOf x) .tally .memo) ≤ 1024
+remembers-some x a = few-keys x (a .lines) (a .atoms) (a .is) .memo-few
+
+-- ---- the text
+
+pub size-is : (x ks o p : List ℕ) (r : ℕ) → PutsSteps x (replicate 64 false) ks o 21 p r → r ≡ 21 + textLength (map frameOf (stepsAlong (atomOf (atomsOf x)) blank ks))
+unfolding blank
+size-is x ks o p r s = s .puts .next
+
+pub plan-is : (x ks : List ℕ) (steps tallied rejected v g l a b c at r : ℕ) (o p q : List ℕ) → v ≡ countsOf Query x 0 .variables → g ≡ countsOf Query x 0 .globals → l ≡ countsOf Query x 0 .literals → a ≡ steps → b ≡ tallied → c ≡ rejected
+    → PutsFrames o 0 (headerOf v g l a b c ∷ []) p at → PutsSteps x (replicate 64 false) ks p at q r
+    → PutsFrames o 0 (headerOf (countsOf Query x 0 .variables) (countsOf Query x 0 .globals) (countsOf Query x 0 .literals) steps tallied rejected ∷ map frameOf (stepsAlong (atomOf (atomsOf x)) blank ks)) q r
+unfolding blank
+plan-is x ks steps tallied rejected v g l a b c at r o p q hv hg hl ha hb hc u w = rw (← hv, ← hg, ← hl, ← ha, ← hb, ← hc) (frames-then (headerOf v g l a b c ∷ []) (map frameOf (stepsAlong (atomOf (atomsOf x)) blank ks)) u (w .puts))
+
+pub header-near : (v g l a b c at : ℕ) (o p : List ℕ) → PutsFrames o 0 (headerOf v g l a b c ∷ []) p at → at < 4096
+unfolding textLength
+header-near v g l a b c at o p u = omega (arith, u .next)
+
+-- ---- the plan in the order that was found
+
+-- the pieces of the answer: where the plan does not fit, and where it was written
+pub places-located : (x from : List ℕ) (n : ℕ) → Accepts x → Places x from n → Located x from n
+places-located x from n a p =
+    let f = frames-few x (a .lines) (a .atoms) (a .is) in
+    located x from n p (omega (arith, p .count)) (λ k h. atom-lines x (a .lines) (a .atoms) (a .is) k (omega (arith, p .count)))
+
+module _ (x from : List ℕ) (n : ℕ) (O : List ℕ) (s : Scheduled) (a : Accepts x) (y : Places x from n) (h : Scheduling x O s) where
+  z : Located x from n
+  z = places-located x from n a y
+
+  steps-are : stepsOf x ≡ h .steps
+  unfolding stepsOf
+  steps-are = ap (λ (st : State). st .steps) (h .is)
+
+  along : stepsAlong (atomOf (atomsOf x)) blank (take (s .count) O) ≡ stepsOf x
+  along = lowered-steps (h .lowered) ∙ sym steps-are
+
+  counted : countAlong (atomOf (atomsOf x)) (take (s .count) O) ≡ length (stepsOf x)
+  counted = lowered-count (h .lowered) ∙ ap length (sym steps-are)
+
+  abbrev text : List ℕ
+  text = planText (countsOf Query x 0 .variables) (countsOf Query x 0 .globals) (countsOf Query x 0 .literals) (talliedOf x) (rejectedOf x) (stepsOf x)
+
+  text-size : length text ≡ 21 + textLength (map frameOf (stepsAlong (atomOf (atomsOf x)) blank (take (s .count) O)))
+  text-size = rw along (plan-length (countsOf Query x 0 .variables) (countsOf Query x 0 .globals) (countsOf Query x 0 .literals) (talliedOf x) (rejectedOf x) (stepsOf x))
+
+  -- the order is one of atoms, each of which can be emitted
+  mem-at : (l : List ℕ) (c : ℕ) → c < length l → List·Memᴰ (getD l c 0) l
+  mem-at [] c k = absurd (omega arith)
+  mem-at (y ∷ l) zero k = List·Memᴰ·head refl
+  mem-at (y ∷ l) (suc c) k = List·Memᴰ·tail (mem-at l c (omega arith))
+
+  pub in-order : length O ≡ most → Ordered x from n O (s .count)
+  in-order size =
+      let w : s .count ≤ length O = omega (arith, h .few) in
+      let taken = length-take-le (s .count) O w in
+      record {
+    within = w;
+    few = h .few;
+    below = λ c k. let i = tabulate-mem (length (atomsOf x)) (λ (j : ℕ). j) (getD O c 0) (subst (λ (j : ℕ). List·Memᴰ j (numbers (atomsOf x))) (getD-take (s .count) O c 0 k) (h .known (getD (take (s .count) O) c 0) (mem-at (take (s .count) O) c (rw taken k)))) in omega (arith, i .below, i .is, z .count);
+    line = λ k l. record { atom = z .line k l; few = rw (y .is k l) (let i = atom-items x (a .lines) (a .atoms) (a .is) k (omega (arith, y .count)) in omega arith) };
+  }
+
+  pub tallied-few : s .tallied < 65536
+  tallied-few = let k = few-keys x (a .lines) (a .atoms) (a .is) in omega (arith, k .tallied-few, h .tallied)
+
+  pub rejected-few : s .rejected < 65536
+  rejected-few = let k = few-keys x (a .lines) (a .atoms) (a .is) in omega (arith, k .rejected-few, h .rejected)
+
+  pub not-fitting : (r : ℕ) (o : List ℕ) → r ≡ 21 + textLength (map frameOf (stepsAlong (atomOf (atomsOf x)) blank (take (s .count) O))) → length o < r → resultOf (TurnsBack 8 0) o ≡ fitted (planOf x) o
+  unfolding planOf
+  not-fitting r o e l = rw (lt-ltb (length o) (length text) (omega (arith, text-size)))
+
+  module _ (o p : List ℕ) (steps r : ℕ) (c : steps ≡ countAlong (atomOf (atomsOf x)) (take (s .count) O)) (w : PutsFrames o 0 (headerOf (countsOf Query x 0 .variables) (countsOf Query x 0 .globals) (countsOf Query x 0 .literals) steps (s .tallied) (s .rejected) ∷ map frameOf (stepsAlong (atomOf (atomsOf x)) blank (take (s .count) O))) p r) where
+    is-text : textOf (headerOf (countsOf Query x 0 .variables) (countsOf Query x 0 .globals) (countsOf Query x 0 .literals) steps (s .tallied) (s .rejected) ∷ map frameOf (stepsAlong (atomOf (atomsOf x)) blank (take (s .count) O))) ≡ text
+    unfolding planText
+    is-text = rw (along, c ∙ counted, ← h .tallied, ← h .rejected)
+
+    pub fitting : length text ≤ length o → resultOf (Wrote r steps (s .tallied) (s .rejected)) p ≡ fitted (planOf x) o
+    unfolding planOf written textLength
+    fitting l =
+        let e : r ≡ length text = omega (arith, w .next, text-size) in
+        let n : 0 + length text ≡ length text = omega arith in
+        let q : p ≡ text ++ drop (length text) o = w .is ∙ ap (λ (t : List ℕ). written o 0 t) is-text ∙ rw n at (sets-eq text o 0 (omega (arith, l))) in
+        rw (le-ltb (length o) (length text) l, e, q, c ∙ counted, ← h .tallied, ← h .rejected)
