@@ -39,7 +39,7 @@ module _ (v g l t r : ℕ) (ss : List Step) where
 
 module _ (x : List ℕ) (n c : ℕ) (ok : reading Query x ≡ Accepted n c) where
   back : ReadBack x (talliedOf x) (rejectedOf x) (stepsOf x)
-  back = let f = few-keys x n c ok in read-back x n c ok (talliedOf x) (rejectedOf x) (omega (arith, f .tallied-few)) (omega (arith, f .rejected-few))
+  back = read-back x n c ok
 
   pub plan-accepted : reading Plan (planFor x) ≡ Accepted (1 + length (stepsOf x)) 0
   unfolding planOf

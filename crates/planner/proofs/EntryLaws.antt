@@ -1,14 +1,14 @@
 -- The parts of the entry: what an accepted query gives them, and what they give the entry. Proved from the reading, the rounds and the writing.
 use Prim.Native.Nat.{ℕ, zero, suc, _+_, _<_, _≤_}
 use mathlib.Core.Path.{_≡_, refl, sym, _∙_, ap, subst}
-use mathlib.Core.Bool.{Bool, true, false}
+use mathlib.Core.Bool.{Bool, true, false, not}
 use mathlib.Core.List.{List, [], _∷_, _++_, map, List·Memᴰ, List·Memᴰ·head, List·Memᴰ·tail}
 use native.Mathlib.Omega.{arith}
-use lib.Dec.{ltb}
+use lib.Dec.{ltb, leb}
 use lib.ListN.{length, getD, take, drop, replicate}
 use lib.Seq.{sets-eq, getD-take, length-take-le}
 use lib.Ieee.{Float}
-use borrow.Author.Tests.{lt-ltb, le-ltb}
+use borrow.Author.Tests.{lt-ltb, le-ltb, leb-true, leb-false, le-leb}
 use Rattle.hex.specs.Digits.{bytesOf}
 use Rattle.frames.specs.First.{framesOf}
 use Rattle.frames.specs.declared.first.Text.the-variants.{Query}
@@ -32,17 +32,17 @@ use Rattle.plan_facts.specs.QueryPlans.{ReadBack}
 use Rattle.lowering.specs.Eager.{lineAt, Located, atomsOf}
 use Rattle.lowering.specs.Places.{Places, located}
 use Rattle.pricing.specs.Remembering.{Samples}
+use Rattle.lowering.proofs.OperandLaws.{is-true, is-false}
 use Rattle.scheduling.specs.Rounds.{Unplanned, Scheduling}
 use Rattle.scheduling.specs.declared.schedule.Scheduled.{Scheduled}
 use Rattle.writing.specs.Emitting.{Emittable}
 use Rattle.writing.specs.Steps.{stepsAlong, countAlong, lowered-steps, lowered-count, Ordered, PutsSteps}
 use Rattle.writing.specs.Written.{written, PutsFrames}
 use Rattle.writing.proofs.PutLaws.{frames-then}
-use Rattle.planner.specs.Planner.{Plan, Answer, Written, TurnedBack, stepsOf, talliedOf, rejectedOf, planOf, fitted, plan}
+use Rattle.planner.specs.Planner.{Result, stepsOf, talliedOf, rejectedOf, planOf, fitted, plan}
 use Rattle.planner.specs.Promised.{read-back}
-use Rattle.planner.specs.Entry.{answerOf, resultOf, Accepts}
+use Rattle.planner.specs.Entry.{resultOf, Accepts}
 use Rattle.planner.specs.Accepted.{frames-few, atom-lines, atom-items, few-keys, small-settings, Small}
-use Rattle.planner.specs.declared.entry.Planned.{Planned}
 use Rattle.planner.specs.declared.entry.Planned.the-variants.{Written as Wrote, Refused as TurnsBack}
 
 -- ---- the order
@@ -138,19 +138,46 @@ module _ (x from : List ℕ) (n : ℕ) (O : List ℕ) (s : Scheduled) (a : Accep
   pub rejected-few : s .rejected < 65536
   rejected-few = let k = few-keys x (a .lines) (a .atoms) (a .is) in omega (arith, k .rejected-few, h .rejected)
 
-  pub not-fitting : (r : ℕ) (o : List ℕ) → r ≡ 21 + textLength (map frameOf (stepsAlong (atomOf (atomsOf x)) blank (take (s .count) O))) → length o < r → resultOf (TurnsBack 8 0) o ≡ fitted (planOf x) o
+  text-is : planOf x .text ≡ text
   unfolding planOf
-  not-fitting r o e l = rw (lt-ltb (length o) (length text) (omega (arith, text-size)))
+  text-is = refl
+
+  pub fits-always : (room : ℕ) → 20565 ≤ room → true ≡ leb (length (planOf x .text)) room
+  fits-always room l = rw text-is (sym (le-leb (length text) room (let b = read-back x (a .lines) (a .atoms) (a .is) .short in omega arith)))
+
+  pub fits-measured : (room r : ℕ) → r ≡ 21 + textLength (map frameOf (stepsAlong (atomOf (atomsOf x)) blank (take (s .count) O))) → leb r room ≡ leb (length (planOf x .text)) room
+  fits-measured room r e = rw (text-is, text-size, e)
+
+  pub not-fitting : (t : Bool) (o : List ℕ) → t ≡ leb (length (planOf x .text)) (length o) → not t ≡ true → resultOf (TurnsBack 8 0) o ≡ fitted (planOf x) o
+  unfolding planOf
+  not-fitting t o e l =
+      let k : length o < length text = leb-false (length text) (length o) (sym e ∙ is-false t l) in
+      rw (lt-ltb (length o) (length text) k)
 
   module _ (o p : List ℕ) (steps r : ℕ) (c : steps ≡ countAlong (atomOf (atomsOf x)) (take (s .count) O)) (w : PutsFrames o 0 (headerOf (countsOf Query x 0 .variables) (countsOf Query x 0 .globals) (countsOf Query x 0 .literals) steps (s .tallied) (s .rejected) ∷ map frameOf (stepsAlong (atomOf (atomsOf x)) blank (take (s .count) O))) p r) where
     is-text : textOf (headerOf (countsOf Query x 0 .variables) (countsOf Query x 0 .globals) (countsOf Query x 0 .literals) steps (s .tallied) (s .rejected) ∷ map frameOf (stepsAlong (atomOf (atomsOf x)) blank (take (s .count) O))) ≡ text
     unfolding planText
     is-text = rw (along, c ∙ counted, ← h .tallied, ← h .rejected)
 
-    pub fitting : length text ≤ length o → resultOf (Wrote r steps (s .tallied) (s .rejected)) p ≡ fitted (planOf x) o
+    pub fitting : (t : Bool) → t ≡ leb (length (planOf x .text)) (length o) → not t ≡ false → resultOf (Wrote r steps (s .tallied) (s .rejected)) p ≡ fitted (planOf x) o
     unfolding planOf written textLength
-    fitting l =
+    fitting t g k =
+        let l : length text ≤ length o = leb-true (length text) (length o) (sym g ∙ is-true t k) in
         let e : r ≡ length text = omega (arith, w .next, text-size) in
         let n : 0 + length text ≡ length text = omega arith in
         let q : p ≡ text ++ drop (length text) o = w .is ∙ ap (λ (t : List ℕ). written o 0 t) is-text ∙ rw n at (sets-eq text o 0 (omega (arith, l))) in
         rw (le-ltb (length o) (length text) l, e, q, c ∙ counted, ← h .tallied, ← h .rejected)
+
+-- ---- the entry, by what the reading says
+
+module _ (x o : List ℕ) (v : Reading) (is : v ≡ reading Query x) where
+  pub accepts : (n c : ℕ) → v ≡ Accepted n c → Accepts x
+  accepts n c e = record { lines = n; atoms = c; is = sym is ∙ e }
+
+  pub planned-back : (k l : ℕ) → v ≡ Refused k l → resultOf (TurnsBack k l) o ≡ plan x o
+  unfolding plan
+  planned-back k l e = rw (← is, e)
+
+  pub planned-whole : (n c : ℕ) → v ≡ Accepted n c → (q : Result) → q ≡ fitted (planOf x) o → q ≡ plan x o
+  unfolding plan
+  planned-whole n c e q h = rw (← is, e) h

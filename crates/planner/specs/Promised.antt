@@ -1,8 +1,9 @@
 -- What holds of the plan of every accepted query, whatever costs, fan-outs, settings and samples. Proved from the choice's fairness.
-use Prim.Native.Nat.{ℕ, _<_}
+use Prim.Native.Nat.{ℕ}
 use mathlib.Core.Path.{_≡_, refl}
 use mathlib.Core.Bool.{true}
 use mathlib.Core.List.{List, []}
+use native.Mathlib.Omega.{arith}
 use Rattle.frames.specs.First.{framesOf}
 use Rattle.frames.specs.declared.first.Text.the-variants.{Query}
 use Rattle.frames.specs.declared.first.Reading.the-variants.{Accepted}
@@ -12,14 +13,17 @@ use Rattle.model.specs.Guarantee.{schedule-bound-first}
 use Rattle.cost.specs.QueryAtoms.{atomsIn}
 use Rattle.cost.specs.Choice.{fresh, choose, choose-fair, planned}
 use Rattle.plan_facts.specs.QueryPlans.{ReadBack, plan-read-back}
-use Rattle.planner.specs.Planner.{stepsOf}
+use Rattle.planner.specs.Planner.{stepsOf, talliedOf, rejectedOf}
+use Rattle.planner.specs.Accepted.{few-keys}
 
 -- "no step of a plan reads a variable that no earlier step has bound", all 14 kinds
 pub bound-before-read : (x : List ℕ) → boundFirst [] [] (stepsOf x) ≡ true
 unfolding stepsOf planned
 bound-before-read x = schedule-bound-first (atomsIn (framesOf x)) (choose (framesOf x) (atomsIn (framesOf x))) fresh (choose-fair (framesOf x) (atomsIn (framesOf x))) [] [] (λ v. refl)
 
--- the plan as written is accepted, read back to the same steps, and at most 20,565 bytes long; t and r are the tallies
-pub read-back : (x : List ℕ) (n c : ℕ) → reading Query x ≡ Accepted n c → (t r : ℕ) → t < 65536 → r < 65536 → ReadBack x t r (stepsOf x)
+-- the plan as written is accepted, read back to the same steps, and at most 20,565 bytes long
+pub read-back : (x : List ℕ) (n c : ℕ) → reading Query x ≡ Accepted n c → ReadBack x (talliedOf x) (rejectedOf x) (stepsOf x)
 unfolding stepsOf planned
-read-back x n c ok t r p q = plan-read-back x n c ok (choose (framesOf x) (atomsIn (framesOf x))) fresh (choose-fair (framesOf x) (atomsIn (framesOf x))) t r p q
+read-back x n c ok =
+    let k = few-keys x n c ok in
+    plan-read-back x n c ok (choose (framesOf x) (atomsIn (framesOf x))) fresh (choose-fair (framesOf x) (atomsIn (framesOf x))) (talliedOf x) (rejectedOf x) (omega (arith, k .tallied-few)) (omega (arith, k .rejected-few))

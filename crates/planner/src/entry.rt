@@ -1,6 +1,7 @@
 // The entry: a query text and a lent output.
 ghost use mathlib.Core.Path.{_≡_};
 ghost use lib.ListN.{length};
+ghost use lib.Dec.{leb};
 ghost use Rattle.model.specs.Bound.{most};
 ghost use Rattle.lowering.specs.Places.{Places};
 ghost use Rattle.scheduling.specs.Rounds.{Scheduling};
@@ -23,7 +24,21 @@ pub enum Planned {
     Refused(u8, usize),
 }
 
-// The plan by the order that was found, where it fits. The longest plan has 20,565 bytes.
+// Whether the plan fits into so much room. The longest plan has 20,565 bytes: with room for it nothing is measured.
+fn fits(text: &[u8], from: &[usize], n: usize, order: &[u8], s: Scheduled, room: usize) -> bool
+    requires { ⌜ Accepts (now text) ⌝ }
+    requires { ⌜ Places (now text) (now from) n ⌝ }
+    requires { ⌜ Scheduling (now text) (now order) s ⌝ }
+    requires { ⌜ length (now order) ≡ most ⌝ }
+    ensures { λ r. ⌜ r ≡ leb (length (planOf (now (text .entry)) .text)) room ⌝ }
+{
+    if 20565 <= room {
+        return true;
+    }
+    plan_size(text, from, n, order, s.count) <= room
+}
+
+// The plan by the order that was found, where it fits.
 fn plan_in_order(
     text: &[u8],
     from: &[usize],
@@ -38,10 +53,8 @@ fn plan_in_order(
     requires { ⌜ length (now order) ≡ most ⌝ }
     ensures { λ r. ⌜ resultOf r (now (out .exit)) ≡ fitted (planOf (now (text .entry))) (now (out .entry)) ⌝ }
 {
-    if out.len() < 20565 {
-        if out.len() < plan_size(text, from, n, order, s.count) {
-            return Planned::Refused(8, 0);
-        }
+    if !fits(text, from, n, order, s, out.len()) {
+        return Planned::Refused(8, 0);
     }
     let steps = count_steps(text, from, n, order, s.count);
     let tallied = s.tallied;
