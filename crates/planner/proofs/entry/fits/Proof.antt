@@ -1,19 +1,14 @@
+-- `planner::entry::fits` meets its contract: by the longest plan's length, else by this plan's.
 use Rattle.planner.proofs.EntryLaws.{places-located, in-order, fits-always, fits-measured}
 use Rattle.planner.proofs.entry.fits.Statement.{statement}
 use Rattle.planner.proofs.entry.fits.Tie as tie
-use Rattle.planner.proofs.entry.fits.Reads as reads
-use Rattle.planner.proofs.entry.fits.Lts as lts
-use Rattle.planner.proofs.text.plan_size.Reads as plan-size-reads
 
--- src/entry.rt:36:9
 returns : tie.Need-returns
 returns c = fits-always _ _ _ _ _ (c .before .before .before .before .pre .0) (c .before .before .before .before .pre .1 .0) (c .before .before .before .before .pre .1 .1 .0) _ (c .if1 .taken)
 
--- src/entry.rt:38:5
 plan-size-requires : tie.Need-plan-size-requires
 plan-size-requires c κs = (places-located _ _ _ (c .before .before .before .before .pre .0) (c .before .before .before .before .pre .1 .0), in-order _ _ _ _ _ (c .before .before .before .before .pre .0) (c .before .before .before .before .pre .1 .0) (c .before .before .before .before .pre .1 .1 .0) (c .before .before .before .before .pre .1 .1 .1))
 
--- src/entry.rt:28:1
 returns-2 : tie.Need-returns-2
 returns-2 c = fits-measured _ _ _ _ _ (c .before .before .before .before .before .pre .0) (c .before .before .before .before .before .pre .1 .0) (c .before .before .before .before .before .pre .1 .1 .0) _ _ (c .plan-size .ensures)
 

@@ -1,46 +1,33 @@
+-- `planner::order::find_order` meets its contract: by whether sampling is on.
 use mathlib.Core.Path.{sym, _∙_}
 use borrow.Author.Needs.{needs}
 use Rattle.planner.proofs.order.find_order.Statement.{statement}
 use Rattle.planner.proofs.order.find_order.Tie as tie
-use Rattle.planner.proofs.order.find_order.Reads as reads
-use Rattle.planner.proofs.order.find_order.Lts as lts
-use Rattle.planner.proofs.order.order_sampled.Reads as order-sampled-reads
-use Rattle.planner.proofs.order.order_unsampled.Reads as order-unsampled-reads
-use Rattle.query.proofs.statistics.settings.Reads as settings-reads
 
--- src/order.rt:95:11
 settings-requires : tie.Need-settings-requires
 settings-requires c κs = search needs
 
--- src/order.rt:96:56
 enum-told : tie.Need-enum-told
 enum-told c = search needs
 
--- src/order.rt:96:25
 order-unsampled-requires : tie.Need-order-unsampled-requires
 order-unsampled-requires c κs = (c .before .before .before .before .before .before .before .pre .1 .0, (c .before .before .before .before .before .before .before .pre .1 .1, sym (c .before .before .before .settings .ensures) ∙ c .before .enum-told .given .1))
 
--- src/order.rt:97:21
 enum-known-cfg : tie.Need-enum-known-cfg
 enum-known-cfg c = search needs
 
--- src/order.rt:97:29
 order-sampled-requires : tie.Need-order-sampled-requires
 order-sampled-requires c κs = (c .before .before .before .before .before .before .before .before .pre .0, (c .before .before .before .before .before .before .before .before .pre .1 .0, (c .before .before .before .before .before .before .before .before .pre .1 .1, sym (c .before .before .before .before .settings .ensures) ∙ c .before .before .cfg .given .1)))
 
--- src/order.rt:89:1
 same-length : tie.Need-same-length
 same-length c = search needs
 
--- src/order.rt:89:1
 returns : tie.Need-returns
 returns c = search needs
 
--- src/order.rt:89:1
 same-length-2 : tie.Need-same-length-2
 same-length-2 c = search needs
 
--- src/order.rt:89:1
 returns-2 : tie.Need-returns-2
 returns-2 c = search needs
 

@@ -1,54 +1,41 @@
+-- `planner::order::order_sampled` meets its contract: a key for each item of each atom at most.
 use mathlib.Core.Path.{refl}
 use native.Mathlib.Omega.{arith}
 use Rattle.planner.proofs.EntryLaws.{all-unplanned, samples-some, remembers-some}
 use borrow.Author.Needs.{needs}
 use Rattle.planner.proofs.order.order_sampled.Statement.{statement}
 use Rattle.planner.proofs.order.order_sampled.Tie as tie
-use Rattle.planner.proofs.order.order_sampled.Reads as reads
-use Rattle.planner.proofs.order.order_sampled.Lts as lts
-use Rattle.scheduling.proofs.schedule.schedule.Reads as schedule-reads
 
--- src/order.rt:76:9
 slice-aggregate-schedule : tie.Need-slice-aggregate-schedule
 slice-aggregate-schedule c = search needs
 
--- src/order.rt:77:9
 slice-aggregate-schedule-2 : tie.Need-slice-aggregate-schedule-2
 slice-aggregate-schedule-2 c = search needs
 
--- src/order.rt:78:9
 slice-aggregate-schedule-3 : tie.Need-slice-aggregate-schedule-3
 slice-aggregate-schedule-3 c = search needs
 
--- src/order.rt:79:9
 slice-aggregate-schedule-4 : tie.Need-slice-aggregate-schedule-4
 slice-aggregate-schedule-4 c = search needs
 
--- src/order.rt:82:9
 slice-aggregate-schedule-5 : tie.Need-slice-aggregate-schedule-5
 slice-aggregate-schedule-5 c = search needs
 
--- src/order.rt:83:9
 slice-aggregate-schedule-6 : tie.Need-slice-aggregate-schedule-6
 slice-aggregate-schedule-6 c = search needs
 
--- src/order.rt:84:9
 slice-aggregate-schedule-7 : tie.Need-slice-aggregate-schedule-7
 slice-aggregate-schedule-7 c = search needs
 
--- src/order.rt:85:9
 slice-aggregate-schedule-8 : tie.Need-slice-aggregate-schedule-8
 slice-aggregate-schedule-8 c = search needs
 
--- src/order.rt:72:5
 schedule-requires : tie.Need-schedule-requires
 schedule-requires c κs = (c .before .before .before .before .before .before .before .before .before .before .before .before .pre .1 .0, (all-unplanned, (c .before .before .before .before .before .before .before .before .before .before .before .before .pre .1 .1 .0, (samples-some _ _ _ (c .before .before .before .before .before .before .before .before .before .before .before .before .pre .0) (c .before .before .before .before .before .before .before .before .before .before .before .before .pre .1 .1 .1) refl, ((refl, (refl, omega arith)), remembers-some _ (c .before .before .before .before .before .before .before .before .before .before .before .before .pre .0))))))
 
--- src/order.rt:51:1
 same-length : tie.Need-same-length
 same-length c = search needs
 
--- src/order.rt:51:1
 returns : tie.Need-returns
 returns c = search needs
 

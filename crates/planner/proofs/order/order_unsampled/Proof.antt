@@ -1,54 +1,41 @@
+-- `planner::order::order_unsampled` meets its contract: nothing is remembered.
 use mathlib.Core.Path.{refl}
 use native.Mathlib.Omega.{arith}
 use Rattle.planner.proofs.EntryLaws.{all-unplanned, samples-nothing, remembers-nothing}
 use borrow.Author.Needs.{needs}
 use Rattle.planner.proofs.order.order_unsampled.Statement.{statement}
 use Rattle.planner.proofs.order.order_unsampled.Tie as tie
-use Rattle.planner.proofs.order.order_unsampled.Reads as reads
-use Rattle.planner.proofs.order.order_unsampled.Lts as lts
-use Rattle.scheduling.proofs.schedule.schedule.Reads as schedule-reads
 
--- src/order.rt:37:9
 slice-aggregate-schedule : tie.Need-slice-aggregate-schedule
 slice-aggregate-schedule c = search needs
 
--- src/order.rt:38:9
 slice-aggregate-schedule-2 : tie.Need-slice-aggregate-schedule-2
 slice-aggregate-schedule-2 c = search needs
 
--- src/order.rt:39:9
 slice-aggregate-schedule-3 : tie.Need-slice-aggregate-schedule-3
 slice-aggregate-schedule-3 c = search needs
 
--- src/order.rt:40:9
 slice-aggregate-schedule-4 : tie.Need-slice-aggregate-schedule-4
 slice-aggregate-schedule-4 c = search needs
 
--- src/order.rt:43:9
 slice-aggregate-schedule-5 : tie.Need-slice-aggregate-schedule-5
 slice-aggregate-schedule-5 c = search needs
 
--- src/order.rt:44:9
 slice-aggregate-schedule-6 : tie.Need-slice-aggregate-schedule-6
 slice-aggregate-schedule-6 c = search needs
 
--- src/order.rt:45:9
 slice-aggregate-schedule-7 : tie.Need-slice-aggregate-schedule-7
 slice-aggregate-schedule-7 c = search needs
 
--- src/order.rt:46:9
 slice-aggregate-schedule-8 : tie.Need-slice-aggregate-schedule-8
 slice-aggregate-schedule-8 c = search needs
 
--- src/order.rt:33:5
 schedule-requires : tie.Need-schedule-requires
 schedule-requires c κs = (c .before .before .before .before .before .before .before .before .before .before .before .before .pre .0, (all-unplanned, (c .before .before .before .before .before .before .before .before .before .before .before .before .pre .1 .0, (samples-nothing _ _ (c .before .before .before .before .before .before .before .before .before .before .before .before .pre .1 .1), ((refl, (refl, omega arith)), remembers-nothing _ (c .before .before .before .before .before .before .before .before .before .before .before .before .pre .1 .1))))))
 
--- src/order.rt:19:1
 same-length : tie.Need-same-length
 same-length c = search needs
 
--- src/order.rt:19:1
 returns : tie.Need-returns
 returns c = search needs
 

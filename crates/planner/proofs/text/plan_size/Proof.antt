@@ -1,26 +1,20 @@
+-- `planner::text::plan_size` meets its contract: the place behind the last line, from 21 on.
 use mathlib.Core.Path.{refl}
 use native.Mathlib.Omega.{arith}
 use Rattle.planner.proofs.EntryLaws.{size-is}
 use borrow.Author.Needs.{needs}
 use Rattle.planner.proofs.text.plan_size.Statement.{statement}
 use Rattle.planner.proofs.text.plan_size.Tie as tie
-use Rattle.planner.proofs.text.plan_size.Reads as reads
-use Rattle.planner.proofs.text.plan_size.Lts as lts
-use Rattle.writing.proofs.steps.write_steps.Reads as write-steps-reads
 
--- src/text.rt:35:46
 slice-aggregate-write-steps : tie.Need-slice-aggregate-write-steps
 slice-aggregate-write-steps c = search needs
 
--- src/text.rt:35:58
 slice-aggregate-write-steps-2 : tie.Need-slice-aggregate-write-steps-2
 slice-aggregate-write-steps-2 c = search needs
 
--- src/text.rt:35:5
 write-steps-requires : tie.Need-write-steps-requires
 write-steps-requires c κs = (c .before .before .before .before .before .pre .0, (c .before .before .before .before .before .pre .1, (refl, omega arith)))
 
--- src/text.rt:28:1
 returns : tie.Need-returns
 returns c = size-is _ _ _ _ _ (c .before .before .write-steps .ensures)
 

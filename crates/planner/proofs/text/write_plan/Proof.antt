@@ -1,49 +1,35 @@
+-- `planner::text::write_plan` meets its contract: the header, then the steps.
 use mathlib.Core.Path.{refl, ap}
 use Rattle.frames.specs.declared.fields.Counts.{Counts}
 use Rattle.planner.proofs.EntryLaws.{plan-is, header-near}
 use borrow.Author.Needs.{needs}
 use Rattle.planner.proofs.text.write_plan.Statement.{statement}
 use Rattle.planner.proofs.text.write_plan.Tie as tie
-use Rattle.planner.proofs.text.write_plan.Reads as reads
-use Rattle.planner.proofs.text.write_plan.Lts as lts
-use Rattle.planner.proofs.text.narrow.Reads as narrow-reads
-use Rattle.reading.proofs.second.counts_of.Reads as counts-of-reads
-use Rattle.writing.proofs.lines.header.Reads as header-reads
-use Rattle.writing.proofs.steps.write_steps.Reads as write-steps-reads
 
--- src/text.rt:57:9
 counts-of-requires : tie.Need-counts-of-requires
 counts-of-requires c κs = search needs
 
--- src/text.rt:64:9
 narrow-requires : tie.Need-narrow-requires
 narrow-requires c κs = search needs
 
--- src/text.rt:65:9
 narrow-requires-2 : tie.Need-narrow-requires-2
 narrow-requires-2 c κs = search needs
 
--- src/text.rt:66:9
 narrow-requires-3 : tie.Need-narrow-requires-3
 narrow-requires-3 c κs = search needs
 
--- src/text.rt:58:9
 header-requires : tie.Need-header-requires
 header-requires c κs = search needs
 
--- src/text.rt:69:46
 slice-aggregate-write-steps : tie.Need-slice-aggregate-write-steps
 slice-aggregate-write-steps c = search needs
 
--- src/text.rt:69:5
 write-steps-requires : tie.Need-write-steps-requires
 write-steps-requires c κs = (c .before .before .before .before .before .before .before .before .before .before .before .before .before .before .pre .0, (c .before .before .before .before .before .before .before .before .before .before .before .before .before .before .pre .1 .0, (refl, header-near _ _ _ _ _ _ _ _ _ (c .before .before .before .before .header .ensures))))
 
--- src/text.rt:39:1
 same-length : tie.Need-same-length
 same-length c = search needs
 
--- src/text.rt:39:1
 returns : tie.Need-returns
 returns c = plan-is _ _ _ _ _ _ _ _ _ _ _ _ _ _ _ _ (ap (λ (k : Counts). k .variables) (c .before .before .before .before .before .before .before .before .before .before .before .before .before .counts-of .ensures)) (ap (λ (k : Counts). k .globals) (c .before .before .before .before .before .before .before .before .before .before .before .before .before .counts-of .ensures)) (ap (λ (k : Counts). k .literals) (c .before .before .before .before .before .before .before .before .before .before .before .before .before .counts-of .ensures)) (c .before .before .before .before .before .before .before .before .before .before .before .narrow .ensures) (c .before .before .before .before .before .before .before .before .before .before .narrow2 .ensures) (c .before .before .before .before .before .before .before .before .before .narrow3 .ensures) (c .before .before .before .before .before .before .before .before .header .ensures) (c .before .before .before .write-steps .ensures)
 

@@ -1,3 +1,4 @@
+-- `scheduling::choose::cheapest` meets its contract: the atoms left, from the best so far, give what all give.
 use borrow.Author.Needs.{needs}
 use Prim.Native.Nat.{_-_}
 use mathlib.Core.List.{map}
@@ -5,11 +6,6 @@ use Rattle.cost.specs.Emitters.{decode}
 use Rattle.scheduling.proofs.ChoiceLaws.{Scanning, scanning-none, place-sized, place-within, number-small, line-ready, atom-room, scanning-again, scanned}
 use Rattle.scheduling.proofs.choose.cheapest.Statement.{statement}
 use Rattle.scheduling.proofs.choose.cheapest.Tie as tie
-use Rattle.scheduling.proofs.choose.cheapest.Reads as reads
-use Rattle.scheduling.proofs.choose.cheapest.Lts as lts
-use Rattle.lowering.proofs.eager.atom_line.Reads as atom-line-reads
-use Rattle.scheduling.proofs.choose.consider.Reads as consider-reads
-use Rattle.scheduling.proofs.choose.narrow.Reads as narrow-reads
 
 abbrev Inv-loop : tie.InvT-loop
 Inv-loop text from n used bound em how keys₀ valued₀ values₀ draws₀ b₀ i₀ keys valued values draws b i = Scanning text (map decode em) used bound how n keys₀ draws₀ b₀ keys valued values draws b i
@@ -17,51 +13,39 @@ Inv-loop text from n used bound em how keys₀ valued₀ values₀ draws₀ b₀
 abbrev μ-loop : tie.MeasureT-loop
 μ-loop text from n used bound em how keys₀ valued₀ values₀ draws₀ b₀ i₀ keys valued values draws b i = n - i
 
--- src/choose.rt:128:5
 loop-holds : tie.Need-loop-holds Inv-loop μ-loop
 loop-holds c = search scanning-none
 
--- src/choose.rt:129:13
 atom-line-requires : tie.Need-atom-line-requires Inv-loop μ-loop
 atom-line-requires c κs = (search place-sized, search place-within)
 
--- src/choose.rt:130:34
 narrow-requires : tie.Need-narrow-requires Inv-loop μ-loop
 narrow-requires c κs = search number-small
 
--- src/choose.rt:130:9
 consider-requires : tie.Need-consider-requires Inv-loop μ-loop
 consider-requires c κs = (search line-ready, (search needs, (search needs, search atom-room)))
 
--- src/choose.rt:131:9
 add-i : tie.Need-add-i Inv-loop μ-loop
 add-i c = search needs
 
--- src/choose.rt:128:5
 loop-less : tie.Need-loop-less Inv-loop μ-loop
 loop-less c = search needs
 
--- src/choose.rt:128:5
 loop-again : tie.Need-loop-again Inv-loop μ-loop
 loop-again c = scanning-again _ _ _ _ _ _ _ _ _ _ _ _ _ _ _ _ (c .before .before .before .before .before .before .before .before .before .before .before .before .before .before .before .before .loop .inv) (c .before .before .before .before .before .before .before .before .before .before .before .before .before .before .before .before .before .before .before .before .before .before .before .before .before .before .pre .0) (c .before .before .before .before .before .before .before .before .before .before .before .before .before .before .before .loop-test .taken) _ (c .before .before .before .before .before .before .before .before .before .before .before .before .before .before .atom-line .ensures) _ (c .before .before .before .before .before .before .before .before .before .before .before .before .before .narrow .ensures) _ _ _ _ _ (c .before .before .before .before .before .before .before .before .consider .ensures) (search needs) (search needs)
 
--- src/choose.rt:101:1
 same-length : tie.Need-same-length Inv-loop μ-loop
 same-length c = search needs
 
--- src/choose.rt:101:1
 same-length-2 : tie.Need-same-length-2 Inv-loop μ-loop
 same-length-2 c = search needs
 
--- src/choose.rt:101:1
 same-length-3 : tie.Need-same-length-3 Inv-loop μ-loop
 same-length-3 c = search needs
 
--- src/choose.rt:101:1
 same-length-4 : tie.Need-same-length-4 Inv-loop μ-loop
 same-length-4 c = search needs
 
--- src/choose.rt:101:1
 returns : tie.Need-returns Inv-loop μ-loop
 returns c = scanned _ _ _ _ _ _ _ _ _ _ _ _ _ _ _ _ (c .before .loop .inv) (c .before .before .before .before .before .before .before .before .before .before .before .pre .0) (c .loop-test .left)
 

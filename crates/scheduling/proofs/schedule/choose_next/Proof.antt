@@ -1,58 +1,42 @@
+-- `scheduling::schedule::choose_next` meets its contract: an eager round, the emitters, the choice, in turn.
 use Rattle.scheduling.proofs.RoundLaws.{choice-room, chooses}
 use borrow.Author.Needs.{needs}
 use Rattle.scheduling.proofs.schedule.choose_next.Statement.{statement}
 use Rattle.scheduling.proofs.schedule.choose_next.Tie as tie
-use Rattle.scheduling.proofs.schedule.choose_next.Reads as reads
-use Rattle.scheduling.proofs.schedule.choose_next.Lts as lts
-use Rattle.lowering.proofs.eager.lower_eager.Reads as lower-eager-reads
-use Rattle.sampling.proofs.atoms.record_emitters.Reads as record-emitters-reads
-use Rattle.scheduling.proofs.choose.cheapest.Reads as cheapest-reads
 
--- src/schedule.rt:72:9
 lower-eager-requires : tie.Need-lower-eager-requires
 lower-eager-requires c κs = search needs
 
--- src/schedule.rt:73:5
 record-emitters-requires : tie.Need-record-emitters-requires
 record-emitters-requires c κs = search needs
 
--- src/schedule.rt:74:9
 cheapest-requires : tie.Need-cheapest-requires
 cheapest-requires c κs = (c .before .before .before .before .before .before .before .before .before .before .before .before .before .before .before .before .before .before .before .before .before .before .before .before .before .before .before .before .before .before .before .before .before .pre .0, (c .before .before .before .before .before .before .before .before .before .before .before .before .before .before .before .before .before .before .before .before .before .before .before .before .before .before .before .before .before .before .before .before .before .pre .1 .1 .1 .0, (c .before .before .before .before .before .before .before .before .before .before .before .before .before .before .before .before .before .before .before .before .before .before .before .before .before .before .before .before .before .before .before .before .before .pre .1 .1 .1 .1 .0, choice-room _ _ _ _ _ _ _ _ _ _ _ _ _ _ (c .before .before .before .before .before .before .before .before .before .before .before .before .before .before .before .before .before .before .lower-eager .ensures) (c .before .before .before .before .before .before .before .before .before .record-emitters .ensures) (c .before .before .before .before .before .before .before .before .before .before .before .before .before .before .before .before .before .before .before .before .before .before .before .before .before .before .before .before .before .before .before .before .before .pre .1 .1 .1 .1 .1))))
 
--- src/schedule.rt:47:1
 same-length : tie.Need-same-length
 same-length c = c .before .before .before .before .before .before .before .before .before .before .before .before .before .before .before .before .before .before .before .before .before .before .before .before .before .before .before .lower-eager .ensures .used-size
 
--- src/schedule.rt:47:1
 same-length-2 : tie.Need-same-length-2
 same-length-2 c = search needs
 
--- src/schedule.rt:47:1
 same-length-3 : tie.Need-same-length-3
 same-length-3 c = search needs
 
--- src/schedule.rt:47:1
 same-length-4 : tie.Need-same-length-4
 same-length-4 c = search needs
 
--- src/schedule.rt:47:1
 same-length-5 : tie.Need-same-length-5
 same-length-5 c = search needs
 
--- src/schedule.rt:47:1
 same-length-6 : tie.Need-same-length-6
 same-length-6 c = search needs
 
--- src/schedule.rt:47:1
 same-length-7 : tie.Need-same-length-7
 same-length-7 c = search needs
 
--- src/schedule.rt:47:1
 same-length-8 : tie.Need-same-length-8
 same-length-8 c = search needs
 
--- src/schedule.rt:47:1
 returns : tie.Need-returns
 returns c = chooses _ _ _ _ _ _ _ _ _ _ _ _ _ _ (c .before .before .before .before .before .before .before .before .before .before .before .before .before .before .before .before .before .before .before .before .before .before .before .before .before .before .before .lower-eager .ensures) (c .before .before .before .before .before .before .before .before .before .before .before .before .before .before .before .before .before .before .record-emitters .ensures) _ _ _ _ _ (c .before .before .before .before .before .before .before .before .cheapest .ensures)
 
