@@ -126,11 +126,11 @@ module _ (x from : List ℕ) (n : ℕ) (O : List ℕ) (s : Scheduled) (a : Accep
       let w : s .count ≤ length O = omega (arith, h .few) in
       let taken = length-take-le (s .count) O w in
       record {
-    within = w;
-    few = h .few;
-    below = λ c k. let i = tabulate-mem (length (atomsOf x)) (λ (j : ℕ). j) (getD O c 0) (subst (λ (j : ℕ). List·Memᴰ j (numbers (atomsOf x))) (getD-take (s .count) O c 0 k) (h .known (getD (take (s .count) O) c 0) (mem-at (take (s .count) O) c (rw taken k)))) in omega (arith, i .below, i .is, z .count);
-    line = λ k l. record { atom = z .line k l; few = rw (y .is k l) (let i = atom-items x (a .lines) (a .atoms) (a .is) k (omega (arith, y .count)) in omega arith) };
-  }
+        within = w;
+        few = h .few;
+        below = λ c k. let i = tabulate-mem (length (atomsOf x)) (λ (j : ℕ). j) (getD O c 0) (subst (λ (j : ℕ). List·Memᴰ j (numbers (atomsOf x))) (getD-take (s .count) O c 0 k) (h .known (getD (take (s .count) O) c 0) (mem-at (take (s .count) O) c (rw taken k)))) in omega (arith, i .below, i .is, z .count);
+        line = λ k l. record { atom = z .line k l; few = rw (y .is k l) (let i = atom-items x (a .lines) (a .atoms) (a .is) k (omega (arith, y .count)) in omega arith) };
+      }
 
   pub tallied-few : s .tallied < 65536
   tallied-few = let k = few-keys x (a .lines) (a .atoms) (a .is) in omega (arith, k .tallied-few, h .tallied)

@@ -3,7 +3,7 @@ use Prim.Native.Nat.{ℕ, _≤_}
 use mathlib.Core.Path.{_≡_, refl, sym, subst, _∙_}
 use mathlib.Core.Bool.{Bool, true, false, not}
 use mathlib.Core.List.{List, _∷_}
-use lib.Dec.{T, ltb}
+use lib.Dec.{T}
 use lib.Ieee.{Float}
 use lib.ListN.{length, getD}
 use Rattle.base.specs.Choose.{pick}
@@ -24,7 +24,7 @@ use Rattle.cost.specs.declared.memo.Tallies.{Tallies}
 use Rattle.lowering.specs.AtomLines.{AtomLine, itemOperands}
 use Rattle.lowering.proofs.AtomLaws.{by-kind}
 use Rattle.lowering.proofs.OperandLaws.{is-true, is-false}
-use Rattle.pricing.specs.Items.{itemCosts, reprCost, literalKind}
+use Rattle.pricing.specs.Items.{itemCosts, frameCosts, reprCost, literalKind}
 use Rattle.pricing.specs.Remembering.{Remembers, Stands, costAt}
 use Rattle.pricing.specs.declared.costs.Costed.{Costed}
 use Rattle.pricing.proofs.ItemLaws.{children-are, elements-are}
@@ -57,13 +57,10 @@ module _ (fs : List (List ℕ)) (em : Emitters) (B : Bound) (i : ℕ) (t : Tally
   abbrev by-node-or : List ℕ → Cost → Cost
   by-node-or f z = pick (has B (getD f 1 0)) (byReprCost fs (getD f 2 0) i t) z
 
-  abbrev items-of : List ℕ → Cost
-  items-of f = itemCosts fs em B (getD f 2 0) (ltb 6 (getD f 0 0)) 0 (itemOperands f) (base-of f)
-
   -- 01, and 07 to 0e
-  scan-cost : (f : List ℕ) → isAtom (getD f 0 0) ≡ true → scans (atomOfFrame f) ≡ true → literalKind (getD f 0 0) ≡ false → estimateCost fs em B i (atomOfFrame f) t ≡ by-node-or f (items-of f)
+  scan-cost : (f : List ℕ) → isAtom (getD f 0 0) ≡ true → scans (atomOfFrame f) ≡ true → literalKind (getD f 0 0) ≡ false → estimateCost fs em B i (atomOfFrame f) t ≡ by-node-or f (frameCosts fs em B f (base-of f))
   unfolding estimateCost atomOfFrame operandsFrom kinds kindAt
-  scan-cost = by-kind (λ f. scans (atomOfFrame f) ≡ true → literalKind (getD f 0 0) ≡ false → estimateCost fs em B i (atomOfFrame f) t ≡ by-node-or f (items-of f)) (λ r s h. children r) (λ r s h. no h) (λ r s h. no h) (λ r s h. no (sym s)) (λ r s h. no (sym s)) (λ r s h. no (sym s)) (λ r s h. elements 0x07 r) (λ r s h. elements 0x08 r) (λ r s h. elements 0x09 r) (λ r s h. elements 0x0a r) (λ r s h. elements 0x0b r) (λ r s h. elements 0x0c r) (λ r s h. elements 0x0d r) (λ r s h. elements 0x0e r)
+  scan-cost = by-kind (λ f. scans (atomOfFrame f) ≡ true → literalKind (getD f 0 0) ≡ false → estimateCost fs em B i (atomOfFrame f) t ≡ by-node-or f (frameCosts fs em B f (base-of f))) (λ r s h. children r) (λ r s h. no h) (λ r s h. no h) (λ r s h. no (sym s)) (λ r s h. no (sym s)) (λ r s h. no (sym s)) (λ r s h. elements 0x07 r) (λ r s h. elements 0x08 r) (λ r s h. elements 0x09 r) (λ r s h. elements 0x0a r) (λ r s h. elements 0x0b r) (λ r s h. elements 0x0c r) (λ r s h. elements 0x0d r) (λ r s h. elements 0x0e r)
     where
       no : {X : Type 0} → true ≡ false → X
       no h = absurd (subst T h tt)
@@ -76,27 +73,27 @@ module _ (fs : List (List ℕ)) (em : Emitters) (B : Bound) (i : ℕ) (t : Tally
 
 -- ---- a line by its kind
 
-module _ (fs : List (List ℕ)) (em : Emitters) (B : Bound) (i : ℕ) (f : List ℕ) (how : Sampled) (ks : List ℕ) (vs : List Bool) (xs : List Float) (s : Tallies) (b : Bool) (hb : b ≡ scans (atomOfFrame f)) where
-  pub test-stands : not b ≡ true → Remembers fs how ks vs xs s → Stands fs how ks vs xs (record { cost = zero64; tallies = s }) (estimateCost fs em B i (atomOfFrame f) (tallyAt ks s))
-  test-stands h m = rw (test-cost fs em B i (tallyAt ks s) (atomOfFrame f) (sym hb ∙ is-false b h)) record { cost = refl; tally = refl; memo = m }
+module _ (fs : List (List ℕ)) (em : Emitters) (B : Bound) (i : ℕ) (f ks : List ℕ) (s : Tallies) (b : Bool) (hb : b ≡ scans (atomOfFrame f)) where
+  pub test-stands : (how : Sampled) (vs : List Bool) (xs : List Float) → not b ≡ true → Remembers fs how ks vs xs s → Stands fs how ks vs xs (record { cost = zero64; tallies = s }) (estimateCost fs em B i (atomOfFrame f) (tallyAt ks s))
+  test-stands how vs xs h m = rw (test-cost fs em B i (tallyAt ks s) (atomOfFrame f) (sym hb ∙ is-false b h)) record { cost = refl; tally = refl; memo = m }
 
   module _ (line : AtomLine f) (o : ℕ) (ho : o ≡ getD f 2 0) (e : Float) (k : ℕ) (hk : k ≡ getD f 0 0) (l : Bool) (hl : l ≡ literalKind k) where
-    pub literal-stands : e ≡ baseCard fs o i → l ≡ true → Remembers fs how ks vs xs s → Stands fs how ks vs xs (record { cost = e; tallies = s }) (estimateCost fs em B i (atomOfFrame f) (tallyAt ks s))
-    literal-stands he h m = rw (literal-cost fs em B i (tallyAt ks s) f (line .kind) (rw (← hk) (sym hl ∙ h))) record { cost = he ∙ rw ho; tally = refl; memo = m }
+    pub literal-stands : (how : Sampled) (vs : List Bool) (xs : List Float) → e ≡ baseCard fs o i → l ≡ true → Remembers fs how ks vs xs s → Stands fs how ks vs xs (record { cost = e; tallies = s }) (estimateCost fs em B i (atomOfFrame f) (tallyAt ks s))
+    literal-stands how vs xs he h m = rw (literal-cost fs em B i (tallyAt ks s) f (line .kind) (rw (← hk) (sym hl ∙ h))) record { cost = he ∙ rw ho; tally = refl; memo = m }
 
     module _ (hs : not b ≡ false) (h : l ≡ false) (v : ℕ) (hv : v ≡ getD f 1 0) (u : Bool) (hu : u ≡ has B v) where
-      by-node : estimateCost fs em B i (atomOfFrame f) (tallyAt ks s) ≡ pick u (byReprCost fs o i (tallyAt ks s)) (itemCosts fs em B o (ltb 6 (getD f 0 0)) 0 (itemOperands f) (record { cost = baseCard fs o i; tally = tallyAt ks s }))
+      by-node : estimateCost fs em B i (atomOfFrame f) (tallyAt ks s) ≡ pick u (byReprCost fs o i (tallyAt ks s)) (frameCosts fs em B f (record { cost = baseCard fs o i; tally = tallyAt ks s }))
       by-node = scan-cost fs em B i (tallyAt ks s) f (line .kind) (sym hb ∙ is-true b hs) (rw (← hk) (sym hl ∙ h)) ∙ rw (hu, hv, ho)
 
-      pub node-stands : u ≡ true → e ≡ reprCost fs o i → Remembers fs how ks vs xs s → Stands fs how ks vs xs (record { cost = e; tallies = s }) (estimateCost fs em B i (atomOfFrame f) (tallyAt ks s))
-      node-stands g he m = rw (by-node, g) record { cost = he; tally = refl; memo = m }
+      pub node-stands : (how : Sampled) (vs : List Bool) (xs : List Float) → u ≡ true → e ≡ reprCost fs o i → Remembers fs how ks vs xs s → Stands fs how ks vs xs (record { cost = e; tallies = s }) (estimateCost fs em B i (atomOfFrame f) (tallyAt ks s))
+      node-stands how vs xs g he m = rw (by-node, g) record { cost = he; tally = refl; memo = m }
 
       module _ (g : u ≡ false) (he : e ≡ baseCard fs o i) where
-        by-items : estimateCost fs em B i (atomOfFrame f) (tallyAt ks s) ≡ itemCosts fs em B o (ltb 6 (getD f 0 0)) 0 (itemOperands f) (costAt ks (record { cost = e; tallies = s }))
+        by-items : estimateCost fs em B i (atomOfFrame f) (tallyAt ks s) ≡ frameCosts fs em B f (costAt ks (record { cost = e; tallies = s }))
         by-items = by-node ∙ rw (g, he)
 
-        pub items-room : length (estimateCost fs em B i (atomOfFrame f) (tallyAt ks s) .tally .memo) ≤ length ks → length (itemCosts fs em B o (ltb 6 (getD f 0 0)) 0 (itemOperands f) (costAt ks (record { cost = e; tallies = s })) .tally .memo) ≤ length ks
+        pub items-room : length (estimateCost fs em B i (atomOfFrame f) (tallyAt ks s) .tally .memo) ≤ length ks → length (frameCosts fs em B f (costAt ks (record { cost = e; tallies = s })) .tally .memo) ≤ length ks
         items-room z = rw by-items at z
 
-        pub items-stand : (ks′ : List ℕ) (vs′ : List Bool) (xs′ : List Float) (r : Costed) → Stands fs how ks′ vs′ xs′ r (itemCosts fs em B o (ltb 6 (getD f 0 0)) 0 (itemOperands f) (costAt ks (record { cost = e; tallies = s }))) → Stands fs how ks′ vs′ xs′ r (estimateCost fs em B i (atomOfFrame f) (tallyAt ks s))
-        items-stand ks′ vs′ xs′ r a = rw by-items a
+        pub items-stand : (how : Sampled) (ks′ : List ℕ) (vs : List Bool) (xs : List Float) (r : Costed) → Stands fs how ks′ vs xs r (frameCosts fs em B f (costAt ks (record { cost = e; tallies = s }))) → Stands fs how ks′ vs xs r (estimateCost fs em B i (atomOfFrame f) (tallyAt ks s))
+        items-stand how ks′ vs xs r a = rw by-items a

@@ -1,9 +1,10 @@
 -- The parts of a key, a fan-out and a kind. Proved by their clauses.
-use Prim.Native.Nat.{ℕ, zero, suc, _-_, _/_, _%_, _<_, _≤_}
-use mathlib.Core.Path.{_≡_, refl, sym, ap}
+use Prim.Native.Nat.{ℕ, zero, suc, _+_, _-_, _*_, _/_, _%_, _<_, _≤_}
+use mathlib.Core.Path.{_≡_, refl, sym, _∙_, ap}
 use mathlib.Core.Bool.{Bool, true, false}
 use mathlib.Core.List.{List, [], _∷_}
 use native.Mathlib.Omega.{arith}
+use lib.Dec.{ltb}
 use lib.ListN.{length, getD, List·getD-eq-default}
 use lib.Ieee.{Float, binary64, mul}
 use Rattle.measure.specs.Selectivity.{zero64, pathSelectivity}
@@ -12,7 +13,16 @@ use Rattle.measure.specs.declared.FanOut.the-variants.{Measured, Unmeasured}
 use Rattle.query.specs.Statistics.{baseCard, byChildPos, byContains, byRepr, nodes}
 use Rattle.cost.specs.declared.sampling.Key.{Key}
 use Rattle.cost.specs.Costs.{orMeasured}
-use Rattle.pricing.specs.Items.{numberKey, itemFan, reprCost}
+use Rattle.frames.specs.Fields.{width}
+use Rattle.frames.specs.Kinds.{kindAt, fixedLength, itemsOf}
+use Rattle.frames.specs.Frames.{kindOf}
+use Rattle.model.specs.Bound.{Bound}
+use Rattle.model.specs.Lowering.{pvIsBound}
+use Rattle.cost.specs.QueryAtoms.{operandAt}
+use Rattle.pricing.specs.Items.{numberKey, itemProbe, itemFan, ItemsOf, itemAt, reprCost}
+use Rattle.pricing.specs.declared.costs.Probe.{Probe}
+use Rattle.pricing.specs.declared.costs.Items.{Items}
+use Rattle.pricing.specs.declared.costs.Item.{Item}
 use Rattle.pricing.specs.Remembering.{memoValue}
 
 pub emitter-here : (em : List ℕ) (v i : ℕ) → i ≡ v → getD em i 0 ≡ getD em v 0
@@ -48,3 +58,16 @@ module _ (fs : List (List ℕ)) (o p : ℕ) (t : Bool) (f : FanOut) where
 
 pub repr-cost : (fs : List (List ℕ)) (o i n : ℕ) (b r s : Float) → r ≡ byRepr fs → b ≡ baseCard fs o i → n ≡ nodes fs → s ≡ pathSelectivity (Measured r) n → mul binary64 b s ≡ reprCost fs o i
 repr-cost fs o i n b r s hr hb hn hs = rw (hs, hb, hr, hn)
+
+module _ (x : Item) where
+  pub element-probe : x .element ≡ true → _≡_ {A = Probe} (record { op = x .op; path = 1; place = 0 }) (itemProbe x)
+  element-probe h = rw h
+
+  pub child-probe : x .element ≡ false → _≡_ {A = Probe} (record { op = x .op; path = 0; place = x .position }) (itemProbe x)
+  child-probe h = rw h
+
+pub items-are : (f : List ℕ) (k i w n o : ℕ) → k ≡ getD f 0 0 → (i ≡ fixedLength (kindAt k)) × (i < 256) → (w ≡ width (kindAt k .item)) × (w < 256) → (n ≡ itemsOf (kindOf f) f) × (n < 256) → o ≡ getD f 2 0 → ItemsOf f (record { first = i; width = w; count = n; op = o; elements = ltb 6 k })
+items-are f k i w n o is hi hw hn ho = record { first = hi .0 ∙ rw is; width = hw .0 ∙ rw is; count = hn .0; op = ho; elements = rw is; early = hi .1; narrow = hw .1; few = hn .1 }
+
+pub item-is : (f : List ℕ) (g : Items) (k : ℕ) (B : Bound) (p : ℕ) (b : Bool) → p ≡ k → b ≡ pvIsBound B (operandAt f (g .first + g .width * k)) → _≡_ {A = Item} (record { at = g .first + g .width * k; position = p; op = g .op; element = g .elements; bound = b }) (itemAt f g k B)
+item-is f g k B p b hp hb = rw (hp, hb)

@@ -1,17 +1,17 @@
 // The cost of an atom, read off its line. "Costs: each operation rounded once, in the order given by the Rust."
 ghost use mathlib.Core.Path.{_≡_};
 ghost use mathlib.Core.List.{map};
-ghost use Prim.Native.Nat.{_<_, _≤_};
+ghost use Prim.Native.Nat.{_+_, _*_, _<_, _≤_};
 ghost use lib.ListN.{length, getD};
-ghost use lib.Dec.{ltb};
 ghost use Rattle.hex.specs.Digits.{bytesOf};
 ghost use Rattle.frames.specs.First.{framesOf};
+ghost use Rattle.measure.specs.declared.FanOut.the-variants.{Unmeasured};
 ghost use Rattle.cost.specs.Costs.{sampled as sampledOf, estimateCost};
 ghost use Rattle.cost.specs.Emitters.{decode};
 ghost use Rattle.cost.specs.Memo.{tallyAt};
-ghost use Rattle.cost.specs.QueryAtoms.{operandAt, operandsFrom, atomOfFrame};
-ghost use Rattle.lowering.specs.AtomLines.{AtomLine, itemOperands};
-ghost use Rattle.pricing.specs.Items.{numberKey, itemPath, itemPlace, itemFan, orFan, itemCost, oneCost, itemCosts, reprCost, literalKind};
+ghost use Rattle.cost.specs.QueryAtoms.{operandAt, atomOfFrame};
+ghost use Rattle.lowering.specs.AtomLines.{AtomLine};
+ghost use Rattle.pricing.specs.Items.{numberKey, itemProbe, itemFan, orFan, costBehind, ItemsOf, itemAt, frameCosts, reprCost, literalKind};
 ghost use Rattle.pricing.specs.Remembering.{Samples, Remembers, Gives, Stands, costAt};
 use super::memo::Sample;
 use super::memo::estimate;
@@ -41,6 +41,31 @@ pub struct Costed {
     pub tallies: Tallies,
 }
 
+// A probe of a candidate atom: its operator, and the path and place of the key.
+pub struct Probe {
+    pub op: u8,
+    pub path: u8,
+    pub place: u8,
+}
+
+// The items of a frame: the byte of the first, the width and number of all, the atom's operator, and whether they are elements.
+pub struct Items {
+    pub first: usize,
+    pub width: usize,
+    pub count: usize,
+    pub op: u8,
+    pub elements: bool,
+}
+
+// An item: its byte and its position, the atom's operator, whether it is an element, and whether it is bound.
+pub struct Item {
+    pub at: usize,
+    pub position: u8,
+    pub op: u8,
+    pub element: bool,
+    pub bound: bool,
+}
+
 fn narrow(i: usize) -> u8
     requires { ⌜ i < 256 ⌝ }
     ensures { λ r. ⌜ r ≡ i ⌝ }
@@ -67,18 +92,27 @@ fn emitter_of(em: &[u32], v: u8) -> u32
 }
 
 // The key of a probe, for a variable with the emitter of number e.
-fn key_of(e: u32, op: u8, path: u8, place: u8) -> Key
+fn key_of(e: u32, q: Probe) -> Key
     requires { ⌜ 0 < e ⌝ }
-    ensures { λ r. ⌜ r ≡ numberKey e op path place ⌝ }
+    ensures { λ r. ⌜ r ≡ numberKey e (q .op) (q .path) (q .place) ⌝ }
 {
     let c = e - 1;
     Key {
         emitter: narrow_word(c / 1024 % 256),
         site: narrow_word(c / 256 % 4),
         position: narrow_word(c % 256),
-        op,
-        path,
-        place,
+        op: q.op,
+        path: q.path,
+        place: q.place,
+    }
+}
+
+fn unsampled(s: Tallies) -> Sample
+    ensures { λ r. ⌜ r ≡ record { fan = Unmeasured; tallies = s } ⌝ }
+{
+    Sample {
+        fan: FanOut::Unmeasured,
+        tallies: s,
     }
 }
 
@@ -89,9 +123,7 @@ pub fn sampled(
     j: usize,
     em: &[u32],
     how: Sampled,
-    op: u8,
-    path: u8,
-    place: u8,
+    q: Probe,
     keys: &mut [u64],
     valued: &mut [bool],
     values: &mut [f64],
@@ -101,29 +133,20 @@ pub fn sampled(
     requires { ⌜ j < 65536 ⌝ }
     requires { ⌜ Samples (framesOf (now text)) how (now draws) ⌝ }
     requires { ⌜ Remembers (framesOf (now text)) how (now keys) (now valued) (now values) s ⌝ }
-    requires { ⌜ length (sampledOf (framesOf (now text)) (map decode (now em)) (operandAt (bytesOf (now line)) j) op path place (tallyAt (now keys) s) .tally .memo) ≤ length (now keys) ⌝ }
-    ensures { λ r. ⌜ Gives (framesOf (now (text .entry))) how (now (keys .exit)) (now (valued .exit)) (now (values .exit)) r (sampledOf (framesOf (now (text .entry))) (map decode (now (em .entry))) (operandAt (bytesOf (now (line .entry))) j) op path place (tallyAt (now (keys .entry)) s)) ⌝ }
+    requires { ⌜ length (sampledOf (framesOf (now text)) (map decode (now em)) (operandAt (bytesOf (now line)) j) (q .op) (q .path) (q .place) (tallyAt (now keys) s) .tally .memo) ≤ length (now keys) ⌝ }
+    ensures { λ r. ⌜ Gives (framesOf (now (text .entry))) how (now (keys .exit)) (now (valued .exit)) (now (values .exit)) r (sampledOf (framesOf (now (text .entry))) (map decode (now (em .entry))) (operandAt (bytesOf (now (line .entry))) j) (q .op) (q .path) (q .place) (tallyAt (now (keys .entry)) s)) ⌝ }
 {
     if byte_at(line, j) != 0 {
-        return Sample {
-            fan: FanOut::Unmeasured,
-            tallies: s,
-        };
+        return unsampled(s);
     }
     let e = emitter_of(em, byte_at(line, j + 1));
     if e == 0 {
-        return Sample {
-            fan: FanOut::Unmeasured,
-            tallies: s,
-        };
+        return unsampled(s);
     }
     let Sampled::On(cfg) = how else {
-        return Sample {
-            fan: FanOut::Unmeasured,
-            tallies: s,
-        };
+        return unsampled(s);
     };
-    let x = key_of(e, op, path, place);
+    let x = key_of(e, q);
     estimate(text, cfg, x, keys, valued, values, draws, s)
 }
 
@@ -136,183 +159,103 @@ fn or_fan(f: FanOut, g: FanOut) -> FanOut
     }
 }
 
-fn item_path(elements: bool) -> u8
-    ensures { λ r. ⌜ r ≡ itemPath elements ⌝ }
+// A child's position, or an element.
+fn item_probe(x: Item) -> Probe
+    ensures { λ r. ⌜ r ≡ itemProbe x ⌝ }
 {
-    if elements {
-        return 1;
+    if x.element {
+        return Probe {
+            op: x.op,
+            path: 1,
+            place: 0,
+        };
     }
-    0
-}
-
-fn item_place(elements: bool, p: u8) -> u8
-    ensures { λ r. ⌜ r ≡ itemPlace elements p ⌝ }
-{
-    if elements {
-        return 0;
+    Probe {
+        op: x.op,
+        path: 0,
+        place: x.position,
     }
-    p
 }
 
-fn item_fan(text: &[u8], op: u8, elements: bool, p: u8) -> FanOut
-    ensures { λ r. ⌜ r ≡ itemFan (framesOf (now (text .entry))) op elements p ⌝ }
+fn item_fan(text: &[u8], x: Item) -> FanOut
+    ensures { λ r. ⌜ r ≡ itemFan (framesOf (now (text .entry))) (x .op) (x .element) (x .position) ⌝ }
 {
-    if elements {
-        return by_contains(text, op);
+    if x.element {
+        return by_contains(text, x.op);
     }
-    by_child_pos(text, op, p)
+    by_child_pos(text, x.op, x.position)
 }
 
-// A bound item, the operand at byte j, at position p: its selectivity is multiplied in.
-fn bound_cost(
-    text: &[u8],
-    line: &[u8],
-    j: usize,
-    em: &[u32],
-    how: Sampled,
-    op: u8,
-    elements: bool,
-    p: u8,
-    keys: &mut [u64],
-    valued: &mut [bool],
-    values: &mut [f64],
-    draws: &mut [f64],
-    c: Costed,
-) -> Costed
-    requires { ⌜ j < 65536 ⌝ }
-    requires { ⌜ Samples (framesOf (now text)) how (now draws) ⌝ }
-    requires { ⌜ Remembers (framesOf (now text)) how (now keys) (now valued) (now values) (c .tallies) ⌝ }
-    requires { ⌜ length (itemCost (framesOf (now text)) (map decode (now em)) op elements p (operandAt (bytesOf (now line)) j) (costAt (now keys) c) .tally .memo) ≤ length (now keys) ⌝ }
-    ensures { λ r. ⌜ Stands (framesOf (now (text .entry))) how (now (keys .exit)) (now (valued .exit)) (now (values .exit)) r (itemCost (framesOf (now (text .entry))) (map decode (now (em .entry))) op elements p (operandAt (bytesOf (now (line .entry))) j) (costAt (now (keys .entry)) c)) ⌝ }
-{
-    let path = item_path(elements);
-    let place = item_place(elements, p);
-    let t = c.tallies;
-    let s = sampled(
-        text,
-        line,
-        j,
-        em,
-        how,
-        op,
-        path,
-        place,
-        keys,
-        valued,
-        values,
-        draws,
-        t,
-    );
-    let drawn = s.fan;
-    let fan = or_fan(drawn, item_fan(text, op, elements, p));
-    let tallies = s.tallies;
-    let cost = c.cost * path_selectivity(fan, denominator(text, op));
-    Costed { cost, tallies }
-}
-
-// An item adds to the cost where it is bound.
+// An item that is bound has its selectivity multiplied in.
 fn item_cost(
     text: &[u8],
     line: &[u8],
-    j: usize,
-    bound: &[bool],
+    x: Item,
     em: &[u32],
     how: Sampled,
-    op: u8,
-    elements: bool,
-    p: u8,
     keys: &mut [u64],
     valued: &mut [bool],
     values: &mut [f64],
     draws: &mut [f64],
     c: Costed,
 ) -> Costed
-    requires { ⌜ j < 65536 ⌝ }
+    requires { ⌜ x .at < 65536 ⌝ }
     requires { ⌜ Samples (framesOf (now text)) how (now draws) ⌝ }
     requires { ⌜ Remembers (framesOf (now text)) how (now keys) (now valued) (now values) (c .tallies) ⌝ }
-    requires { ⌜ length (oneCost (framesOf (now text)) (map decode (now em)) (now bound) op elements p (operandAt (bytesOf (now line)) j) (costAt (now keys) c) .tally .memo) ≤ length (now keys) ⌝ }
-    ensures { λ r. ⌜ Stands (framesOf (now (text .entry))) how (now (keys .exit)) (now (valued .exit)) (now (values .exit)) r (oneCost (framesOf (now (text .entry))) (map decode (now (em .entry))) (now (bound .entry)) op elements p (operandAt (bytesOf (now (line .entry))) j) (costAt (now (keys .entry)) c)) ⌝ }
+    requires { ⌜ length (costBehind (framesOf (now text)) (map decode (now em)) (bytesOf (now line)) x (costAt (now keys) c) .tally .memo) ≤ length (now keys) ⌝ }
+    ensures { λ r. ⌜ Stands (framesOf (now (text .entry))) how (now (keys .exit)) (now (valued .exit)) (now (values .exit)) r (costBehind (framesOf (now (text .entry))) (map decode (now (em .entry))) (bytesOf (now (line .entry))) x (costAt (now (keys .entry)) c)) ⌝ }
 {
-    if !pv_is_bound(line, j, bound) {
+    if !x.bound {
         return c;
     }
-    bound_cost(
-        text,
-        line,
-        j,
-        em,
-        how,
-        op,
-        elements,
-        p,
-        keys,
-        valued,
-        values,
-        draws,
-        c,
-    )
-}
-
-// The n items of an atom, each w bytes behind the one before, from byte i on.
-fn item_costs(
-    text: &[u8],
-    line: &[u8],
-    i: usize,
-    w: usize,
-    n: usize,
-    bound: &[bool],
-    em: &[u32],
-    how: Sampled,
-    op: u8,
-    elements: bool,
-    keys: &mut [u64],
-    valued: &mut [bool],
-    values: &mut [f64],
-    draws: &mut [f64],
-    start: Costed,
-) -> Costed
-    requires { ⌜ i < 256 ⌝ }
-    requires { ⌜ w < 256 ⌝ }
-    requires { ⌜ n < 256 ⌝ }
-    requires { ⌜ Samples (framesOf (now text)) how (now draws) ⌝ }
-    requires { ⌜ Remembers (framesOf (now text)) how (now keys) (now valued) (now values) (start .tallies) ⌝ }
-    requires { ⌜ length (itemCosts (framesOf (now text)) (map decode (now em)) (now bound) op elements 0 (operandsFrom (bytesOf (now line)) i w n) (costAt (now keys) start) .tally .memo) ≤ length (now keys) ⌝ }
-    ensures { λ r. ⌜ Stands (framesOf (now (text .entry))) how (now (keys .exit)) (now (valued .exit)) (now (values .exit)) r (itemCosts (framesOf (now (text .entry))) (map decode (now (em .entry))) (now (bound .entry)) op elements 0 (operandsFrom (bytesOf (now (line .entry))) i w n) (costAt (now (keys .entry)) start)) ⌝ }
-{
-    let mut c = start;
-    let mut k: usize = 0;
-    while k < n {
-        let j = i + w * k;
-        let p = narrow(k);
-        c = item_cost(
-            text,
-            line,
-            j,
-            bound,
-            em,
-            how,
-            op,
-            elements,
-            p,
-            keys,
-            valued,
-            values,
-            draws,
-            c,
-        );
-        k += 1;
-    }
-    c
+    let q = item_probe(x);
+    let t = c.tallies;
+    let j = x.at;
+    let s = sampled(text, line, j, em, how, q, keys, valued, values, draws, t);
+    let drawn = s.fan;
+    let fan = or_fan(drawn, item_fan(text, x));
+    let tallies = s.tallies;
+    let cost = c.cost * path_selectivity(fan, denominator(text, x.op));
+    Costed { cost, tallies }
 }
 
 // The items of a frame, as the table of kinds has them.
-fn frame_costs(
+fn items_at(line: &[u8]) -> Items
+    ensures { λ r. ⌜ ItemsOf (bytesOf (now (line .entry))) r ⌝ }
+{
+    let kind = byte_at(line, 0);
+    Items {
+        first: fixed_length(kind),
+        width: item_width(kind),
+        count: items_of(line),
+        op: byte_at(line, 2),
+        elements: 6 < kind,
+    }
+}
+
+// Item number k.
+fn item_at(line: &[u8], g: Items, k: usize, bound: &[bool]) -> Item
+    requires { ⌜ k < 256 ⌝ }
+    requires { ⌜ g .first + g .width * k < 65536 ⌝ }
+    ensures { λ r. ⌜ r ≡ itemAt (bytesOf (now (line .entry))) g k (now (bound .entry)) ⌝ }
+{
+    let at = g.first + g.width * k;
+    Item {
+        at,
+        position: narrow(k),
+        op: g.op,
+        element: g.elements,
+        bound: pv_is_bound(line, at, bound),
+    }
+}
+
+// The items of a frame, one behind the other.
+fn item_costs(
     text: &[u8],
     line: &[u8],
     bound: &[bool],
     em: &[u32],
     how: Sampled,
-    op: u8,
     keys: &mut [u64],
     valued: &mut [bool],
     values: &mut [f64],
@@ -321,31 +264,19 @@ fn frame_costs(
 ) -> Costed
     requires { ⌜ Samples (framesOf (now text)) how (now draws) ⌝ }
     requires { ⌜ Remembers (framesOf (now text)) how (now keys) (now valued) (now values) (start .tallies) ⌝ }
-    requires { ⌜ length (itemCosts (framesOf (now text)) (map decode (now em)) (now bound) op (ltb 6 (getD (bytesOf (now line)) 0 0)) 0 (itemOperands (bytesOf (now line))) (costAt (now keys) start) .tally .memo) ≤ length (now keys) ⌝ }
-    ensures { λ r. ⌜ Stands (framesOf (now (text .entry))) how (now (keys .exit)) (now (valued .exit)) (now (values .exit)) r (itemCosts (framesOf (now (text .entry))) (map decode (now (em .entry))) (now (bound .entry)) op (ltb 6 (getD (bytesOf (now (line .entry))) 0 0)) 0 (itemOperands (bytesOf (now (line .entry)))) (costAt (now (keys .entry)) start)) ⌝ }
+    requires { ⌜ length (frameCosts (framesOf (now text)) (map decode (now em)) (now bound) (bytesOf (now line)) (costAt (now keys) start) .tally .memo) ≤ length (now keys) ⌝ }
+    ensures { λ r. ⌜ Stands (framesOf (now (text .entry))) how (now (keys .exit)) (now (valued .exit)) (now (values .exit)) r (frameCosts (framesOf (now (text .entry))) (map decode (now (em .entry))) (now (bound .entry)) (bytesOf (now (line .entry))) (costAt (now (keys .entry)) start)) ⌝ }
 {
-    let kind = byte_at(line, 0);
-    let i = fixed_length(kind);
-    let w = item_width(kind);
-    let n = items_of(line);
-    let elements = 6 < kind;
-    item_costs(
-        text,
-        line,
-        i,
-        w,
-        n,
-        bound,
-        em,
-        how,
-        op,
-        elements,
-        keys,
-        valued,
-        values,
-        draws,
-        start,
-    )
+    let g = items_at(line);
+    let n = g.count;
+    let mut c = start;
+    let mut k: usize = 0;
+    while k < n {
+        let x = item_at(line, g, k, bound);
+        c = item_cost(text, line, x, em, how, keys, valued, values, draws, c);
+        k += 1;
+    }
+    c
 }
 
 // The cost of a node that is bound: it is looked up within its class.
@@ -401,18 +332,6 @@ pub fn estimate_cost(
         let cost = by_repr_cost(text, op, k);
         return Costed { cost, tallies: s };
     }
-    let start = Costed { cost, tallies: s };
-    frame_costs(
-        text,
-        line,
-        bound,
-        em,
-        how,
-        op,
-        keys,
-        valued,
-        values,
-        draws,
-        start,
-    )
+    let c = Costed { cost, tallies: s };
+    item_costs(text, line, bound, em, how, keys, valued, values, draws, c)
 }

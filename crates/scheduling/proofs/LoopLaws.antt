@@ -193,7 +193,8 @@ module _ (x : List ℕ) where
       unfolding roundsUpTo memoryLoop
       after = (
         rw one-round at (r .plans) ∙ ap (λ (st : State). let d = choose fs qs (memory E b (tallyAt keys s)) st in goOn (atomOf qs) (numbers qs) (rounds (left - 1)) (d .at) (d .next) st) (k .went .is (r .steps)) ∙ ap (λ (d : Chosen Memory). goOn (atomOf qs) (numbers qs) (rounds (left - 1)) (d .at) (d .next) now-state) chosen-is,
-        rw one-round at (r .remembers) ∙ ap (λ (st : State). let d = choose fs qs (memory E b (tallyAt keys s)) st in rememberOn fs qs (memoryLoop fs qs (left - 1)) (d .at) (d .next) st) (k .went .is (r .steps)) ∙ ap (λ (d : Chosen Memory). rememberOn fs qs (memoryLoop fs qs (left - 1)) (d .at) (d .next) now-state) chosen-is)
+        rw one-round at (r .remembers) ∙ ap (λ (st : State). let d = choose fs qs (memory E b (tallyAt keys s)) st in rememberOn fs qs (memoryLoop fs qs (left - 1)) (d .at) (d .next) st) (k .went .is (r .steps)) ∙ ap (λ (d : Chosen Memory). rememberOn fs qs (memoryLoop fs qs (left - 1)) (d .at) (d .next) now-state) chosen-is,
+      )
 
       -- none was found: the plan is made
       pub rounding-ends : (p : Scheduled) → not (q .best .found) ≡ true → p ≡ record { count = q .count; tallied = q .best .tallies .tallied; rejected = q .best .tallies .rejected } → Scheduling x P p

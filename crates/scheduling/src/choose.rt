@@ -86,7 +86,19 @@ fn consider(
         return b;
     }
     let s = b.tallies;
-    let c = estimate_cost(text, line, i, bound, em, how, keys, valued, values, draws, s);
+    let c = estimate_cost(
+        text,
+        line,
+        i,
+        bound,
+        em,
+        how,
+        keys,
+        valued,
+        values,
+        draws,
+        s,
+    );
     better(i, c, b)
 }
 
@@ -127,7 +139,20 @@ pub fn cheapest(
     let mut i: usize = 0;
     while i < n {
         let line = atom_line(text, from, i);
-        b = consider(text, line, narrow(i), used, bound, em, how, keys, valued, values, draws, b);
+        b = consider(
+            text,
+            line,
+            narrow(i),
+            used,
+            bound,
+            em,
+            how,
+            keys,
+            valued,
+            values,
+            draws,
+            b,
+        );
         i += 1;
     }
     b

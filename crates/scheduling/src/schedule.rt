@@ -71,7 +71,20 @@ fn choose_next(
 {
     let c = lower_eager(text, from, n, used, bound, order, count);
     record_emitters(em, text, from, n, before, used);
-    let best = cheapest(text, from, n, used, bound, em, how, keys, valued, values, draws, s);
+    let best = cheapest(
+        text,
+        from,
+        n,
+        used,
+        bound,
+        em,
+        how,
+        keys,
+        valued,
+        values,
+        draws,
+        s,
+    );
     Round { count: c, best }
 }
 
@@ -183,7 +196,20 @@ pub fn schedule(
     while 0 < left {
         left -= 1;
         let r = choose_next(
-            text, from, n, used, bound, before, em, order, count, how, keys, valued, values, draws,
+            text,
+            from,
+            n,
+            used,
+            bound,
+            before,
+            em,
+            order,
+            count,
+            how,
+            keys,
+            valued,
+            values,
+            draws,
             s,
         );
         count = r.count;

@@ -1,17 +1,29 @@
 -- `pricing::costs::item_cost` meets its contract: where the item is bound.
-use Rattle.pricing.proofs.ItemLaws.{unbound-stands, bound-room, bound-stands}
+use Rattle.pricing.proofs.ItemLaws.{unbound-stands, item-room, item-stands}
 use borrow.Author.Needs.{needs}
 use Rattle.pricing.proofs.costs.item_cost.Statement.{statement}
 use Rattle.pricing.proofs.costs.item_cost.Tie as tie
 
-pv-is-bound-requires : tie.Need-pv-is-bound-requires
-pv-is-bound-requires c κs = search needs
-
 returns : tie.Need-returns
 returns c = search unbound-stands
 
-bound-cost-requires : tie.Need-bound-cost-requires
-bound-cost-requires c κs = (search needs, (search needs, (search needs, search bound-room)))
+item-probe-requires : tie.Need-item-probe-requires
+item-probe-requires c κs = search needs
+
+sampled-requires : tie.Need-sampled-requires
+sampled-requires c κs = (search needs, (search needs, (search needs, search item-room)))
+
+item-fan-requires : tie.Need-item-fan-requires
+item-fan-requires c κs = search needs
+
+or-fan-requires : tie.Need-or-fan-requires
+or-fan-requires c κs = search needs
+
+denominator-requires : tie.Need-denominator-requires
+denominator-requires c κs = search needs
+
+path-selectivity-requires : tie.Need-path-selectivity-requires
+path-selectivity-requires c κs = search needs
 
 same-length : tie.Need-same-length
 same-length c = search needs
@@ -26,15 +38,19 @@ same-length-4 : tie.Need-same-length-4
 same-length-4 c = search needs
 
 returns-2 : tie.Need-returns-2
-returns-2 c = search bound-stands
+returns-2 c = search item-stands
 
 pub item-cost-spec : {M : Type 1} → statement M
 item-cost-spec =
     tie.close
     (tie.spec
-    pv-is-bound-requires
     returns
-    bound-cost-requires
+    item-probe-requires
+    sampled-requires
+    item-fan-requires
+    or-fan-requires
+    denominator-requires
+    path-selectivity-requires
     same-length
     same-length-2
     same-length-3

@@ -4,32 +4,29 @@ use mathlib.Core.List.{map}
 use Rattle.hex.specs.Digits.{bytesOf}
 use Rattle.frames.specs.First.{framesOf}
 use Rattle.cost.specs.Emitters.{decode}
-use Rattle.pricing.proofs.ItemLaws.{Counting, counting-none, next-samples, next-room, counting-again, counting-all}
+use Rattle.pricing.proofs.ItemLaws.{Counting, counting-none, next-samples, next-small, next-at, next-room, counting-again, counting-all}
 use borrow.Author.Needs.{needs}
 use Rattle.pricing.proofs.costs.item_costs.Statement.{statement}
 use Rattle.pricing.proofs.costs.item_costs.Tie as tie
 
 abbrev Inv-loop : tie.InvT-loop
-Inv-loop text line i w n bound em how op elements keys₀ valued₀ values₀ draws₀ c₀ k₀ keys valued values draws c k =
-    Counting (framesOf text) (map decode em) bound (bytesOf line) i w n op elements how keys₀ valued₀ values₀ draws₀ c₀ keys valued values draws c k
+Inv-loop text line bound em how keys₀ valued₀ values₀ draws₀ g n c₀ k₀ keys valued values draws c k =
+    Counting (framesOf text) (map decode em) bound (bytesOf line) g how keys₀ valued₀ values₀ draws₀ c₀ keys valued values draws c k
 
 abbrev μ-loop : tie.MeasureT-loop
-μ-loop text line i w n bound em how op elements keys₀ valued₀ values₀ draws₀ c₀ k₀ keys valued values draws c k = n - k
+μ-loop text line bound em how keys₀ valued₀ values₀ draws₀ g n c₀ k₀ keys valued values draws c k = n - k
+
+items-at-requires : tie.Need-items-at-requires Inv-loop μ-loop
+items-at-requires c κs = search needs
 
 loop-holds : tie.Need-loop-holds Inv-loop μ-loop
 loop-holds c = search counting-none
 
-mul-j : tie.Need-mul-j Inv-loop μ-loop
-mul-j c = search needs
-
-add-j : tie.Need-add-j Inv-loop μ-loop
-add-j c = search needs
-
-narrow-requires : tie.Need-narrow-requires Inv-loop μ-loop
-narrow-requires c κs = search needs
+item-at-requires : tie.Need-item-at-requires Inv-loop μ-loop
+item-at-requires c κs = next-small _ _ _ _ _ _ _ _ _ _ _ _ _ _ _ _ _ (c .before .loop .inv) (c .before .before .items-at .ensures) (c .loop-test .taken)
 
 item-cost-requires : tie.Need-item-cost-requires Inv-loop μ-loop
-item-cost-requires c κs = (search needs, (search next-samples, (search needs, next-room _ _ _ _ _ _ _ _ _ _ _ _ _ _ _ _ _ _ _ _ _ (c .before .before .before .before .before .before .loop .inv) _ (c .before .before .before .before .before .loop-test .taken) (c .before .before .before .before .narrow .ensures) (c .before .before .before .before .before .before .before .before .before .before .before .before .before .before .before .pre .1 .1 .1 .1 .1))))
+item-cost-requires c κs = (search next-at, (search next-samples, (search needs, next-room _ _ _ _ _ _ _ _ _ _ _ _ _ _ _ _ _ (c .before .before .before .before .before .before .loop .inv) _ (c .before .before .before .before .item-at .ensures) (c .before .before .before .before .before .loop-test .taken) (c .before .before .before .before .before .before .before .before .before .before .before .before .before .before .before .before .pre .1 .1))))
 
 add-k : tie.Need-add-k Inv-loop μ-loop
 add-k c = search needs
@@ -38,7 +35,7 @@ loop-less : tie.Need-loop-less Inv-loop μ-loop
 loop-less c = search needs
 
 loop-again : tie.Need-loop-again Inv-loop μ-loop
-loop-again c = counting-again _ _ _ _ _ _ _ _ _ _ _ _ _ _ _ _ _ _ _ _ _ (c .before .before .before .before .before .before .before .before .before .before .before .before .before .before .before .loop .inv) _ _ _ _ _ _ (c .before .before .before .before .before .before .before .before .before .before .before .before .before .before .before .before .before .before .before .before .before .before .before .before .pre .1 .0) (c .before .before .before .before .before .before .before .before .before .before .before .before .before .before .loop-test .taken) (c .before .before .before .before .before .before .before .before .before .before .before .before .before .narrow .ensures) (c .before .before .before .before .before .before .before .keys .given) (c .before .before .before .before .before .valued .given) (c .before .before .before .values .given) (c .before .draws .given) (c .before .before .before .before .before .before .before .before .item-cost .ensures)
+loop-again c = counting-again _ _ _ _ _ _ _ _ _ _ _ _ _ _ _ _ _ (c .before .before .before .before .before .before .before .before .before .before .before .before .before .before .before .loop .inv) _ (c .before .before .before .before .before .before .before .before .before .before .before .before .before .item-at .ensures) (c .before .before .before .before .before .before .before .before .before .before .before .before .before .before .loop-test .taken) _ _ _ _ _ (c .before .before .before .before .before .before .before .before .before .before .before .before .before .before .before .before .items-at .ensures) (c .before .before .before .before .before .before .before .keys .given) (c .before .before .before .before .before .valued .given) (c .before .before .before .values .given) (c .before .draws .given) (c .before .before .before .before .before .before .before .before .item-cost .ensures)
 
 same-length : tie.Need-same-length Inv-loop μ-loop
 same-length c = search needs
@@ -61,10 +58,9 @@ item-costs-spec =
     (tie.spec
     Inv-loop
     μ-loop
+    items-at-requires
     loop-holds
-    mul-j
-    add-j
-    narrow-requires
+    item-at-requires
     item-cost-requires
     add-k
     loop-less

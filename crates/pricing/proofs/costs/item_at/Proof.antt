@@ -1,0 +1,23 @@
+-- `pricing::costs::item_at` meets its contract: part by part.
+use Rattle.pricing.proofs.LeafLaws.{item-is}
+use borrow.Author.Needs.{needs}
+use Rattle.pricing.proofs.costs.item_at.Statement.{statement}
+use Rattle.pricing.proofs.costs.item_at.Tie as tie
+
+mul-at : tie.Need-mul-at
+mul-at c = search needs
+
+add-at : tie.Need-add-at
+add-at c = search needs
+
+narrow-requires : tie.Need-narrow-requires
+narrow-requires c κs = search needs
+
+pv-is-bound-requires : tie.Need-pv-is-bound-requires
+pv-is-bound-requires c κs = search needs
+
+returns : tie.Need-returns
+returns c = search item-is
+
+pub item-at-spec : {M : Type 1} → statement M
+item-at-spec = tie.close (tie.spec mul-at add-at narrow-requires pv-is-bound-requires returns)
