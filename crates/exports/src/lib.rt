@@ -8,6 +8,8 @@ use measure::Estimate;
 use measure::FanOut;
 use measure::SamplerConfig;
 
+pub mod planning;
+
 // A mean by its bits; a mean that the guard rejects; or no measurement at all.
 pub enum Answer {
     Mean(u64),

@@ -1,0 +1,20 @@
+-- `exports::planning::rimdovek_plan` meets its contract: the answer of the entry, packed.
+use Rattle.exports.proofs.PlanLaws.{planned-number, planned-output}
+use borrow.Author.Needs.{needs}
+use Rattle.exports.proofs.planning.rimdovek_plan.Statement.{statement}
+use Rattle.exports.proofs.planning.rimdovek_plan.Tie as tie
+
+plan-requires : tie.Need-plan-requires
+plan-requires c κs = search needs
+
+packed-requires : tie.Need-packed-requires
+packed-requires c κs = search needs
+
+same-length : tie.Need-same-length
+same-length c = search needs
+
+returns : tie.Need-returns
+returns c = (planned-number _ _ _ (c .before .before .before .plan .result) _ (c .before .before .before .plan .ensures) (c .packed .ensures), planned-output _ _ _ (c .before .before .before .plan .result) (c .before .before .before .plan .ensures))
+
+pub rimdovek-plan-spec : {M : Type 1} → statement M
+rimdovek-plan-spec = tie.close (tie.spec plan-requires packed-requires same-length returns)

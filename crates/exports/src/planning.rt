@@ -1,0 +1,35 @@
+// The planner for programs outside the prover: one call from query text to plan text.
+ghost use mathlib.Core.Path.{_≡_};
+ghost use Rattle.planner.specs.Planner.{plan as planned};
+ghost use Rattle.planner.specs.Entry.{answerOf};
+ghost use Rattle.exports.specs.Plans.{packedAnswer};
+use planner::entry::Planned;
+use planner::entry::plan;
+
+// The answer as one number.
+fn packed(p: Planned) -> u64
+    ensures { λ r. ⌜ r ≡ packedAnswer (answerOf p) ⌝ }
+{
+    match p {
+        Planned::Written(bytes, steps, tallied, rejected) => {
+            let b = (bytes % 0x8000) as u64;
+            let s = (steps % 0x1_0000) as u64;
+            let t = (tallied % 0x1_0000) as u64;
+            let r = (rejected % 0x1_0000) as u64;
+            ((b * 0x1_0000 + s) * 0x1_0000 + t) * 0x1_0000 + r
+        }
+        Planned::Refused(number, line) => {
+            let l = (line % 0x1_0000) as u64;
+            0x8000_0000_0000_0000 + (number as u64) * 0x100_0000 + l
+        }
+    }
+}
+
+// Plans a query text into a lent output.
+#[no_mangle]
+pub extern "C" fn rimdovek_plan(query: &[u8], out: &mut [u8]) -> u64
+    ensures answer { λ r. ⌜ r ≡ packedAnswer (planned (now (query .entry)) (now (out .entry)) .answer) ⌝ }
+    ensures output { λ r. ⌜ now (out .exit) ≡ planned (now (query .entry)) (now (out .entry)) .output ⌝ }
+{
+    packed(plan(query, out))
+}
