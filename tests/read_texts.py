@@ -1,8 +1,8 @@
 #!/usr/bin/env python3
-"""The reading of query, plan and table texts, modelled from the words of document 01 and not from the code, and the cases that the program
-read_texts runs. Where the document leaves room, the readings are those of docs/DECISIONS.md.
+"""The reading of query, plan and table texts, modelled from the words of document 01 and not from the code, and the cases of reading that
+the program replay runs. Where the document leaves room, the readings are those of docs/DECISIONS.md.
 
-    tests/read_texts.py                  writes crates/read_texts/stdin and stdout; the seed is fixed, so the same files come out
+    tests/read_texts.py DIR              writes reading.in and reading.out; the seed is fixed, so the same files come out
     tests/read_texts.py --against FILE.. compares the model with the cases of other files (JSON lines; texts in base64)
 
 A case is a line of stdin: two digits of the text (00 query, 01 plan, 02 table), then two digits for each of its bytes. Its answer is the
@@ -460,12 +460,12 @@ def all_cases():
 # ---- what is written and compared
 
 def write():
-    folder = Path(__file__).resolve().parent.parent / 'crates' / 'read_texts'
+    folder = Path(sys.argv[1])
     codes = {QUERY: '00', PLAN: '01', TABLE: '02'}
     cases = list(all_cases())
     answers = [read(text, x) for text, x in cases]
-    (folder / 'stdin').write_text(''.join(codes[text] + x.hex() + '\n' for text, x in cases))
-    (folder / 'stdout').write_text(''.join('%s %d %d\n' % a for a in answers))
+    (folder / 'reading.in').write_text(''.join(codes[text] + x.hex() + '\n' for text, x in cases))
+    (folder / 'reading.out').write_text(''.join('%s %d %d\n' % a for a in answers))
     tally = {}
     for (text, _), a in zip(cases, answers):
         k = (text, a[1] if a[0] == 'refused' else 0)

@@ -1,4 +1,5 @@
-//! Queries and the Rust's plans as files that a program inside the gate replays: a case a line, the text's bytes as hexadecimal.
+//! Queries and the Rust's plans as files that the program `replay` inside the gate replays: a case a line, 03 and the text's bytes as
+//! hexadecimal; its answer is the plan.
 use oracle::generate::generate;
 use oracle::{line, parse, plan_text};
 use std::fs;
@@ -26,14 +27,15 @@ pub fn write(n: usize, dir: &str) -> Result<(), String> {
         .chain((0..).map(|seed| generate(seed).text).filter(|text| text.len() <= LONGEST));
     for text in texts.take(n) {
         let query = parse(&text).ok_or("a vector's text does not read")?;
+        input += "03";
         input += &line(&text);
-        output += &line(plan_text(&query).as_bytes());
+        output += &plan_text(&query);
     }
     let folder = Path::new(dir);
     let put = |name: &str, text: &str| fs::write(folder.join(name), text).map_err(|e| format!("{dir}/{name}: {e}"));
     fs::create_dir_all(folder).map_err(|e| format!("{dir}: {e}"))?;
-    put("stdin", &input)?;
-    put("stdout", &output)?;
+    put("plans.in", &input)?;
+    put("plans.out", &output)?;
     println!("{n:>13}  cases, {} and {} bytes", input.len(), output.len());
     Ok(())
 }

@@ -1,17 +1,14 @@
--- `read_texts::run_case` meets its contract: the part that is read is as long as it says. Assumes nothing.
+-- `replay::run_case` meets its contract: the part that is read is as long as it says.
+use Rattle.replay.proofs.Laws.{taken}
 use borrow.Author.Needs.{needs}
-use Rattle.read_texts.proofs.Laws.{taken}
-use Rattle.read_texts.proofs.run_case.Statement.{statement}
-use Rattle.read_texts.proofs.run_case.Tie as tie
+use Rattle.replay.proofs.run_case.Statement.{statement}
+use Rattle.replay.proofs.run_case.Tie as tie
 
 returns : tie.Need-returns
 returns c = search needs
 
 byte-at-requires : tie.Need-byte-at-requires
 byte-at-requires c κs = search needs
-
-text-of-requires : tie.Need-text-of-requires
-text-of-requires c κs = search needs
 
 sub-decode : tie.Need-sub-decode
 sub-decode c = search needs
@@ -25,6 +22,24 @@ part-decode-end c = search needs
 decode-requires : tie.Need-decode-requires
 decode-requires c κs = search needs
 
+slice-reshare-prefix-plan-case : tie.Need-slice-reshare-prefix-plan-case
+slice-reshare-prefix-plan-case c = search needs
+
+slice-aggregate-plan-case : tie.Need-slice-aggregate-plan-case
+slice-aggregate-plan-case c = search taken
+
+plan-case-requires : tie.Need-plan-case-requires
+plan-case-requires c κs = search needs
+
+same-length : tie.Need-same-length
+same-length c = search needs
+
+returns-2 : tie.Need-returns-2
+returns-2 c = search needs
+
+text-of-requires : tie.Need-text-of-requires
+text-of-requires c κs = search needs
+
 slice-reshare-prefix-read-text : tie.Need-slice-reshare-prefix-read-text
 slice-reshare-prefix-read-text c = search needs
 
@@ -37,11 +52,11 @@ read-text-requires c κs = search needs
 print-answer-requires : tie.Need-print-answer-requires
 print-answer-requires c κs = search needs
 
-same-length : tie.Need-same-length
-same-length c = search needs
+same-length-2 : tie.Need-same-length-2
+same-length-2 c = search needs
 
-returns-2 : tie.Need-returns-2
-returns-2 c = search needs
+returns-3 : tie.Need-returns-3
+returns-3 c = search needs
 
 pub run-case-spec : {M : Type 1} → statement M
 run-case-spec =
@@ -49,14 +64,19 @@ run-case-spec =
     (tie.spec
     returns
     byte-at-requires
-    text-of-requires
     sub-decode
     part-decode-start
     part-decode-end
     decode-requires
+    slice-reshare-prefix-plan-case
+    slice-aggregate-plan-case
+    plan-case-requires
+    same-length
+    returns-2
+    text-of-requires
     slice-reshare-prefix-read-text
     slice-aggregate-read-text
     read-text-requires
     print-answer-requires
-    same-length
-    returns-2)
+    same-length-2
+    returns-3)

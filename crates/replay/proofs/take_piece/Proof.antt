@@ -1,10 +1,10 @@
--- `read_texts::take_piece` meets its contract. The loop's invariant: what is kept stays within the line's room. Assumes nothing.
+-- `replay::take_piece` meets its contract. The loop's invariant: what is kept stays within the line's room. Assumes nothing.
 use Prim.Native.Nat.{_-_}
 use borrow.Author.Needs.{needs}
 use lib.ListN.{length}
-use Rattle.read_texts.proofs.Laws.{Kept}
-use Rattle.read_texts.proofs.take_piece.Statement.{statement}
-use Rattle.read_texts.proofs.take_piece.Tie as tie
+use Rattle.replay.proofs.Laws.{Kept}
+use Rattle.replay.proofs.take_piece.Statement.{statement}
+use Rattle.replay.proofs.take_piece.Tie as tie
 
 abbrev Inv-loop : tie.InvT-loop
 Inv-loop piece line₀ text₀ n kept₀ i₀ line text kept i = Kept line₀ text₀ line text kept

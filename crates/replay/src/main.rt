@@ -1,12 +1,14 @@
-// Reads texts and writes the answer for each. A case is a line of standard input: two digits say which text it is (00 a query, 01 a plan,
-// else a table), and two more stand for each of its bytes. The answer is `accepted` with lines and those counted, or `refused` with
-// number and line.
+// Replays cases. A case is a line of standard input: two digits say what it is, and two more stand for each byte of its text. 00 a query, 01 a
+// plan, 02 a table to be read: the answer is `accepted` with lines and those counted, or `refused` with number and line. 03 a query to be
+// planned: the answer is the plan, or the line ff number line(2).
 ghost use mathlib.Core.Path.{_≡_};
 ghost use Prim.Native.Nat.{_+_, _≤_};
 ghost use lib.ListN.{length, take};
 ghost use Rattle.hex.specs.Digits.{bytesOf};
 use frames::first::Reading;
 use frames::first::Text;
+use planner::entry::plan;
+use printing::print_planned;
 use reading::second::read_text;
 
 fn print_two(word: &[u8], a: usize, b: usize) {
@@ -48,13 +50,30 @@ fn decode(line: &[u8], text: &mut [u8]) -> usize
     i
 }
 
+// The longest plan has 20,565 bytes.
+fn plan_room() -> [u8; 20565]
+    ensures { λ r. ⌜ 20565 ≡ length r ⌝ }
+{
+    [0; 20565]
+}
+
+fn plan_case(text: &[u8]) {
+    let mut out = plan_room();
+    let answer = plan(text, &mut out);
+    print_planned(answer, &out);
+}
+
 fn run_case(line: &[u8], text: &mut [u8]) {
     if line.len() < 2 {
         return;
     }
-    let t = text_of(hex::byte_at(line, 0));
+    let kind = hex::byte_at(line, 0);
     let n = decode(&line[2..], text);
-    print_answer(read_text(t, &text[..n]));
+    if kind == 3 {
+        plan_case(&text[..n]);
+        return;
+    }
+    print_answer(read_text(text_of(kind), &text[..n]));
 }
 
 // One byte more of standard input: it is kept in `line`, of which n are there, or ends the case.

@@ -1,10 +1,10 @@
--- `read_texts::decode` meets its contract. The loop's invariant: the bytes so far are the line's. Assumes nothing.
+-- `replay::decode` meets its contract. The loop's invariant: the bytes so far are the line's. Assumes nothing.
 use Prim.Native.Nat.{_-_}
 use borrow.Author.Needs.{needs}
 use lib.ListN.{length}
-use Rattle.read_texts.proofs.Laws.{Decoded, from-start, decoded-next}
-use Rattle.read_texts.proofs.decode.Statement.{statement}
-use Rattle.read_texts.proofs.decode.Tie as tie
+use Rattle.replay.proofs.Laws.{Decoded, from-start, decoded-next}
+use Rattle.replay.proofs.decode.Statement.{statement}
+use Rattle.replay.proofs.decode.Tie as tie
 
 abbrev Inv-loop : tie.InvT-loop
 Inv-loop line text₀ i₀ text i = Decoded line text₀ text i

@@ -1,8 +1,8 @@
--- `read_texts::run_all` meets its contract: it ends, since its turns are counted down. Assumes nothing.
+-- `replay::run_all` meets its contract: it ends, since its turns are counted down. Assumes nothing.
 use borrow.Author.Needs.{needs}
-use Rattle.read_texts.proofs.Laws.{Kept}
-use Rattle.read_texts.proofs.run_all.Statement.{statement}
-use Rattle.read_texts.proofs.run_all.Tie as tie
+use Rattle.replay.proofs.Laws.{Kept}
+use Rattle.replay.proofs.run_all.Statement.{statement}
+use Rattle.replay.proofs.run_all.Tie as tie
 
 abbrev Inv-loop : tie.InvT-loop
 Inv-loop line₀ text₀ kept₀ turns₀ line text kept turns = Kept line₀ text₀ line text 0

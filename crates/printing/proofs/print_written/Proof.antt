@@ -1,9 +1,9 @@
--- `plan::print_plan` meets its contract: the part that is written is as long as it says.
+-- `printing::print_written` meets its contract: the part that is written is as long as it says.
 use mathlib.Core.Path.{sym}
 use lib.Seq.{length-take-le}
 use borrow.Author.Needs.{needs}
-use Rattle.plan.proofs.print_plan.Statement.{statement}
-use Rattle.plan.proofs.print_plan.Tie as tie
+use Rattle.printing.proofs.print_written.Statement.{statement}
+use Rattle.printing.proofs.print_written.Tie as tie
 
 slice-aggregate-write-all : tie.Need-slice-aggregate-write-all
 slice-aggregate-write-all c = sym (length-take-le _ _ (c .before .if1 .taken))
@@ -17,6 +17,6 @@ returns c = search needs
 returns-2 : tie.Need-returns-2
 returns-2 c = search needs
 
-pub print-plan-spec : {M : Type 1} → statement M
-print-plan-spec =
+pub print-written-spec : {M : Type 1} → statement M
+print-written-spec =
     tie.close (tie.spec slice-aggregate-write-all write-all-requires returns returns-2)

@@ -1,8 +1,8 @@
--- `read_texts::take_byte` meets its contract: what is kept stays within the line's room. Assumes nothing.
+-- `replay::take_byte` meets its contract: what is kept stays within the line's room. Assumes nothing.
 use borrow.Author.Needs.{needs}
-use Rattle.read_texts.proofs.Laws.{taken, one-more}
-use Rattle.read_texts.proofs.take_byte.Statement.{statement}
-use Rattle.read_texts.proofs.take_byte.Tie as tie
+use Rattle.replay.proofs.Laws.{taken, one-more}
+use Rattle.replay.proofs.take_byte.Statement.{statement}
+use Rattle.replay.proofs.take_byte.Tie as tie
 
 slice-reshare-prefix-run-case : tie.Need-slice-reshare-prefix-run-case
 slice-reshare-prefix-run-case c = search needs
