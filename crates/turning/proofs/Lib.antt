@@ -1,2 +1,5 @@
 pub mod ShapeLaws
 pub mod GlobalLaws
+pub mod ArrayLaws
+pub mod LookupLaws
+pub mod StepLaws

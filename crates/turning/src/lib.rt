@@ -1,3 +1,6 @@
 // Why the runner turns a plan and a table back, tested on the texts themselves.
+pub mod arrays;
 pub mod globals;
+pub mod lookups;
 pub mod shapes;
+pub mod steps;
