@@ -3,3 +3,5 @@ pub mod GlobalLaws
 pub mod ArrayLaws
 pub mod LookupLaws
 pub mod StepLaws
+pub mod MarkLaws
+pub mod PlanLaws

@@ -160,7 +160,7 @@ pub noting-none : (t F : List ℕ) → F ≡ replicate 256 0 → Noting t F F 0 
 unfolding allRows
 noting-none t F e = record { earlier = []; size = refl; few = omega arith; within = omega arith; shaped = rw e (record { size = refl; is = λ P g same o. rw (blank-at {A = ℕ} 256 0 o) }); rows = refl; is = refl }
 
-fault-stops : (x k n : ℕ) (v : Verdict) → (k ≡ 0 → ⊥) → ofFault x k n v ≡ TurnedBack k x (suc n)
+pub fault-stops : (x k n : ℕ) (v : Verdict) → (k ≡ 0 → ⊥) → ofFault x k n v ≡ TurnedBack k x (suc n)
 fault-stops x zero n v h = absurd (h refl)
 fault-stops x (suc k) n v h = refl
 

@@ -166,7 +166,7 @@ module _ (tb : Table) (F G : List ℕ) (d : Described tb F G) where
 
 -- ---- a Join or not
 
-abbrev joins : Step → Bool
+abbrev pub joins : Step → Bool
 joins (Join v k ls) = true
 joins (ExtractChild v p i) = false
 joins (CheckChildEq p i c) = false
@@ -183,7 +183,7 @@ neither : (t : Bool) (s u : Step) → joins s ≡ false → joins u ≡ false �
 neither true s u p q = p
 neither false s u p q = q
 
-no-join : (f : List ℕ) (k : ℕ) → k ≡ getD f 0 0 → (k ≡ 0x40 → ⊥) → joins (stepOf f) ≡ false
+pub no-join : (f : List ℕ) (k : ℕ) → k ≡ getD f 0 0 → (k ≡ 0x40 → ⊥) → joins (stepOf f) ≡ false
 unfolding stepOf
 no-join f k is h =
     rw (← is, ne-eqb k 0x40 h)

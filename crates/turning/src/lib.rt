@@ -2,5 +2,7 @@
 pub mod arrays;
 pub mod globals;
 pub mod lookups;
+pub mod marks;
+pub mod plan;
 pub mod shapes;
 pub mod steps;
