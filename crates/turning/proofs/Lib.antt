@@ -5,3 +5,4 @@ pub mod LookupLaws
 pub mod StepLaws
 pub mod MarkLaws
 pub mod PlanLaws
+pub mod TurnLaws

@@ -2,12 +2,14 @@
 use Prim.Native.Nat.{ℕ, _<_, _≤_}
 use mathlib.Core.Path.{_≡_}
 use mathlib.Core.Bool.{Bool, true, false}
-use mathlib.Core.List.{List}
+use mathlib.Core.List.{List, []}
 use lib.ListN.{length, getD, replicate}
 use lib.Dec.{eqb}
 use Rattle.base.specs.Choose.{pick}
-use Rattle.frames.specs.Limits.{variablesMost}
-use Rattle.frames.specs.declared.first.Text.the-variants.{Plan}
+use Rattle.frames.specs.Kinds.{table}
+use Rattle.frames.specs.Limits.{variablesMost, globalsMost}
+use Rattle.frames.specs.First.{framesOf}
+use Rattle.frames.specs.declared.first.Text.the-variants.{Plan, Table as TableText}
 use Rattle.frames.specs.declared.first.Reading.the-variants.{Accepted}
 use Rattle.reading.specs.Second.{reading}
 use Rattle.model.specs.Atoms.{Table}
@@ -16,7 +18,7 @@ use Rattle.model.specs.Reading.{boundBy, pickedBy}
 use Rattle.model.specs.Refusing.{runnable, opsBy}
 use Rattle.plans.specs.StepFrames.{stepOf}
 use Rattle.running.specs.Tables.{tableOf, planSteps}
-use Rattle.running.specs.Turning.{stepsPass, turning}
+use Rattle.running.specs.Turning.{Verdict, andThen, ofReading, shapesFrom, stepsPass, turning}
 use Rattle.turning.specs.declared.shapes.Turned.{Turned}
 use Rattle.turning.specs.declared.shapes.Turned.the-variants.{Passed as NoFault}
 use Rattle.turning.specs.Shapes.{verdict}
@@ -70,7 +72,38 @@ pub record StepsTested (p F G : List ℕ) (r : Turned) : Type 0 where
 
 -- ---- the whole
 
--- the verdict on the plan p and the table t; where both pass, G has the classes of the globals
+-- an accepted plan, with arrays that speak of some table
+pub record PlanReady (p F G : List ℕ) : Type 0 where
+  pub lines : ℕ
+  pub counted : ℕ
+  pub accepted : reading Plan p ≡ Accepted lines counted
+  pub table : Table
+  pub described : Described table F G
+
+-- an accepted plan, with room for a class of each global
+pub record PlanAccepted (p G : List ℕ) : Type 0 where
+  pub lines : ℕ
+  pub counted : ℕ
+  pub accepted : reading Plan p ≡ Accepted lines counted
+  pub room : length G ≡ globalsMost
+
+-- where r passes, G has the classes of the globals
+abbrev pub Left : List ℕ → Turned → List ℕ → Type 0
+Left t r G = r ≡ NoFault → G ≡ tableOf t .globals
+
+-- "then tests the table for 11, then each plan line for 10, 9, 11 and the missing global"
+abbrev pub testsOf : List ℕ → List ℕ → Verdict
+testsOf p t = andThen (shapesFrom [] 0 (framesOf t)) (stepsPass (tableOf t) (planSteps p))
+
+pub record Tested (p t : List ℕ) (r : Turned) (G : List ℕ) : Type 0 where
+  pub is : verdict r ≡ testsOf p t
+  pub globals : Left t r G
+
+pub record TableTested (p t : List ℕ) (r : Turned) (G : List ℕ) : Type 0 where
+  pub is : verdict r ≡ andThen (ofReading table (reading TableText t)) (testsOf p t)
+  pub globals : Left t r G
+
+-- the verdict on the plan p and the table t
 pub record Turns (p t : List ℕ) (r : Turned) (G : List ℕ) : Type 0 where
   pub is : verdict r ≡ turning p t
-  pub globals : r ≡ NoFault → G ≡ tableOf t .globals
+  pub globals : Left t r G

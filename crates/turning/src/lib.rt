@@ -6,3 +6,4 @@ pub mod marks;
 pub mod plan;
 pub mod shapes;
 pub mod steps;
+pub mod turn;
