@@ -1,16 +1,15 @@
 -- The globals' classes, one after another. Assumes nothing.
 use Prim.Native.Nat.{ℕ, _+_, _<_, _≤_}
-use mathlib.Core.Path.{_≡_, refl, sym, _∙_, ap}
+use mathlib.Core.Path.{_≡_, refl, sym, _∙_}
 use mathlib.Core.List.{List, [], _∷_}
 use native.Mathlib.Omega.{arith}
 use native.Mathlib.Decide.{ℕ-discrete}
 use lib.ListN.{length, getD, set, length-set}
 use lib.Seq.{getD-set-same, getD-set-other, ext-getD}
 use Rattle.hex.specs.Digits.{bytesOf, shortAt}
-use Rattle.frames.specs.Limits.{globalsMost}
 use Rattle.frames.specs.First.{framesOf}
-use Rattle.reading.specs.Keys.{find, isFound}
-use Rattle.model.specs.Atoms.{unset, Table}
+use Rattle.reading.specs.Keys.{find}
+use Rattle.model.specs.Atoms.{unset}
 use Rattle.model.specs.Tabulate.{tabulate, tabulate-at, tabulate-length}
 use Rattle.running.specs.Tables.{classFrom, globalIn, tableOf}
 

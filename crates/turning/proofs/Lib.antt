@@ -1,3 +1,4 @@
+pub mod WalkLaws
 pub mod ShapeLaws
 pub mod GlobalLaws
 pub mod ArrayLaws

@@ -1,12 +1,12 @@
 -- The lookups of a Join's line, one after another. Proved by the lookup's tag, and by induction on how many.
 use Prim.Native.Nat.{ℕ, suc, _+_, _-_, _*_, _<_, _≤_}
-use mathlib.Core.Path.{_≡_, refl, sym, _∙_, ap}
-use mathlib.Core.Bool.{Bool, true, false, _&&_, not}
+use mathlib.Core.Path.{_≡_, refl, sym, _∙_}
+use mathlib.Core.Bool.{Bool, true, false, _&&_, not, and-true}
 use mathlib.Core.List.{List, [], _∷_}
 use native.Mathlib.Omega.{arith}
 use lib.Dec.{eqb}
-use lib.ListN.{length, getD}
-use borrow.Author.Tests.{eq-eqb, ne-eqb, not-true, not-false}
+use lib.ListN.{getD}
+use borrow.Author.Tests.{ne-eqb, not-true, not-false}
 use Rattle.base.specs.Choose.{pick}
 use Rattle.base.specs.Table.{all}
 use Rattle.model.specs.Atoms.{Operand, local, global, localOf, Lookup, ByOp, ByChildPos, ByRepr, ByContains}
@@ -18,10 +18,6 @@ use Rattle.running.specs.Turning.{globalOf, allGiven}
 use Rattle.turning.specs.Steps.{childFits, given, opCount, lookupsOf, onlyGlobals, readBy, givenBy, fitsBy, otherThan}
 
 -- ---- one lookup, by its tag
-
-pub and-true : (a : Bool) → a && true ≡ a
-and-true true = refl
-and-true false = refl
 
 operand-read : (B : Bound) (c : Operand) → hasAll B (localOf c) ≡ pvIsBound B c
 unfolding hasAll

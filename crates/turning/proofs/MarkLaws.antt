@@ -1,12 +1,12 @@
 -- What a step leaves, by its kind. Assumes nothing.
-use Prim.Native.Nat.{ℕ, zero, suc, _+_, _-_, _<_, _≤_}
-use mathlib.Core.Path.{_≡_, refl, sym, _∙_, ap, subst}
+use Prim.Native.Nat.{ℕ, _<_, _≤_}
+use mathlib.Core.Path.{_≡_, refl, sym, _∙_, ap}
 use mathlib.Core.Bool.{Bool, true, false, not}
-use mathlib.Core.List.{List, [], _∷_}
+use mathlib.Core.List.{List}
 use native.Mathlib.Omega.{arith}
 use lib.Dec.{eqb}
 use lib.ListN.{length, getD, set, length-set}
-use borrow.Author.Tests.{eq-eqb, ne-eqb, eqb-true, eqb-false, not-true, not-false}
+use borrow.Author.Tests.{ne-eqb, eqb-true, not-true, not-false}
 use Rattle.base.specs.Choose.{pick}
 use Rattle.model.specs.Atoms.{Step, Join, ExtractChild, CheckChildEq, CheckEq, CheckEqGlobal, BindGlobal, CopyBinding, Expand, ExtractLitVal, CheckLit, CheckPred}
 use Rattle.model.specs.Bools.{true-false}
@@ -15,7 +15,7 @@ use Rattle.model.specs.Reading.{boundBy, pickedBy}
 use Rattle.model.specs.Refusing.{joinOp, runnable, opsBy}
 use Rattle.plans.specs.StepFrames.{stepOf}
 use Rattle.turning.specs.Steps.{lookupsOf}
-use Rattle.turning.specs.Plans.{bindsTarget, Targeted, Sized, Markable, Stepped}
+use Rattle.turning.specs.Plans.{bindsTarget, Markable, Stepped}
 use Rattle.turning.proofs.StepLaws.{joins, no-join}
 
 put-size : {A : Type 0} (d : A) (l : List A) (i : ℕ) (x : A) → i < length l → length (put d l i x) ≡ length l

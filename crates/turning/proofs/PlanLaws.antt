@@ -5,8 +5,8 @@ use mathlib.Core.Bool.{Bool, true, false}
 use mathlib.Core.List.{List, [], _∷_, map}
 use native.Mathlib.Omega.{arith}
 use native.Mathlib.Numerals.{add-one}
-use lib.Dec.{eqb, ltb}
-use lib.ListN.{length, getD, take, drop, replicate}
+use lib.Dec.{ltb}
+use lib.ListN.{length, getD, take, drop}
 use borrow.Author.Tests.{ltb-true}
 use Rattle.base.specs.Choose.{pick}
 use Rattle.hex.specs.Digits.{bytesOf}
@@ -16,12 +16,11 @@ use Rattle.frames.specs.Limits.{variablesMost}
 use Rattle.frames.specs.Kinds.{kinds, kindAt, plan}
 use Rattle.frames.specs.Fields.{fieldPasses, fieldIn}
 use Rattle.frames.specs.Frames.{passAll, framePasses}
-use Rattle.frames.specs.First.{framesOf, firstLine}
+use Rattle.frames.specs.First.{framesOf}
 use Rattle.frames.specs.declared.fields.Counts.{Counts}
 use Rattle.frames.specs.declared.fields.Test.the-variants.{Range}
-use Rattle.frames.specs.declared.first.Text.the-variants.{Plan, Table as TableText}
-use Rattle.frames.specs.declared.first.Reading.the-variants.{Accepted}
-use Rattle.reading.specs.Second.{reading, countsOf}
+use Rattle.frames.specs.declared.first.Text.the-variants.{Plan}
+use Rattle.reading.specs.Second.{countsOf}
 use Rattle.reading.specs.Walk.{walk-line, frames-step, frames-none, frames-end}
 use Rattle.reading_facts.specs.Passes.{both-hold}
 use Rattle.reading_facts.specs.Whole.{Whole, accepted, Headed, headed}
@@ -31,9 +30,8 @@ use Rattle.model.specs.Reading.{boundBy, pickedBy, ready}
 use Rattle.model.specs.Refusing.{runnable, fits, opsBy}
 use Rattle.plans.specs.StepFrames.{stepOf}
 use Rattle.running.specs.Tables.{planSteps}
-use Rattle.running.specs.Turning.{Verdict, Passed, TurnedBack, ofFault, globalsOf, allGiven, stepFault, stepsFrom, stepsPass}
+use Rattle.running.specs.Turning.{ofFault, globalsOf, allGiven, stepFault, stepsFrom, stepsPass}
 use Rattle.turning.specs.declared.shapes.Turned.the-variants.{Passed as NoFault, TurnedBack as Fault}
-use Rattle.turning.specs.Shapes.{verdict}
 use Rattle.turning.specs.Steps.{Described}
 use Rattle.turning.specs.Plans.{Targeted, Sized, Markable, Stepped, Starting, StepsTested}
 use Rattle.turning.proofs.ShapeLaws.{fault-stops}
@@ -135,15 +133,6 @@ module _ (p F G : List ℕ) (B₀ R₀ : Bound) (O₀ : List ℕ) (B R : Bound) 
     module _ (h : e ≡ length p → ⊥) where
       line : Line p at e
       line = walk-line p at e (s .within) q h
-
-      pub line-from : at ≤ e
-      line-from = line .from
-
-      pub line-within : e ≤ length p
-      line-within = omega (arith, line .within)
-
-      pub line-less : length p - (e + 1) < length p - at
-      line-less = omega (arith, line .within, line .from)
 
       abbrev frame : List ℕ
       frame = bytesOf (take (e - at) (drop at p))

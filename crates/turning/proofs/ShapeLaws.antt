@@ -1,7 +1,7 @@
 -- The shapes of the table's operators, row by row. Proved from the walk over a text's frames.
-use Prim.Native.Nat.{ℕ, zero, suc, _+_, _-_, _*_, _%_, _<_, _≤_}
+use Prim.Native.Nat.{ℕ, zero, suc, _+_, _-_, _*_, _<_, _≤_}
 use mathlib.Core.Path.{_≡_, refl, sym, _∙_, ap}
-use mathlib.Core.Bool.{Bool, true, false, not, _&&_, _||_}
+use mathlib.Core.Bool.{Bool, true, false, not, _&&_, _||_, and-true, and-self, and-assoc}
 use mathlib.Core.List.{List, [], _∷_, _++_, append-assoc, append-nil}
 use native.Mathlib.Omega.{arith}
 use native.Mathlib.Decide.{ℕ-discrete}
@@ -11,7 +11,7 @@ use lib.ListN.{length, getD, take, drop, set, replicate, length-set}
 use lib.Seq.{getD-set-same, getD-set-other}
 use borrow.Author.Tests.{eq-eqb, ne-eqb, not-true, not-false, eqb-true}
 use Rattle.base.specs.Choose.{pick}
-use Rattle.hex.specs.Digits.{digitValue, bytesOf, shortAt}
+use Rattle.hex.specs.Digits.{bytesOf, shortAt}
 use Rattle.hex.specs.Lines.{endOf}
 use Rattle.hex.specs.Cuts.{Line}
 use Rattle.frames.specs.Kinds.{table}
@@ -22,9 +22,9 @@ use Rattle.model.specs.Bound.{blank-at}
 use Rattle.model.specs.Refusing.{allRows}
 use Rattle.plans.specs.StepFrames.{itemsAt}
 use Rattle.running.specs.Tables.{rowOf, rowsIn}
-use Rattle.running.specs.Turning.{Verdict, Passed, TurnedBack, ofFault, sameShape, rowFault, withRow, shapesFrom}
+use Rattle.running.specs.Turning.{Verdict, TurnedBack, ofFault, sameShape, rowFault, withRow, shapesFrom}
 use Rattle.turning.specs.declared.shapes.Turned.the-variants.{Passed as NoFault, TurnedBack as Fault}
-use Rattle.turning.specs.Shapes.{verdict, shapeOf, fitsShape, likeFirst, shapeFault, withShape, RowNoted, Shaped, TableNoted}
+use Rattle.turning.specs.Shapes.{shapeOf, fitsShape, likeFirst, shapeFault, withShape, RowNoted, Shaped, TableNoted}
 
 -- ---- one row
 
@@ -70,22 +70,10 @@ same-by (Literal c o x) (Literal d p y) = refl
 
 -- ---- one row more
 
-and-true : (a : Bool) → a && true ≡ a
-and-true true = refl
-and-true false = refl
-
-and-same : (a : Bool) → a && a ≡ a
-and-same true = refl
-and-same false = refl
-
 all-more : (P : Row → Bool) (o : ℕ) (rows : List Row) (r : Row) → allRows P o (rows ++ r ∷ []) ≡ allRows P o rows && (not (eqb (opOf r) o) || P r)
 unfolding allRows
 all-more P o [] r = and-true (not (eqb (opOf r) o) || P r)
-all-more P o (s ∷ rows) r = rw (all-more P o rows r) (regroup (not (eqb (opOf s) o) || P s) (allRows P o rows) (not (eqb (opOf r) o) || P r))
-  where
-    regroup : (a b c : Bool) → a && (b && c) ≡ (a && b) && c
-    regroup true b c = refl
-    regroup false b c = refl
+all-more P o (s ∷ rows) r = rw (all-more P o rows r) (sym (and-assoc (not (eqb (opOf s) o) || P s) (allRows P o rows) (not (eqb (opOf r) o) || P r)))
 
 module _ (F : List ℕ) (rows : List Row) (s : Shaped F rows) where
   pub fault-same : (f : List ℕ) → shapeFault F f ≡ rowFault rows f
@@ -100,7 +88,7 @@ module _ (F : List ℕ) (rows : List Row) (s : Shaped F rows) where
       first-says g (suc x) q =
           let z : eqb (suc x) 0 ≡ false = ne-eqb (suc x) 0 (λ y. omega arith) in
           let e : shapeOf r ≡ suc x = eqb-true (shapeOf r) (suc x) (rw z at q) in
-          rw (z, e) (and-same (g (suc x)))
+          rw (z, e) (and-self (g (suc x)))
 
       noted : getD (set F (opOf r) (shapeOf r)) (opOf r) 0 ≡ shapeOf r
       noted = getD-set-same F (opOf r) (shapeOf r) 0 (omega (arith, s .size))
@@ -179,15 +167,6 @@ module _ (t F₀ F : List ℕ) (at n : ℕ) (s : Noting t F₀ F at n) where
     module _ (h : e ≡ length t → ⊥) where
       line : Line t at e
       line = walk-line t at e (s .within) p h
-
-      pub line-from : at ≤ e
-      line-from = line .from
-
-      pub line-within : e ≤ length t
-      line-within = omega (arith, line .within)
-
-      pub line-less : length t - (e + 1) < length t - at
-      line-less = omega (arith, line .within, line .from)
 
       abbrev frame : List ℕ
       frame = bytesOf (take (e - at) (drop at t))

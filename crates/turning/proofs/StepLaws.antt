@@ -1,13 +1,13 @@
 -- The tests of a plan's line give the fault that the definition gives. Proved by the step's kind.
-use Prim.Native.Nat.{ℕ, zero, suc, _+_, _<_, _≤_}
+use Prim.Native.Nat.{ℕ, _+_, _<_}
 use mathlib.Core.Path.{_≡_, refl, sym, _∙_, ap}
-use mathlib.Core.Bool.{Bool, true, false, _&&_, _||_, not}
+use mathlib.Core.Bool.{Bool, true, false, _&&_, _||_, not, and-true, and-assoc}
 use mathlib.Core.List.{List, [], _∷_, _++_, flatMap}
 use native.Mathlib.Omega.{arith}
 use native.Mathlib.Decide.{decLt}
 use lib.Dec.{eqb, ltb}
 use lib.ListN.{length, getD}
-use borrow.Author.Tests.{eq-eqb, ne-eqb, lt-ltb, le-ltb, not-true, not-false}
+use borrow.Author.Tests.{ne-eqb, lt-ltb, le-ltb, not-true, not-false}
 use Rattle.base.specs.Choose.{pick}
 use Rattle.base.specs.Table.{all}
 use Rattle.model.specs.Atoms.{local, global, Lookup, ByOp, ByChildPos, ByRepr, ByContains, Step, Join, ExtractChild, CheckChildEq, CheckEq, CheckEqGlobal, BindGlobal, CopyBinding, Expand, ExtractLitVal, CheckLit, CheckPred, Row, Node, Literal, unset, Table, globalClass}
@@ -15,13 +15,12 @@ use Rattle.model.specs.Lists.{one}
 use Rattle.model.specs.Bound.{Bound, has, hasAll, hasNone}
 use Rattle.model.specs.Reading.{lookupReads, namedByRepr, isRepr}
 use Rattle.model.specs.Refusing.{countOps, joinOp, allRows, isLiteral, hasChild, lookupsFit, opAt}
-use Rattle.turning.proofs.LookupLaws.{and-true}
-use Rattle.plans.specs.StepFrames.{itemsAt, stepOf}
+use Rattle.plans.specs.StepFrames.{stepOf}
 use Rattle.running.specs.Turning.{lookupGlobals, allGiven, stepFault}
 use Rattle.turning.specs.declared.steps.Simple.{Simple}
 use Rattle.turning.specs.declared.steps.Simple.the-variants.{Extract, ChildLocal, ChildGlobal, Equal, EqualGlobal, Bind, Copy, ReadLit, NotRun}
 use Rattle.turning.specs.Shapes.{shapeOf}
-use Rattle.turning.specs.Steps.{Described, childFits, literalFits, given, lookupsOf, onlyGlobals, readBy, givenBy, fitsBy, otherThan, targetFree, joinFault, simple, rowRead, childFault, literalFault, simpleFault}
+use Rattle.turning.specs.Steps.{Described, childFits, literalFits, given, lookupsOf, onlyGlobals, readBy, givenBy, fitsBy, otherThan, targetFree, joinFault, simple, childFault, literalFault, simpleFault}
 
 -- ---- choices
 
@@ -199,10 +198,6 @@ lit-by B R n x = by (has B n) (has R n)
     by true false = refl
 
 -- ---- a Join's lookups
-
-and-assoc : (a b c : Bool) → (a && b) && c ≡ a && (b && c)
-and-assoc true b c = refl
-and-assoc false b c = refl
 
 has-both : (B : Bound) (us vs : List ℕ) → hasAll B (us ++ vs) ≡ hasAll B us && hasAll B vs
 unfolding hasAll

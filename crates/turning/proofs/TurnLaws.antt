@@ -1,24 +1,22 @@
 -- The whole test, one part after another. Assumes nothing.
 use Prim.Native.Nat.{ℕ}
-use mathlib.Core.Path.{_≡_, refl, sym, _∙_, ap}
+use mathlib.Core.Path.{_≡_, refl, sym, _∙_}
 use mathlib.Core.Bool.{false}
-use mathlib.Core.List.{List, []}
+use mathlib.Core.List.{List}
 use native.Mathlib.Omega.{arith}
 use lib.ListN.{length, replicate}
-use Rattle.frames.specs.Limits.{globalsMost, variablesMost}
-use Rattle.frames.specs.First.{framesOf}
-use Rattle.frames.specs.Kinds.{plan, table}
+use Rattle.frames.specs.Limits.{globalsMost}
+use Rattle.frames.specs.Kinds.{table}
 use Rattle.frames.specs.declared.first.Text.the-variants.{Plan, Table as TableText}
 use Rattle.frames.specs.declared.first.Reading.{Reading}
 use Rattle.frames.specs.declared.first.Reading.the-variants.{Accepted, Refused}
 use Rattle.reading.specs.Second.{reading}
-use Rattle.model.specs.Atoms.{Table}
-use Rattle.model.specs.Bound.{Bound, blank}
-use Rattle.running.specs.Tables.{rowsIn, tableOf, planSteps}
-use Rattle.running.specs.Turning.{Verdict, andThen, ofReading, shapesFrom, stepsPass, turning}
+use Rattle.model.specs.Bound.{blank}
+use Rattle.running.specs.Tables.{tableOf}
+use Rattle.running.specs.Turning.{turning}
 use Rattle.turning.specs.declared.shapes.Turned.{Turned}
 use Rattle.turning.specs.declared.shapes.Turned.the-variants.{Passed as NoFault, TurnedBack as Fault}
-use Rattle.turning.specs.Shapes.{verdict, Shaped, TableNoted}
+use Rattle.turning.specs.Shapes.{TableNoted}
 use Rattle.turning.specs.Steps.{Described}
 use Rattle.turning.specs.Plans.{Starting, StepsTested, PlanReady, PlanAccepted, Left, Tested, TableTested, Turns}
 

@@ -1,7 +1,7 @@
 -- The tests of a plan's line, by arrays: B bound, R picked, O the operators of the picked, F the shapes of operators, G the classes of globals.
 use Prim.Native.Nat.{ℕ, _+_}
 use mathlib.Core.Path.{_≡_}
-use mathlib.Core.Bool.{Bool, true, false, _&&_, not}
+use mathlib.Core.Bool.{Bool, true, false, not}
 use mathlib.Core.List.{List, []}
 use lib.ListN.{getD}
 use lib.Dec.{eqb, ltb}

@@ -1,10 +1,9 @@
 // The classes of the globals, by the table's frames 32.
 ghost use mathlib.Core.Path.{_≡_};
-ghost use Prim.Native.Nat.{_+_, _<_, _≤_};
+ghost use Prim.Native.Nat.{_+_, _<_};
 ghost use lib.ListN.{length};
 ghost use Rattle.hex.specs.Digits.{bytesOf};
 ghost use Rattle.frames.specs.First.{framesOf};
-ghost use Rattle.model.specs.Atoms.{Table};
 ghost use Rattle.running.specs.Tables.{classFrom, globalIn, tableOf};
 use hex::short_at;
 use query::lookup::find_six;

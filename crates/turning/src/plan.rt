@@ -1,8 +1,5 @@
 // The lines of the plan in turn, and the whole test of a plan and a table.
-ghost use mathlib.Core.Path.{_≡_};
-ghost use Prim.Native.Nat.{_<_, _≤_};
-ghost use lib.ListN.{length};
-ghost use Rattle.hex.specs.Digits.{bytesOf};
+ghost use Prim.Native.Nat.{_<_};
 ghost use Rattle.turning.specs.Plans.{Starting, StepsTested};
 use super::marks::step_marks;
 use super::shapes::Turned;

@@ -1,11 +1,10 @@
 // The shapes of the table's operators: each has the shape of its first row, and a row of another shape is a fault.
 ghost use mathlib.Core.Path.{_≡_};
-ghost use mathlib.Core.List.{[]};
-ghost use Prim.Native.Nat.{_+_, _<_, _≤_};
+ghost use Prim.Native.Nat.{_+_, _<_};
 ghost use lib.Dec.{eqb};
 ghost use lib.ListN.{length, replicate};
 ghost use Rattle.hex.specs.Digits.{bytesOf};
-ghost use Rattle.frames.specs.First.{framesOf, isRow};
+ghost use Rattle.frames.specs.First.{isRow};
 ghost use Rattle.running.specs.Tables.{rowOf};
 ghost use Rattle.turning.specs.Shapes.{shapeOf, fitsShape, RowNoted, TableNoted};
 use frames::fields::wide;

@@ -1,8 +1,6 @@
 // The tests of one line of the plan: 10, 9, 11 and the missing global.
 ghost use mathlib.Core.Path.{_≡_};
-ghost use mathlib.Core.Bool.{Bool};
-ghost use Prim.Native.Nat.{_<_};
-ghost use lib.ListN.{length, getD};
+ghost use lib.ListN.{getD};
 ghost use Rattle.hex.specs.Digits.{bytesOf};
 ghost use Rattle.plans.specs.StepFrames.{stepOf};
 ghost use Rattle.model.specs.Atoms.{Table};
