@@ -32,6 +32,7 @@ fitsShape g s = pick (eqb s 0) true (g s)
 abbrev pub likeFirst : List ℕ → List ℕ → Bool
 likeFirst F f = fitsShape (eqb (shapeOf (rowOf f))) (getD F (getD f 3 0) 0)
 
+-- 11, where it is not; a frame 32 is no row
 abbrev pub shapeFault : List ℕ → List ℕ → ℕ
 shapeFault F f = pick (isRow (getD f 0 0)) (pick (likeFirst F f) 0 11) 0
 

@@ -41,6 +41,7 @@ given G g = not (eqb (getD G g unset) unset)
 abbrev pub lookupsOf : List ℕ → List Lookup
 lookupsOf f = itemsAt lookupAt 4 f 4 (getD f 3 0)
 
+-- a table that is asked for its globals only
 abbrev pub onlyGlobals : List ℕ → Table
 onlyGlobals G = record { rows = []; globals = G }
 
@@ -122,7 +123,8 @@ literalFault F O n = pick (literalFits F (opAt O n)) 0 11
 abbrev pub globalFault : List ℕ → ℕ → ℕ
 globalFault G g = pick (given G g) 0 5
 
--- 9, 11 and 5 of each of these steps
+-- 9, 11 and 5 of each of these steps: "step reads an unbound variable, binds a bound one .., or reads the row of a variable not picked by a Join",
+-- "position or literal unlike its rows", "a used global without frame 32"
 abbrev pub extractFault : List ℕ → Bound → Bound → List ℕ → ℕ → ℕ → ℕ → ℕ
 extractFault F B R O v p i = pick (rowRead B R p) (pick (has B v) 9 (childFault F O p i)) 9
 
@@ -147,6 +149,7 @@ copyFault B v o = pick (has B o) (pick (has B v) 9 0) 9
 abbrev pub readLitFault : List ℕ → Bound → Bound → List ℕ → ℕ → ℕ
 readLitFault F B R O n = pick (rowRead B R n) (literalFault F O n) 9
 
+-- "steps 47, 48, 49, 4c" are 10
 abbrev pub simpleFault : List ℕ → List ℕ → Bound → Bound → List ℕ → Simple → ℕ
 simpleFault F G B R O (Extract v p i) = extractFault F B R O v p i
 simpleFault F G B R O (ChildLocal p i v) = localFault F B R O p i v
