@@ -1,0 +1,9 @@
+pub mod WalkLaws
+pub mod ShapeLaws
+pub mod GlobalLaws
+pub mod ArrayLaws
+pub mod LookupLaws
+pub mod StepLaws
+pub mod MarkLaws
+pub mod PlanLaws
+pub mod TurnLaws

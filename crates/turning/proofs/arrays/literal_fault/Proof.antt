@@ -1,0 +1,20 @@
+-- `turning::arrays::literal_fault` meets its contract: by what fits.
+use Rattle.turning.proofs.ArrayLaws.{literal-passes, literal-fails}
+use borrow.Author.Needs.{needs}
+use Rattle.turning.proofs.arrays.literal_fault.Statement.{statement}
+use Rattle.turning.proofs.arrays.literal_fault.Tie as tie
+
+op-at-requires : tie.Need-op-at-requires
+op-at-requires c κs = search needs
+
+literal-fits-requires : tie.Need-literal-fits-requires
+literal-fits-requires c κs = search needs
+
+returns : tie.Need-returns
+returns c = search literal-passes
+
+returns-2 : tie.Need-returns-2
+returns-2 c = search literal-fails
+
+pub literal-fault-spec : {M : Type 1} → statement M
+literal-fault-spec = tie.close (tie.spec op-at-requires literal-fits-requires returns returns-2)

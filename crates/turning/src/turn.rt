@@ -1,0 +1,57 @@
+// The whole test of a plan and a table: the plan is read, then the table, then the table's shapes and the plan's steps are tested.
+ghost use mathlib.Core.Path.{_≡_};
+ghost use lib.ListN.{length};
+ghost use Rattle.turning.specs.Plans.{StepsTested, PlanReady, PlanAccepted, Tested, TableTested, Turns};
+use super::globals::global_classes;
+use super::plan::steps_fault;
+use super::shapes::Turned;
+use super::shapes::shapes_fault;
+use frames::first::Reading;
+use frames::first::Text;
+use reading::second::read_text;
+
+// The steps of an accepted plan, over a table whose shapes are noted.
+fn plan_back(plan: &[u8], shapes: &[usize], globals: &[u16]) -> Turned
+    requires { ⌜ PlanReady (now plan) (now shapes) (now globals) ⌝ }
+    ensures { λ r. ⌜ StepsTested (now (plan .entry)) (now (shapes .entry)) (now (globals .entry)) r ⌝ }
+{
+    let mut bound = [false; 64];
+    let mut picked = [false; 64];
+    let mut ops = [0u8; 64];
+    steps_fault(plan, &mut bound, &mut picked, &mut ops, shapes, globals)
+}
+
+// The tests behind the reading of both texts.
+fn tests_back(plan: &[u8], table: &[u8], globals: &mut [u16]) -> Turned
+    requires { ⌜ PlanAccepted (now plan) (now globals) ⌝ }
+    ensures { λ r. ⌜ Tested (now (plan .entry)) (now (table .entry)) r (now (globals .exit)) ⌝ }
+{
+    let mut shapes = [0usize; 256];
+    if let Turned::TurnedBack(k, text, line) = shapes_fault(table, &mut shapes) {
+        return Turned::TurnedBack(k, text, line);
+    }
+    global_classes(table, globals);
+    plan_back(plan, &shapes, globals)
+}
+
+// The table behind an accepted plan.
+fn table_back(plan: &[u8], table: &[u8], globals: &mut [u16]) -> Turned
+    requires { ⌜ PlanAccepted (now plan) (now globals) ⌝ }
+    ensures { λ r. ⌜ TableTested (now (plan .entry)) (now (table .entry)) r (now (globals .exit)) ⌝ }
+{
+    match read_text(Text::Table, table) {
+        Reading::Refused(k, line) => Turned::TurnedBack(k, 2, line),
+        Reading::Accepted(_, _) => tests_back(plan, table, globals),
+    }
+}
+
+// The first reason to turn the texts back. Where there is none, the globals have their classes.
+pub fn turn_back(plan: &[u8], table: &[u8], globals: &mut [u16]) -> Turned
+    requires { ⌜ length (now globals) ≡ 16 ⌝ }
+    ensures { λ r. ⌜ Turns (now (plan .entry)) (now (table .entry)) r (now (globals .exit)) ⌝ }
+{
+    match read_text(Text::Plan, plan) {
+        Reading::Refused(k, line) => Turned::TurnedBack(k, 1, line),
+        Reading::Accepted(_, _) => table_back(plan, table, globals),
+    }
+}
