@@ -1,5 +1,10 @@
 // Answers on standard output, as the programs print them.
+use entries::run::Outcome;
 use planner::entry::Planned;
+use writing::bytes::put_end;
+use writing::bytes::put_four;
+use writing::bytes::put_word;
+use writing::lines::line_of_five;
 use writing::lines::line_of_four;
 
 // A refused query: the line ff number line(2).
@@ -22,5 +27,52 @@ pub fn print_planned(answer: Planned, out: &[u8]) {
     match answer {
         Planned::Written(size, _, _, _) => print_written(out, size),
         Planned::Refused(number, line) => print_refusal(number, line),
+    }
+}
+
+fn high(x: u64) -> u32 {
+    (x / 0x1_0000_0000 % 0x1_0000_0000) as u32
+}
+
+fn low(x: u64) -> u32 {
+    (x % 0x1_0000_0000) as u32
+}
+
+// The end of a run: the line 51 0000 status(1) tries(8) matches(4).
+fn print_end(status: u8, tries: u64, matches: u64) {
+    let mut out = [0u8; 33];
+    let a = put_four(&mut out, 0, 0x51, 0, 0, status);
+    let b = put_word(&mut out, a, high(tries));
+    let c = put_word(&mut out, b, low(tries));
+    let d = put_word(&mut out, c, low(matches));
+    let _ = put_end(&mut out, d);
+    io::write_all(1, &out);
+}
+
+// Refused texts: the line ff number line(2) text.
+fn print_turned(number: u8, text: u8, line: usize) {
+    let mut out = [0u8; 11];
+    let high = (line / 256 % 256) as u8;
+    let low = (line % 256) as u8;
+    let _ = line_of_five(&mut out, 0, 0xff, number, high, low, text);
+    io::write_all(1, &out);
+}
+
+// The match lines, and the end of the run.
+fn print_ran(out: &[u8], status: u8, tries: u64, matches: u64, written: usize) {
+    print_written(out, written);
+    print_end(status, tries, matches);
+}
+
+pub fn print_run(answer: Outcome, out: &[u8]) {
+    match answer {
+        Outcome::Refused(number, text, line) => print_turned(number, text, line),
+        Outcome::Ran(status, tries, matches, written) => print_ran(
+            out,
+            status,
+            tries,
+            matches,
+            written,
+        ),
     }
 }

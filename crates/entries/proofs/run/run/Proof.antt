@@ -2,45 +2,31 @@ use Rattle.entries.proofs.EntryLaws.{passes, run-back, run-whole}
 use borrow.Author.Needs.{needs}
 use Rattle.entries.proofs.run.run.Statement.{statement}
 use Rattle.entries.proofs.run.run.Tie as tie
-use Rattle.entries.proofs.run.run.Reads as reads
-use Rattle.entries.proofs.run.run.Lts as lts
-use Rattle.entries.proofs.run.ran.Reads as ran-reads
-use Rattle.runner.proofs.entry.run_passed.Reads as run-passed-reads
-use Rattle.turning.proofs.turn.turn_back.Reads as turn-back-reads
 
--- src/run.rt:28:34
 slice-aggregate-turn-back : tie.Need-slice-aggregate-turn-back
 slice-aggregate-turn-back c = search needs
 
--- src/run.rt:28:11
 turn-back-requires : tie.Need-turn-back-requires
 turn-back-requires c κs = search needs
 
--- src/run.rt:29:28
 enum-known-number : tie.Need-enum-known-number
 enum-known-number c = search needs
 
--- src/run.rt:30:66
 enum-told : tie.Need-enum-told
 enum-told c = search needs
 
--- src/run.rt:30:31
 run-passed-requires : tie.Need-run-passed-requires
 run-passed-requires c κs = passes _ _ (c .before .before .before .before .turn-back .result) (c .before .before .before .before .turn-back .ensures .is) (c .before .enum-told .given .1)
 
--- src/run.rt:30:27
 ran-requires : tie.Need-ran-requires
 ran-requires c κs = search needs
 
--- src/run.rt:24:1
 returns : tie.Need-returns
 returns c = run-back _ _ (c .before .before .before .before .turn-back .result) (c .before .before .before .before .turn-back .ensures .is) _ _ _ _ _ (c .before .number .given .1)
 
--- src/run.rt:24:1
 same-length : tie.Need-same-length
 same-length c = search needs
 
--- src/run.rt:24:1
 returns-2 : tie.Need-returns-2
 returns-2 c = run-whole _ _ (c .before .before .before .before .before .before .before .before .turn-back .result) (c .before .before .before .before .before .before .before .before .turn-back .ensures .is) _ _ _ (c .before .before .before .before .before .enum-told .given .1) _ (c .ran .result) (c .ran .ensures) (c .before .before .before .run-passed .ensures)
 

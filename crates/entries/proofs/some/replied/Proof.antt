@@ -1,10 +1,7 @@
 use Rattle.entries.proofs.EntryLaws.{replies}
 use Rattle.entries.proofs.some.replied.Statement.{statement}
 use Rattle.entries.proofs.some.replied.Tie as tie
-use Rattle.entries.proofs.some.replied.Reads as reads
-use Rattle.entries.proofs.some.replied.Lts as lts
 
--- src/some.rt:42:1
 returns : tie.Need-returns
 returns c = replies _ _ (c .pre)
 

@@ -2,46 +2,31 @@ use Rattle.entries.proofs.EntryLaws.{passes, some-back, some-whole}
 use borrow.Author.Needs.{needs}
 use Rattle.entries.proofs.some.some_match.Statement.{statement}
 use Rattle.entries.proofs.some.some_match.Tie as tie
-use Rattle.entries.proofs.some.some_match.Reads as reads
-use Rattle.entries.proofs.some.some_match.Lts as lts
-use Rattle.entries.proofs.some.first.Reads as first-reads
-use Rattle.entries.proofs.some.rejected.Reads as rejected-reads
-use Rattle.runner.proofs.entry.first_passed.Reads as first-passed-reads
-use Rattle.turning.proofs.turn.turn_back.Reads as turn-back-reads
 
--- src/some.rt:75:34
 slice-aggregate-turn-back : tie.Need-slice-aggregate-turn-back
 slice-aggregate-turn-back c = search needs
 
--- src/some.rt:75:11
 turn-back-requires : tie.Need-turn-back-requires
 turn-back-requires c κs = search needs
 
--- src/some.rt:76:28
 enum-known-number : tie.Need-enum-known-number
 enum-known-number c = search needs
 
--- src/some.rt:76:51
 rejected-requires : tie.Need-rejected-requires
 rejected-requires c κs = search needs
 
--- src/some.rt:77:33
 enum-told : tie.Need-enum-told
 enum-told c = search needs
 
--- src/some.rt:77:33
 first-passed-requires : tie.Need-first-passed-requires
 first-passed-requires c κs = passes _ _ (c .before .before .before .turn-back .result) (c .before .before .before .turn-back .ensures .is) (c .enum-told .given .1)
 
--- src/some.rt:77:27
 first-requires : tie.Need-first-requires
 first-requires c κs = search needs
 
--- src/some.rt:71:1
 returns : tie.Need-returns
 returns c = some-back _ _ (c .before .before .before .before .before .turn-back .result) (c .before .before .before .before .before .turn-back .ensures .is) _ _ _ _ (c .before .before .number .given .1) (c .rejected .result) (c .rejected .ensures)
 
--- src/some.rt:71:1
 returns-2 : tie.Need-returns-2
 returns-2 c = some-whole _ _ (c .before .before .before .before .before .turn-back .result) (c .before .before .before .before .before .turn-back .ensures .is) _ (c .before .before .enum-told .given .1) (c .before .first-passed .result) (c .first .result) (c .first .ensures) (c .before .first-passed .ensures)
 
