@@ -1,14 +1,17 @@
 // Replays cases. A case is a line of standard input: two digits say what it is, and two more stand for each byte of its text. 00 a query, 01 a
 // plan, 02 a table to be read: the answer is `accepted` with lines and those counted, or `refused` with number and line. 03 a query to be
-// planned: the answer is the plan, or the line ff number line(2).
+// planned: the answer is the plan, or the line ff number line(2). 04 a run: allowance(8) room(4) length(4), a plan of that length and a table; the
+// answer is what the program `run` prints, and how many bytes behind the match lines kept their value.
 ghost use mathlib.Core.Path.{_≡_};
 ghost use Prim.Native.Nat.{_+_, _≤_};
 ghost use lib.ListN.{length, take};
 ghost use Rattle.hex.specs.Digits.{bytesOf};
+use entries::run::run;
 use frames::first::Reading;
 use frames::first::Text;
 use planner::entry::plan;
 use printing::print_planned;
+use printing::print_run;
 use reading::second::read_text;
 
 fn print_two(word: &[u8], a: usize, b: usize) {
@@ -63,11 +66,62 @@ fn plan_case(text: &[u8]) {
     print_planned(answer, &out);
 }
 
+// Room that no line writes: each byte is aa.
+fn marked_room() -> [u8; 65536]
+    ensures { λ r. ⌜ 65536 ≡ length r ⌝ }
+{
+    [0xaa; 65536]
+}
+
+// How many bytes at the end of an output are as they were.
+fn kept(out: &[u8]) -> usize {
+    let mut i = out.len();
+    while 0 < i {
+        if out[i - 1] != 0xaa {
+            return out.len() - i;
+        }
+        i -= 1;
+    }
+    out.len()
+}
+
+fn run_into(plan: &[u8], table: &[u8], allowance: u64, out: &mut [u8]) {
+    let answer = run(plan, table, allowance, out);
+    print_run(answer, out);
+    io::print_decimal(1, kept(out) as u64);
+    io::write_all(1, b"\n");
+}
+
+fn run_texts(plan: &[u8], table: &[u8], allowance: u64, room: usize) {
+    let mut out = marked_room();
+    if room <= 65536 {
+        run_into(plan, table, allowance, &mut out[..room]);
+    }
+}
+
+// A run: its numbers, its plan and its table.
+fn run_numbers(case: &[u8], text: &mut [u8], other: &mut [u8]) {
+    let allowance = hex::long_at(case, 0);
+    let room = hex::word_at(case, 8) as usize;
+    let cut = 32 + 2 * (hex::word_at(case, 12) as usize);
+    if case.len() < cut {
+        return;
+    }
+    let n = decode(&case[32..cut], text);
+    let m = decode(&case[cut..], other);
+    run_texts(&text[..n], &other[..m], allowance, room);
+}
+
 fn run_case(line: &[u8], text: &mut [u8]) {
     if line.len() < 2 {
         return;
     }
     let kind = hex::byte_at(line, 0);
+    if kind == 4 {
+        let mut other = text_room();
+        run_numbers(&line[2..], text, &mut other);
+        return;
+    }
     let n = decode(&line[2..], text);
     if kind == 3 {
         plan_case(&text[..n]);
