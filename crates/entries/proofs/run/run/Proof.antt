@@ -1,3 +1,4 @@
+-- `entries::run::run` meets its contract: by what the tests say.
 use Rattle.entries.proofs.EntryLaws.{passes, run-back, run-whole}
 use borrow.Author.Needs.{needs}
 use Rattle.entries.proofs.run.run.Statement.{statement}

@@ -1,3 +1,4 @@
+-- `entries::some::first` meets its contract: by the status.
 use Rattle.entries.proofs.EntryLaws.{first-none, first-spent, first-match}
 use borrow.Author.Needs.{needs}
 use Rattle.entries.proofs.some.first.Statement.{statement}

@@ -1,3 +1,4 @@
+-- `entries::some::replied` meets its contract: a kind below 3 is no refusal.
 use Rattle.entries.proofs.EntryLaws.{replies}
 use Rattle.entries.proofs.some.replied.Statement.{statement}
 use Rattle.entries.proofs.some.replied.Tie as tie

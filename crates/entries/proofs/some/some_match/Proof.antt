@@ -1,3 +1,4 @@
+-- `entries::some::some_match` meets its contract: by what the tests say.
 use Rattle.entries.proofs.EntryLaws.{passes, some-back, some-whole}
 use borrow.Author.Needs.{needs}
 use Rattle.entries.proofs.some.some_match.Statement.{statement}

@@ -1,0 +1,106 @@
+-- `replay::run_numbers` meets its contract: each part is within the case.
+use Rattle.replay.proofs.Laws.{taken}
+use borrow.Author.Needs.{needs}
+use Rattle.replay.proofs.run_numbers.Statement.{statement}
+use Rattle.replay.proofs.run_numbers.Tie as tie
+
+long-at-requires : tie.Need-long-at-requires
+long-at-requires c κs = search needs
+
+word-at-requires : tie.Need-word-at-requires
+word-at-requires c κs = search needs
+
+cast-room : tie.Need-cast-room
+cast-room c = search needs
+
+word-at-requires-2 : tie.Need-word-at-requires-2
+word-at-requires-2 c κs = search needs
+
+cast-cut : tie.Need-cast-cut
+cast-cut c = search needs
+
+mul-cut : tie.Need-mul-cut
+mul-cut c = search needs
+
+add-cut : tie.Need-add-cut
+add-cut c = search needs
+
+returns : tie.Need-returns
+returns c = search needs
+
+sub-decode : tie.Need-sub-decode
+sub-decode c = search needs
+
+part-decode-start : tie.Need-part-decode-start
+part-decode-start c = search needs
+
+part-decode-end : tie.Need-part-decode-end
+part-decode-end c = search needs
+
+decode-requires : tie.Need-decode-requires
+decode-requires c κs = search needs
+
+sub-decode-2 : tie.Need-sub-decode-2
+sub-decode-2 c = search needs
+
+part-decode-start-2 : tie.Need-part-decode-start-2
+part-decode-start-2 c = search needs
+
+part-decode-end-2 : tie.Need-part-decode-end-2
+part-decode-end-2 c = search needs
+
+decode-requires-2 : tie.Need-decode-requires-2
+decode-requires-2 c κs = search needs
+
+slice-reshare-prefix-run-texts : tie.Need-slice-reshare-prefix-run-texts
+slice-reshare-prefix-run-texts c = search needs
+
+slice-aggregate-run-texts : tie.Need-slice-aggregate-run-texts
+slice-aggregate-run-texts c = search taken
+
+slice-reshare-prefix-run-texts-2 : tie.Need-slice-reshare-prefix-run-texts-2
+slice-reshare-prefix-run-texts-2 c = search needs
+
+slice-aggregate-run-texts-2 : tie.Need-slice-aggregate-run-texts-2
+slice-aggregate-run-texts-2 c = search taken
+
+run-texts-requires : tie.Need-run-texts-requires
+run-texts-requires c κs = search needs
+
+same-length : tie.Need-same-length
+same-length c = search needs
+
+same-length-2 : tie.Need-same-length-2
+same-length-2 c = search needs
+
+returns-2 : tie.Need-returns-2
+returns-2 c = search needs
+
+pub run-numbers-spec : {M : Type 1} → statement M
+run-numbers-spec =
+    tie.close
+    (tie.spec
+    long-at-requires
+    word-at-requires
+    cast-room
+    word-at-requires-2
+    cast-cut
+    mul-cut
+    add-cut
+    returns
+    sub-decode
+    part-decode-start
+    part-decode-end
+    decode-requires
+    sub-decode-2
+    part-decode-start-2
+    part-decode-end-2
+    decode-requires-2
+    slice-reshare-prefix-run-texts
+    slice-aggregate-run-texts
+    slice-reshare-prefix-run-texts-2
+    slice-aggregate-run-texts-2
+    run-texts-requires
+    same-length
+    same-length-2
+    returns-2)
