@@ -10,3 +10,4 @@ pub mod Found
 pub mod SecondEntry
 pub mod AlikeLines
 pub mod Worked
+pub mod Marked

@@ -74,7 +74,7 @@ table =
     }
     ∷ []
 
-abbrev answered : Row → Result
+abbrev pub answered : Row → Result
 answered r = plan (r .query) (r .lent)
 
 -- numbers that are computed, and what they are
