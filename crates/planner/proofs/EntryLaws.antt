@@ -4,12 +4,11 @@ use mathlib.Core.Path.{_≡_, refl, sym, _∙_, ap, subst}
 use mathlib.Core.Bool.{Bool, true, false, not}
 use mathlib.Core.List.{List, [], _∷_, _++_, map, List·Memᴰ, List·Memᴰ·head, List·Memᴰ·tail}
 use native.Mathlib.Omega.{arith}
-use lib.Dec.{ltb, leb}
+use lib.Dec.{leb}
 use lib.ListN.{length, getD, take, drop, replicate}
 use lib.Seq.{sets-eq, getD-take, length-take-le}
 use lib.Ieee.{Float}
 use borrow.Author.Tests.{lt-ltb, le-ltb, leb-true, leb-false, le-leb}
-use Rattle.hex.specs.Digits.{bytesOf}
 use Rattle.frames.specs.First.{framesOf}
 use Rattle.frames.specs.declared.first.Text.the-variants.{Query}
 use Rattle.frames.specs.declared.first.Reading.{Reading}
@@ -17,32 +16,28 @@ use Rattle.frames.specs.declared.first.Reading.the-variants.{Accepted, Refused}
 use Rattle.reading.specs.Second.{countsOf, reading}
 use Rattle.measure.specs.declared.SamplerConfig.{SamplerConfig}
 use Rattle.query.specs.Statistics.{settings}
-use Rattle.query.specs.declared.statistics.Sampled.{Sampled}
 use Rattle.query.specs.declared.statistics.Sampled.the-variants.{On, Off}
 use Rattle.model.specs.Bound.{most, blank}
 use Rattle.model.specs.Tabulate.{tabulate-mem}
 use Rattle.model.specs.Scheduling.{State, atomOf, numbers}
-use Rattle.cost.specs.QueryAtoms.{atomFrames}
-use Rattle.cost.specs.Choice.{planned, remembered}
+use Rattle.cost.specs.Choice.{remembered}
 use Rattle.plans.specs.StepFrames.{frameOf, headerOf}
 use Rattle.plans.specs.PlanText.{textOf, textLength, planText}
 use Rattle.plans.specs.PlanRead.{plan-length}
-use Rattle.plan_facts.specs.Remembered.{FewKeys, nothing-sampled}
-use Rattle.plan_facts.specs.QueryPlans.{ReadBack}
-use Rattle.lowering.specs.Eager.{lineAt, Located, atomsOf}
+use Rattle.plan_facts.specs.Remembered.{nothing-sampled}
+use Rattle.lowering.specs.Eager.{Located, atomsOf}
 use Rattle.lowering.specs.Places.{Places, located}
 use Rattle.pricing.specs.Remembering.{Samples}
 use Rattle.lowering.proofs.OperandLaws.{is-true, is-false}
 use Rattle.scheduling.specs.Rounds.{Unplanned, Scheduling}
 use Rattle.scheduling.specs.declared.schedule.Scheduled.{Scheduled}
-use Rattle.writing.specs.Emitting.{Emittable}
 use Rattle.writing.specs.Steps.{stepsAlong, countAlong, lowered-steps, lowered-count, Ordered, PutsSteps}
 use Rattle.writing.specs.Written.{written, PutsFrames}
 use Rattle.writing.proofs.PutLaws.{frames-then}
 use Rattle.planner.specs.Planner.{Result, stepsOf, talliedOf, rejectedOf, planOf, fitted, plan}
 use Rattle.planner.specs.Promised.{read-back}
 use Rattle.planner.specs.Entry.{resultOf, Accepts}
-use Rattle.planner.specs.Accepted.{frames-few, atom-lines, atom-items, few-keys, small-settings, Small}
+use Rattle.planner.specs.Accepted.{frames-few, atom-lines, atom-items, few-keys, small-settings}
 use Rattle.planner.specs.declared.entry.Planned.the-variants.{Written as Wrote, Refused as TurnsBack}
 
 -- ---- the order

@@ -1,6 +1,6 @@
 -- The cheapest of the atoms that are left. Proved atom by atom, from what each cost stands for.
 use Prim.Native.Nat.{ℕ, suc, _+_, _<_, _≤_}
-use mathlib.Core.Path.{_≡_, refl, sym, _∙_, ap, subst}
+use mathlib.Core.Path.{_≡_, refl, sym, _∙_}
 use mathlib.Core.Bool.{Bool, true, false, not, _&&_}
 use mathlib.Core.Option.{Option, none, some}
 use mathlib.Core.List.{List, [], _∷_}
@@ -23,7 +23,6 @@ use Rattle.cost.specs.Emitters.{Emitters}
 use Rattle.cost.specs.Sampling.{Tally}
 use Rattle.cost.specs.Costs.{Costed, estimateCost}
 use Rattle.cost.specs.Memo.{tallyAt}
-use Rattle.cost.specs.declared.memo.Tallies.{Tallies}
 use Rattle.plan_facts.specs.Remembered.{Grows, grows-self, cost-grows}
 use Rattle.lowering.specs.Eager.{lineAt, Located, atomsOf}
 use Rattle.lowering.specs.AtomLines.{AtomLine}

@@ -1,21 +1,20 @@
 -- The greedy loop: what is left of it gives what the whole gives. Proved round by round; the memo's room from its growth.
-use Prim.Native.Nat.{ℕ, zero, suc, _+_, _-_, _<_, _≤_}
+use Prim.Native.Nat.{ℕ, suc, _+_, _-_, _<_, _≤_}
 use mathlib.Core.Path.{_≡_, refl, sym, _∙_, ap, subst}
 use mathlib.Core.Logic.{_⊎_, inl, inr}
 use mathlib.Core.Bool.{Bool, true, false, not, _&&_}
 use mathlib.Core.Option.{Option, none, some}
 use mathlib.Core.List.{List, [], _∷_, _++_, map, List·Memᴰ, List·Memᴰ·not-nil, List·Memᴰ·append-cases}
 use native.Mathlib.Omega.{arith}
-use native.Mathlib.Numerals.{add-one}
-use lib.ListN.{length, getD, take}
+use lib.ListN.{length, take}
 use lib.Ieee.{Float, lt}
 use Rattle.base.specs.Choose.{pick}
 use Rattle.frames.specs.First.{framesOf}
 use Rattle.model.specs.Atoms.{Atom, Step}
 use Rattle.model.specs.Bound.{Bound, has, add, most, blank, has-blank}
-use Rattle.model.specs.Tabulate.{tabulate, tabulate-length, At, tabulate-mem}
+use Rattle.model.specs.Tabulate.{tabulate, tabulate-length, tabulate-mem}
 use Rattle.model.specs.Lowering.{Lowered, done}
-use Rattle.model.specs.Scheduling.{State, Chosen, Fair, scans, unlowered, lowerEager, emitAt, goOn, roundsUpTo, atomOf, numbers}
+use Rattle.model.specs.Scheduling.{State, Chosen, scans, unlowered, lowerEager, emitAt, goOn, roundsUpTo, atomOf, numbers}
 use Rattle.model.specs.Cheapest.{Bid, Scan, scan, bidder, better, wants, cheapest}
 use Rattle.query.specs.declared.statistics.Sampled.{Sampled}
 use Rattle.cost.specs.Emitters.{Emitters, decode, recordAtom, recordEmitters}
@@ -24,13 +23,13 @@ use Rattle.cost.specs.Costs.{Costed, estimateCost}
 use Rattle.cost.specs.Memo.{memoAt, tallyAt}
 use Rattle.cost.specs.Choice.{Memory, recorded, cost, emittedBy, byCost, choose, choose-fair, planned, rememberOn, memoryLoop, remembered}
 use Rattle.cost.specs.declared.memo.Tallies.{Tallies}
-use Rattle.plan_facts.specs.Remembered.{Grows, loop-grows}
-use Rattle.lowering.specs.Eager.{state, Went, LoweredEager, Located, Ready, atomsOf}
+use Rattle.plan_facts.specs.Remembered.{loop-grows}
+use Rattle.lowering.specs.Eager.{state, Went, Located, Ready, atomsOf}
 use Rattle.lowering.proofs.EagerLaws.{lowered-then}
 use Rattle.pricing.specs.Remembering.{Samples, Remembers}
 use Rattle.scheduling.proofs.ChoiceLaws.{is-true, is-false}
-use Rattle.scheduling.specs.Choosing.{bidOf, orBest, considered, candidates, Chose}
-use Rattle.scheduling.specs.Rounds.{Chooses, TakesNext, roundTally, RoundRoom, Unplanned, Scheduling}
+use Rattle.scheduling.specs.Choosing.{bidOf, orBest, candidates}
+use Rattle.scheduling.specs.Rounds.{Chooses, TakesNext, RoundRoom, Unplanned, Scheduling}
 use Rattle.scheduling.specs.declared.schedule.Round.{Round}
 use Rattle.scheduling.specs.declared.schedule.Scheduled.{Scheduled}
 

@@ -1,8 +1,8 @@
 -- A round of the scheduler: an eager round, the choice, and the atom chosen. Proved from what each of them does.
-use Prim.Native.Nat.{ℕ, zero, suc, _+_, _<_, _≤_}
+use Prim.Native.Nat.{ℕ, _+_, _<_, _≤_}
 use mathlib.Core.Path.{_≡_, refl, sym, _∙_, ap, subst}
-use mathlib.Core.Logic.{_⊎_, inl, inr}
-use mathlib.Core.Bool.{Bool, true, false, not, _&&_}
+use mathlib.Core.Logic.{_⊎_}
+use mathlib.Core.Bool.{Bool, true, false, _&&_}
 use mathlib.Core.Option.{Option, none, some}
 use mathlib.Core.List.{List, [], _∷_, _++_, List·Memᴰ}
 use native.Mathlib.Omega.{arith}
@@ -13,11 +13,11 @@ use lib.Seq.{take-suc, take-suc-set, take-length}
 use lib.Ieee.{Float}
 use Rattle.hex.specs.Digits.{bytesOf}
 use Rattle.frames.specs.First.{framesOf}
-use Rattle.model.specs.Atoms.{Atom, Plain, Lit, LitBind, Eq, EqGlobal, Pred, Variadic, Step}
+use Rattle.model.specs.Atoms.{Atom, Plain, Lit, LitBind, Eq, EqGlobal, Pred, Variadic}
 use Rattle.model.specs.Bound.{Bound, has, add, most}
 use Rattle.model.specs.Tabulate.{mem-tabulate}
 use Rattle.model.specs.Lowering.{Emitted, lower}
-use Rattle.model.specs.Scheduling.{State, scans, emitAt, unlowered, atomOf, numbers}
+use Rattle.model.specs.Scheduling.{State, scans, emitAt, atomOf, numbers}
 use Rattle.model.specs.Scheduled.{unlowered-lt}
 use Rattle.query.specs.declared.statistics.Sampled.{Sampled}
 use Rattle.cost.specs.QueryAtoms.{atomOfFrame}
@@ -25,7 +25,7 @@ use Rattle.cost.specs.Emitters.{Emitters, recordAtom, recordEmitters}
 use Rattle.cost.specs.Memo.{tallyAt}
 use Rattle.cost.specs.declared.memo.Tallies.{Tallies}
 use Rattle.lowering.specs.AtomLines.{AtomLine, lowers, boundBehind, Lowers}
-use Rattle.lowering.specs.Eager.{state, Went, LoweredEager, lineAt, Located, Ready, atomsOf}
+use Rattle.lowering.specs.Eager.{Went, LoweredEager, lineAt, Located, Ready, atomsOf}
 use Rattle.lowering.proofs.EagerLaws.{went-one}
 use Rattle.scheduling.specs.Choosing.{candidates, Chose}
 use Rattle.scheduling.specs.Rounds.{Takes, Chooses, TakesNext, roundTally, RoundRoom}

@@ -8,8 +8,8 @@ use lib.Ieee.{Float, lt}
 use Rattle.base.specs.Choose.{pick}
 use Rattle.model.specs.Atoms.{Atom}
 use Rattle.model.specs.Bound.{Bound, has}
-use Rattle.model.specs.Scheduling.{State, scans, atomOf, numbers}
-use Rattle.model.specs.Cheapest.{Priced, Bid, Scan, better, scan}
+use Rattle.model.specs.Scheduling.{scans, atomOf, numbers}
+use Rattle.model.specs.Cheapest.{Priced, Bid, Scan, scan}
 use Rattle.query.specs.declared.statistics.Sampled.{Sampled}
 use Rattle.cost.specs.Emitters.{Emitters}
 use Rattle.cost.specs.Sampling.{Tally}

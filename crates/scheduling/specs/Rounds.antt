@@ -1,10 +1,10 @@
 -- The rounds of the scheduler over arrays: the atoms that were lowered, in order, and what the costs remember.
 use Prim.Native.Nat.{ℕ, _+_, _<_, _≤_}
 use mathlib.Core.Path.{_≡_}
-use mathlib.Core.Bool.{Bool, true, false}
-use mathlib.Core.Option.{Option, none, some}
-use mathlib.Core.List.{List, [], _∷_, List·Memᴰ}
-use lib.ListN.{length, getD, take, replicate}
+use mathlib.Core.Bool.{Bool}
+use mathlib.Core.Option.{none}
+use mathlib.Core.List.{List, _∷_, List·Memᴰ}
+use lib.ListN.{length, take, replicate}
 use lib.Ieee.{Float}
 use Rattle.frames.specs.First.{framesOf}
 use Rattle.model.specs.Atoms.{Atom, Step}
@@ -16,7 +16,7 @@ use Rattle.cost.specs.QueryAtoms.{atomOfFrame}
 use Rattle.cost.specs.Emitters.{Emitters, recordAtom, recordEmitters}
 use Rattle.cost.specs.Sampling.{Tally}
 use Rattle.cost.specs.Memo.{tallyAt}
-use Rattle.cost.specs.Choice.{Memory, planned, remembered}
+use Rattle.cost.specs.Choice.{planned, remembered}
 use Rattle.cost.specs.declared.memo.Tallies.{Tallies}
 use Rattle.lowering.specs.Eager.{state, Went, LoweredEager, atomsOf}
 use Rattle.scheduling.specs.Choosing.{candidates, Chose}
