@@ -9,6 +9,7 @@ use measure::FanOut;
 use measure::SamplerConfig;
 
 pub mod planning;
+pub mod runs;
 
 // A mean by its bits; a mean that the guard rejects; or no measurement at all.
 pub enum Answer {
