@@ -43,6 +43,10 @@ uint64_t rimdovek_plan(const uint8_t *query, size_t query_len, uint8_t *out, siz
 uint64_t rimdovek_run(const uint8_t *plan, size_t plan_len, const uint8_t *table, size_t table_len, uint64_t allowance, uint8_t *out,
                       size_t out_len, uint64_t *tries, uint64_t *matches);
 
+/* Some match: 0 none, 1 spent, 2 a match, whose line is written where it has room; 419 bytes always suffice. */
+uint64_t rimdovek_some_match(const uint8_t *plan, size_t plan_len, const uint8_t *table, size_t table_len, uint64_t allowance, uint8_t *out,
+                             size_t out_len);
+
 #ifdef __cplusplus
 }
 #endif

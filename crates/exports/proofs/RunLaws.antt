@@ -2,6 +2,7 @@
 use Prim.Native.Nat.{ℕ, zero, suc, _+_, _*_, _%_}
 use mathlib.Core.Path.{_≡_, refl, sym, ap, _∙_}
 use mathlib.Core.List.{List}
+use Rattle.model.specs.Limits.{Full}
 use Rattle.running.specs.Run.{Outcome, Result, run}
 use Rattle.runner.specs.Runs.{statusOf}
 use Rattle.entries.specs.Outcomes.{outcomeOf, resultOf}
@@ -9,10 +10,13 @@ use Rattle.entries.specs.declared.run.Outcome.{Outcome as OutcomeAs}
 use Rattle.entries.specs.declared.run.Outcome.the-variants.{Refused as TurnedBack, Ran as Went}
 use Rattle.exports.specs.Runs.{code, packedRefusal, packedRun}
 
+pub more-status : (k : ℕ) → (k ≡ 0 → ⊥) → (k ≡ 1 → ⊥) → statusOf k ≡ Full
+more-status zero f g = absurd (f refl)
+more-status (suc zero) f g = absurd (g refl)
+more-status (suc (suc k)) f g = refl
+
 pub more-code : (k : ℕ) → (k ≡ 0 → ⊥) → (k ≡ 1 → ⊥) → 2 ≡ code (statusOf k)
-more-code zero f g = absurd (f refl)
-more-code (suc zero) f g = absurd (g refl)
-more-code (suc (suc k)) f g = refl
+more-code k f g = ap code (sym (more-status k f g))
 
 pub packed-back : (o : OutcomeAs) (k x l n : ℕ) → o ≡ TurnedBack k x l → n ≡ packedRefusal k x l → n ≡ packedRun (outcomeOf o)
 packed-back o k x l n e h = h ∙ ap (λ (q : OutcomeAs). packedRun (outcomeOf q)) (sym e)

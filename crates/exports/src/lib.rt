@@ -10,6 +10,7 @@ use measure::SamplerConfig;
 
 pub mod planning;
 pub mod runs;
+pub mod some;
 
 // A mean by its bits; a mean that the guard rejects; or no measurement at all.
 pub enum Answer {

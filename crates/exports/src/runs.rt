@@ -8,7 +8,7 @@ use entries::run::Outcome;
 use entries::run::run;
 
 // A refusal as one number.
-fn refusal(number: u8, text: u8, line: usize) -> u64
+pub fn refusal(number: u8, text: u8, line: usize) -> u64
     ensures { λ r. ⌜ r ≡ packedRefusal number text line ⌝ }
 {
     let l = (line % 0x1_0000) as u64;
