@@ -49,7 +49,7 @@ fn ours(queries: &[Query]) -> Option<f64> {
     let texts: Vec<String> = queries.iter().map(oracle::to_text).collect();
     let mut out = [0; 20_600];
     let mut plan = |text: &String| {
-        black_box(rimdovek_sys::plan(black_box(text.as_bytes()), &mut out));
+        _ = black_box(rimdovek_sys::plan(black_box(text.as_bytes()), &mut out));
     };
     Some(best(queries.len(), || texts.iter().for_each(&mut plan)))
 }
