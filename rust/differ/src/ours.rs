@@ -57,8 +57,7 @@ fn short(out: &mut [u8], text: &[u8]) -> Result<(), String> {
         text: 0,
         line: 0,
     };
-    if planned != Err(no_room) || out.iter().any(|byte| *byte != LENT)
-    {
+    if planned != Err(no_room) || out.iter().any(|byte| *byte != LENT) {
         return Err(format!("an output of {} bytes gives {planned:?}, for", out.len()));
     }
     Ok(())
