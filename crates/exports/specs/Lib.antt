@@ -1,2 +1,4 @@
 pub mod Answers
 pub mod Plans
+pub mod Runs
+pub mod Replied

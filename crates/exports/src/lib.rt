@@ -1,5 +1,5 @@
-// The C functions of the static library: the numbers of the planner, for programs outside the prover. None asks anything of its caller;
-// doubles travel as their bits.
+// The C functions of the static library: the planner, the runner and their numbers, for programs outside the prover. None asks anything of
+// its caller; doubles travel as their bits.
 ghost use mathlib.Core.Path.{_≡_};
 ghost use Rattle.splitmix.specs.SplitMix.{nextState, drawAt};
 ghost use Rattle.sqrt.specs.Sqrt.{sqrt as sqrtOf};
@@ -9,6 +9,8 @@ use measure::FanOut;
 use measure::SamplerConfig;
 
 pub mod planning;
+pub mod runs;
+pub mod some;
 
 // A mean by its bits; a mean that the guard rejects; or no measurement at all.
 pub enum Answer {

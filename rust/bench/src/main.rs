@@ -1,5 +1,8 @@
 //! Times planning: the Rust's alone, from a query in its own types to its steps, and, with the feature `ours`, the proved planner's from
-//! text to text, on the same queries.
+//! text to text, on the same queries. Then running, in `running`.
+mod interpreter;
+mod running;
+
 use oracle::generate::{largest, sampled, typical};
 use oracle::{Prepared, Query, parse};
 use std::hint::black_box;
@@ -25,6 +28,7 @@ fn main() {
     line("largest query", &queries);
     let queries: Vec<Query> = (0..8).map(|seed| largest(seed, true)).collect();
     line("largest query, sampling on", &queries);
+    running::lines();
 }
 
 fn line(name: &str, queries: &[Query]) {
@@ -49,7 +53,7 @@ fn ours(queries: &[Query]) -> Option<f64> {
     let texts: Vec<String> = queries.iter().map(oracle::to_text).collect();
     let mut out = [0; 20_600];
     let mut plan = |text: &String| {
-        black_box(rimdovek_sys::plan(black_box(text.as_bytes()), &mut out));
+        _ = black_box(rimdovek_sys::plan(black_box(text.as_bytes()), &mut out));
     };
     Some(best(queries.len(), || texts.iter().for_each(&mut plan)))
 }

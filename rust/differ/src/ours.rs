@@ -1,7 +1,7 @@
 //! The proved planner against a run of the Rust.
 use crate::shrink::shrink;
 use oracle::{Query, Run, to_text};
-use rimdovek_sys::{Planned, plan};
+use rimdovek_sys::{Planned, Refusal, plan};
 
 /// Bytes past the plan must keep this value.
 const LENT: u8 = 0xa5;
@@ -28,7 +28,7 @@ pub fn smaller(seed: u64, query: Query) -> String {
 
 fn same(out: &mut [u8], text: &[u8], run: &Run) -> Result<(), String> {
     let answer = &run.answer;
-    let says = Planned::Accepted {
+    let says = Planned {
         written: answer.text.len(),
         steps: answer.steps,
         tallied: answer.tallied,
@@ -40,7 +40,7 @@ fn same(out: &mut [u8], text: &[u8], run: &Run) -> Result<(), String> {
         let plan = String::from_utf8_lossy(plan);
         return Err(format!("the Rust plans\n{}and ours ({planned:?})\n{plan}for", answer.text));
     }
-    if planned != says {
+    if planned != Ok(says) {
         return Err(format!("the answer is {planned:?}, not {says:?}, for"));
     }
     if rest.iter().any(|byte| *byte != LENT) {
@@ -52,14 +52,12 @@ fn same(out: &mut [u8], text: &[u8], run: &Run) -> Result<(), String> {
 /// An output a byte too short is refused and kept.
 fn short(out: &mut [u8], text: &[u8]) -> Result<(), String> {
     let planned = plan(text, out);
-    if planned
-        != (Planned::Refused {
-            number: 8,
-            text: 0,
-            line: 0,
-        })
-        || out.iter().any(|byte| *byte != LENT)
-    {
+    let no_room = Refusal {
+        number: 8,
+        text: 0,
+        line: 0,
+    };
+    if planned != Err(no_room) || out.iter().any(|byte| *byte != LENT) {
         return Err(format!("an output of {} bytes gives {planned:?}, for", out.len()));
     }
     Ok(())

@@ -9,8 +9,27 @@ mod c {
         pub safe fn rimdovek_path_selectivity(measured: bool, fanout: u64, denom: u32) -> u64;
         // A slice is a pointer and then a length.
         pub fn rimdovek_estimate_draws(draws: *const f64, draws_len: usize, k: usize, bootstrap: usize, cv: u64, mean: *mut u64) -> u8;
-        #[cfg(feature = "plan")]
         pub fn rimdovek_plan(query: *const u8, query_len: usize, out: *mut u8, out_len: usize) -> u64;
+        pub fn rimdovek_run(
+            plan: *const u8,
+            plan_len: usize,
+            table: *const u8,
+            table_len: usize,
+            allowance: u64,
+            out: *mut u8,
+            out_len: usize,
+            tries: *mut u64,
+            matches: *mut u64,
+        ) -> u64;
+        pub fn rimdovek_some_match(
+            plan: *const u8,
+            plan_len: usize,
+            table: *const u8,
+            table_len: usize,
+            allowance: u64,
+            out: *mut u8,
+            out_len: usize,
+        ) -> u64;
     }
 }
 
@@ -78,41 +97,131 @@ pub fn estimate_draws_into(draws: &[f64], settings: Settings, mean: &mut u64) ->
     }
 }
 
-/// The planner's answer.
-#[cfg(feature = "plan")]
+/// A text is refused, and nothing is written.
 #[derive(Clone, Copy, Debug, PartialEq, Eq)]
-pub enum Planned {
-    Accepted {
-        written: usize,
-        steps: u16,
-        tallied: u16,
-        rejected: u16,
-    },
-    /// The document's number, the text (0 query), the line.
-    Refused { number: u8, text: u8, line: u16 },
+pub struct Refusal {
+    /// The document's number.
+    pub number: u8,
+    /// 0 query, 1 plan, 2 table.
+    pub text: u8,
+    pub line: u16,
 }
 
-/// The plan of a query text, written into the lent output; nothing is written on a refusal.
-///
-/// The C function answers by one number. Accepted: from the highest bit, 0, fifteen bits of bytes written (no plan is longer than 20,565),
-/// and steps, tallied and rejected of sixteen each. Refused: 1 as the highest bit; number, text and line in the lowest four bytes, the line
-/// taking two.
-#[cfg(feature = "plan")]
-pub fn plan(query: &[u8], out: &mut [u8]) -> Planned {
-    // SAFETY: both pointers are of references that outlive the call, and the lengths are the slices'.
-    let answer = unsafe { c::rimdovek_plan(query.as_ptr(), query.len(), out.as_mut_ptr(), out.len()) };
-    let word = |place: u32| (answer >> (16 * place)) as u16;
-    if answer >> 63 == 1 {
-        return Planned::Refused {
-            number: (answer >> 24) as u8,
-            text: (answer >> 16) as u8,
-            line: word(0),
-        };
+/// An answer's highest bit says that it is a refusal; number, text and line are its lowest four bytes, the line taking two.
+fn accepted(answer: u64) -> Result<u64, Refusal> {
+    if answer >> 63 == 0 {
+        return Ok(answer);
     }
-    Planned::Accepted {
+    Err(Refusal {
+        number: (answer >> 24) as u8,
+        text: (answer >> 16) as u8,
+        line: answer as u16,
+    })
+}
+
+/// What the planner says of a plan it wrote.
+#[derive(Clone, Copy, Debug, PartialEq, Eq)]
+pub struct Planned {
+    pub written: usize,
+    pub steps: u16,
+    pub tallied: u16,
+    pub rejected: u16,
+}
+
+/// The plan of a query text, written into the lent output. No plan is longer than 20,565 bytes.
+///
+/// The C function's answer, accepted: from the highest bit, 0, fifteen bits of bytes written, and steps, tallied and rejected of sixteen each.
+pub fn plan(query: &[u8], out: &mut [u8]) -> Result<Planned, Refusal> {
+    // SAFETY: both pointers are of references that outlive the call, and the lengths are the slices'.
+    let answer = accepted(unsafe { c::rimdovek_plan(query.as_ptr(), query.len(), out.as_mut_ptr(), out.len()) })?;
+    let word = |place: u32| (answer >> (16 * place)) as u16;
+    Ok(Planned {
         written: word(3).into(),
         steps: word(2),
         tallied: word(1),
         rejected: word(0),
-    }
+    })
+}
+
+/// How a run ended.
+#[derive(Clone, Copy, Debug, PartialEq, Eq)]
+pub enum Status {
+    Done,
+    /// A try was due with all the allowance used.
+    Spent,
+    /// A match lacked space.
+    Full,
+}
+
+/// What the runner says of a run.
+#[derive(Clone, Copy, Debug, PartialEq, Eq)]
+pub struct Ran {
+    pub status: Status,
+    pub written: usize,
+    pub tries: u64,
+    pub matches: u64,
+}
+
+/// Runs a plan over a table with an allowance of tries; the lines of the matches go into the lent output.
+///
+/// The C function's answer, accepted: the status from bit 32 on, the bytes written below.
+pub fn run(plan: &[u8], table: &[u8], allowance: u64, out: &mut [u8]) -> Result<Ran, Refusal> {
+    let (mut tries, mut matches) = (0, 0);
+    // SAFETY: the pointers are of references that outlive the call, and the lengths are the slices'.
+    let answer = accepted(unsafe {
+        c::rimdovek_run(
+            plan.as_ptr(),
+            plan.len(),
+            table.as_ptr(),
+            table.len(),
+            allowance,
+            out.as_mut_ptr(),
+            out.len(),
+            &mut tries,
+            &mut matches,
+        )
+    })?;
+    let status = match answer >> 32 {
+        0 => Status::Done,
+        1 => Status::Spent,
+        _ => Status::Full,
+    };
+    Ok(Ran {
+        status,
+        written: answer as u32 as usize,
+        tries,
+        matches,
+    })
+}
+
+/// What the second entry says.
+#[derive(Clone, Copy, Debug, PartialEq, Eq)]
+pub enum SomeMatch {
+    /// No match exists.
+    None,
+    /// The allowance is used before a match is found.
+    Spent,
+    /// Its line is at the beginning of the output, where it has room: 419 bytes always suffice.
+    Match,
+}
+
+/// Some match of a plan over a table.
+pub fn some_match(plan: &[u8], table: &[u8], allowance: u64, out: &mut [u8]) -> Result<SomeMatch, Refusal> {
+    // SAFETY: the pointers are of references that outlive the call, and the lengths are the slices'.
+    let answer = accepted(unsafe {
+        c::rimdovek_some_match(
+            plan.as_ptr(),
+            plan.len(),
+            table.as_ptr(),
+            table.len(),
+            allowance,
+            out.as_mut_ptr(),
+            out.len(),
+        )
+    })?;
+    Ok(match answer {
+        0 => SomeMatch::None,
+        1 => SomeMatch::Spent,
+        _ => SomeMatch::Match,
+    })
 }

@@ -1,0 +1,44 @@
+-- `exports::runs::rimdovek_run` meets its contract: the outcome of the entry, packed.
+use Rattle.exports.specs.Runs.{packedRun, triesIn, matchesIn}
+use Rattle.exports.proofs.RunLaws.{told-of-run, run-output}
+use borrow.Author.Needs.{needs}
+use Rattle.exports.proofs.runs.rimdovek_run.Statement.{statement}
+use Rattle.exports.proofs.runs.rimdovek_run.Tie as tie
+
+run-requires : tie.Need-run-requires
+run-requires c κs = search needs
+
+tries-in-requires : tie.Need-tries-in-requires
+tries-in-requires c κs = search needs
+
+matches-in-requires : tie.Need-matches-in-requires
+matches-in-requires c κs = search needs
+
+packed-requires : tie.Need-packed-requires
+packed-requires c κs = search needs
+
+same-length : tie.Need-same-length
+same-length c = search needs
+
+returns : tie.Need-returns
+returns c = (
+  told-of-run _ _ _ _ _ (c .before .before .before .before .before .run .result) (c .before .before .before .before .before .run .ensures) packedRun _ (c .packed .ensures),
+  (
+    run-output _ _ _ _ _ (c .before .before .before .before .before .run .result) (c .before .before .before .before .before .run .ensures),
+    (
+      told-of-run _ _ _ _ _ (c .before .before .before .before .before .run .result) (c .before .before .before .before .before .run .ensures) triesIn _ (c .before .before .tries-in .ensures),
+      told-of-run _ _ _ _ _ (c .before .before .before .before .before .run .result) (c .before .before .before .before .before .run .ensures) matchesIn _ (c .before .matches-in .ensures),
+    ),
+  ),
+)
+
+pub rimdovek-run-spec : {M : Type 1} → statement M
+rimdovek-run-spec =
+    tie.close
+    (tie.spec
+    run-requires
+    tries-in-requires
+    matches-in-requires
+    packed-requires
+    same-length
+    returns)

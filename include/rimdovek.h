@@ -1,0 +1,53 @@
+/* The C functions of libexports.a. A text is a pointer and its length in bytes; an output is lent, and bytes past what is written keep their
+   values. No function allocates, keeps a pointer or asks anything of its caller beyond valid pointers that do not overlap. Doubles travel as
+   their bits. */
+#ifndef RIMDOVEK_H
+#define RIMDOVEK_H
+
+#include <stdbool.h>
+#include <stddef.h>
+#include <stdint.h>
+
+#ifdef __cplusplus
+extern "C" {
+#endif
+
+/* The highest bit of an answer: the texts are refused, and nothing is written. */
+#define RIMDOVEK_REFUSED UINT64_C(0x8000000000000000)
+
+/* Of a refusal: the document's number, the text (0 query, 1 plan, 2 table) and the line. */
+static inline uint8_t rimdovek_refusal_number(uint64_t answer) { return (uint8_t)(answer >> 24); }
+static inline uint8_t rimdovek_refusal_text(uint64_t answer) { return (uint8_t)(answer >> 16); }
+static inline uint16_t rimdovek_refusal_line(uint64_t answer) { return (uint16_t)answer; }
+
+/* The square root; 7ff8000000000000 for NaN and below 0. */
+uint64_t rimdovek_sqrt(uint64_t bits);
+
+/* The generator's state after `state`, and the number drawn at it. */
+uint64_t rimdovek_splitmix64_state(uint64_t state);
+uint64_t rimdovek_splitmix64_draw(uint64_t state);
+
+/* The selectivity of a path; `fanout` counts only where `measured` holds. */
+uint64_t rimdovek_path_selectivity(bool measured, uint64_t fanout, uint32_t denom);
+
+/* The measurement from its draws: 0, and the mean's bits are set; 1 where the guard rejects it; 2 without draws, with more than 64, or with
+   more than 256 resamples. */
+uint8_t rimdovek_estimate_draws(const double *draws, size_t draws_len, size_t k, size_t bootstrap, uint64_t cv, uint64_t *mean);
+
+/* Plans a query text. Accepted: bytes written in bits 48 to 62 (no plan is longer than 20,565), steps in 32 to 47, tallied in 16 to 31,
+   rejected in 0 to 15. */
+uint64_t rimdovek_plan(const uint8_t *query, size_t query_len, uint8_t *out, size_t out_len);
+
+/* Runs a plan over a table with an allowance of tries, a line for each match. Accepted: 0 done, 1 spent or 2 full in bits 32 and 33, the bytes
+   written below. Tries and matches are set; a refusal sets 0. */
+uint64_t rimdovek_run(const uint8_t *plan, size_t plan_len, const uint8_t *table, size_t table_len, uint64_t allowance, uint8_t *out,
+                      size_t out_len, uint64_t *tries, uint64_t *matches);
+
+/* Some match: 0 none, 1 spent, 2 a match, whose line is written where it has room; 419 bytes always suffice. */
+uint64_t rimdovek_some_match(const uint8_t *plan, size_t plan_len, const uint8_t *table, size_t table_len, uint64_t allowance, uint8_t *out,
+                             size_t out_len);
+
+#ifdef __cplusplus
+}
+#endif
+#endif

@@ -1,0 +1,67 @@
+//! Times running: a plain Rust runner over steps and rows decoded beforehand, and the proved runner from text to text, on the same inputs.
+use crate::best;
+use crate::interpreter::{Ran, Runner};
+use std::fmt::Write;
+use std::hint::black_box;
+
+const PLAN: &str = "3f040000000500000000\n4000000100010000\n41010000\n41020001\n400201020202000000020000\n41030200\n";
+const TABLE: &str = "30000502010007\n300006010200070005\n3000070300\n";
+const ROOM: usize = 65_536;
+
+pub fn lines() {
+    println!("{:>10}  {:>10}  {:>6}  million tries a second", "the Rust", "ours", "ratio");
+    line("worked plan, 3 rows", TABLE);
+    for rows in [100, 1_000] {
+        line(&format!("worked plan, {rows} rows"), &table(rows));
+    }
+}
+
+/// Rows of the worked example's two operators by turns; each of the first has a second's class as its child, so each is in one match.
+fn table(rows: u16) -> String {
+    let mut text = String::new();
+    for i in 0..rows / 2 {
+        let child = (i * 7 + 3) % (rows / 2);
+        writeln!(text, "30{:04x}01020007{:04x}", 2_000 + i, child).expect("a string grows");
+        writeln!(text, "30{i:04x}02010007").expect("a string grows");
+    }
+    text
+}
+
+fn line(name: &str, table: &str) {
+    let (runner, mut out) = (Runner::new(PLAN, table), vec![0; ROOM]);
+    let ran = runner.run(&mut out);
+    let tries = ran.tries as usize;
+    let mut again = vec![0; ROOM];
+    let rust = 1_000.0 / best(tries, || drop(black_box(runner.run(black_box(&mut again)))));
+    match ours(table, &ran, &out) {
+        Some(ours) => println!(
+            "{rust:>10.1}  {ours:>10.1}  {:>6.2}  {name}, {tries} tries, {} matches",
+            rust / ours,
+            ran.matches
+        ),
+        None => println!(
+            "{rust:>10.1}  {:>10}  {:>6}  {name}, {tries} tries, {} matches",
+            "-", "-", ran.matches
+        ),
+    }
+}
+
+/// Million tries a second; the run must give the same tries, matches and lines.
+#[cfg(feature = "ours")]
+fn ours(table: &str, says: &Ran, lines: &[u8]) -> Option<f64> {
+    let mut out = vec![0; ROOM];
+    let mut run = || rimdovek_sys::run(black_box(PLAN.as_bytes()), black_box(table.as_bytes()), u64::MAX, &mut out);
+    let first = run().expect("it runs");
+    let speed = 1_000.0 / best(says.tries as usize, || _ = black_box(run()));
+    assert_eq!(
+        (first.tries, first.matches, first.written),
+        (says.tries, says.matches, says.written)
+    );
+    assert!(out == lines, "the lines differ");
+    Some(speed)
+}
+
+#[cfg(not(feature = "ours"))]
+fn ours(_: &str, _: &Ran, _: &[u8]) -> Option<f64> {
+    None
+}

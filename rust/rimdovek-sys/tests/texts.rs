@@ -1,0 +1,94 @@
+//! The document's examples, through the wrappers.
+use rimdovek_sys::{Planned, Ran, Refusal, SomeMatch, Status, plan, run, some_match};
+
+const QUERY: &[u8] = b"00040000\n0100010200010002\n010202010003\n10010000000a\n100200000064\n";
+const PLAN: &[u8] = b"3f040000000500000000\n4000000100010000\n41010000\n41020001\n400201020202000000020000\n41030200\n";
+const TABLE: &[u8] = b"30000502010007\n300006010200070005\n3000070300\n";
+const MATCH: &[u8] = b"500006000700050007\n";
+/// What nobody writes.
+const LENT: u8 = 0xa5;
+
+fn refusal<T>(number: u8, text: u8, line: u16) -> Result<T, Refusal> {
+    Err(Refusal { number, text, line })
+}
+
+#[test]
+fn worked_plan() {
+    let mut out = [LENT; 200];
+    let planned = plan(QUERY, &mut out).expect("it is planned");
+    assert_eq!((planned.written, planned.steps), (PLAN.len(), 5));
+    assert_eq!(&out[..PLAN.len()], PLAN);
+    assert!(out[PLAN.len()..].iter().all(|byte| *byte == LENT));
+}
+
+#[test]
+fn refused_query() {
+    let mut out = [LENT; 200];
+    assert_eq!(plan(b"", &mut out), refusal(2, 0, 0));
+    assert_eq!(out, [LENT; 200]);
+}
+
+#[test]
+fn empty_query_fits_21_bytes() {
+    let mut out = [LENT; 21];
+    let whole = Planned {
+        written: 21,
+        steps: 0,
+        tallied: 0,
+        rejected: 0,
+    };
+    assert_eq!(plan(b"00000000\n", &mut out[..20]), refusal(8, 0, 0));
+    assert_eq!(out, [LENT; 21]);
+    assert_eq!(plan(b"00000000\n", &mut out), Ok(whole));
+    assert_eq!(&out, b"3f000000000000000000\n");
+}
+
+/// The run with an allowance: its status, tries, and whether it has the match.
+fn ran(allowance: u64, status: Status, tries: u64, found: bool) {
+    let mut out = [LENT; 64];
+    let written = if found { MATCH.len() } else { 0 };
+    let says = Ran {
+        status,
+        written,
+        tries,
+        matches: found.into(),
+    };
+    assert_eq!(run(PLAN, TABLE, allowance, &mut out), Ok(says));
+    assert_eq!(&out[..written], &MATCH[..written]);
+    assert!(out[written..].iter().all(|byte| *byte == LENT));
+}
+
+#[test]
+fn worked_run() {
+    ran(6, Status::Done, 6, true);
+    ran(5, Status::Spent, 5, true);
+    ran(2, Status::Spent, 2, false);
+}
+
+#[test]
+fn no_room_for_the_match() {
+    let mut out = [LENT; 18];
+    let answer = run(PLAN, TABLE, 6, &mut out).expect("it runs");
+    assert_eq!((answer.status, answer.written, answer.matches), (Status::Full, 0, 0));
+    assert_eq!(out, [LENT; 18]);
+}
+
+#[test]
+fn refused_texts_of_a_run() {
+    let mut out = [LENT; 64];
+    assert_eq!(run(b"", TABLE, 6, &mut out), refusal(2, 1, 0));
+    assert_eq!(some_match(b"", TABLE, 6, &mut out), refusal(2, 1, 0));
+    assert_eq!(run(PLAN, b"3g\n", 6, &mut out).unwrap_err().text, 2);
+    assert_eq!(out, [LENT; 64]);
+}
+
+#[test]
+fn worked_some_match() {
+    let mut out = [LENT; 419];
+    assert_eq!(some_match(PLAN, TABLE, 2, &mut out), Ok(SomeMatch::Spent));
+    assert_eq!(some_match(PLAN, b"", 6, &mut out), Ok(SomeMatch::None));
+    assert_eq!(out, [LENT; 419]);
+    assert_eq!(some_match(PLAN, TABLE, 6, &mut out), Ok(SomeMatch::Match));
+    assert_eq!(&out[..MATCH.len()], MATCH);
+    assert_eq!(some_match(PLAN, TABLE, 6, &mut []), Ok(SomeMatch::Match));
+}
