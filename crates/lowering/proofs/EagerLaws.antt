@@ -13,7 +13,7 @@ use Rattle.base.specs.Choose.{pick}
 use Rattle.hex.specs.Digits.{bytesOf}
 use lib.ListN.{length, getD, take, drop, set, length-set, length-append}
 use lib.Seq.{take-suc, take-suc-set, take-length}
-use Rattle.hex.specs.Lines.{endOf}
+use Rattle.hex.specs.Lines.{endOf, lineAt}
 use Rattle.model.specs.Atoms.{Atom, Step}
 use Rattle.model.specs.Tabulate.{tabulate-at, tabulate-length, mem-tabulate}
 use Rattle.model.specs.Bound.{Bound, has, add, addAll, most}
@@ -22,7 +22,7 @@ use Rattle.model.specs.Scheduling.{State, isFree, unlowered, tryAt, eagerPass, 
 use Rattle.model.specs.Scheduled.{unlowered-lt, lower-eager-is}
 use Rattle.cost.specs.QueryAtoms.{atomOfFrame}
 use Rattle.lowering.specs.AtomLines.{AtomLine, lowers, boundBehind, Lowers}
-use Rattle.lowering.specs.Eager.{state, Went, Tries, lineAt, atomsOf, Located, Ready, Passed, LoweredEager}
+use Rattle.lowering.specs.Eager.{state, Went, Tries, atomsOf, Located, Ready, Passed, LoweredEager}
 use Rattle.lowering.proofs.SetLaws.{add-size}
 use Rattle.lowering.proofs.OperandLaws.{is-true, is-false}
 

@@ -11,12 +11,11 @@ use lib.Seq.{drop-cons, getD-set-same, getD-set-other}
 use borrow.Author.Tests.{le-leb, lt-leb}
 use Rattle.base.specs.Choose.{pick}
 use Rattle.hex.specs.Digits.{bytesOf}
-use Rattle.hex.specs.Lines.{endOf}
+use Rattle.hex.specs.Lines.{endOf, lineAt}
 use Rattle.hex.specs.Cuts.{Line}
 use Rattle.frames.specs.First.{framesOf, isAtom}
 use Rattle.reading.specs.Walk.{walk-line, frames-step, frames-none, frames-end}
 use Rattle.cost.specs.QueryAtoms.{atomFrames}
-use Rattle.lowering.specs.Eager.{lineAt}
 use Rattle.lowering.specs.Places.{Places, Noted}
 
 -- ---- one line

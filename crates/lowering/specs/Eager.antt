@@ -2,9 +2,9 @@
 use Prim.Native.Nat.{ℕ, _+_, _-_, _<_, _≤_}
 use mathlib.Core.Path.{_≡_}
 use mathlib.Core.List.{List, [], _∷_, _++_, List·Memᴰ}
-use lib.ListN.{length, getD, take, drop}
+use lib.ListN.{length, getD, take}
 use Rattle.hex.specs.Digits.{bytesOf}
-use Rattle.hex.specs.Lines.{endOf}
+use Rattle.hex.specs.Lines.{lineAt}
 use Rattle.frames.specs.First.{framesOf}
 use Rattle.model.specs.Atoms.{Atom, Step}
 use Rattle.model.specs.Bound.{Bound, addAll, most}
@@ -35,10 +35,6 @@ pub record Went (atomAt : ℕ → Atom) (js : List ℕ) (go : State → State) (
 -- one atom, number i, by its frame f
 pub record Tries (f : List ℕ) (i : ℕ) (U B : Bound) (O : List ℕ) (c : ℕ) (U′ C : Bound) (P : List ℕ) (d : ℕ) : Type 0 where
   pub went : (atomAt : ℕ → Atom) (js : List ℕ) → atomAt i ≡ atomOfFrame f → List·Memᴰ i js → Went atomAt js (tryAt atomAt js i) U B O c U′ C P d
-
--- the line of the text x that begins at i
-abbrev pub lineAt : List ℕ → ℕ → List ℕ
-lineAt x i = take (endOf i (drop i x) - i) (drop i x)
 
 -- the atoms of a text
 abbrev pub atomsOf : List ℕ → List Atom

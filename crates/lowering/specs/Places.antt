@@ -7,12 +7,13 @@ use native.Mathlib.Omega.{arith}
 use lib.ListN.{length, getD, set}
 use Rattle.base.specs.Choose.{pick}
 use Rattle.hex.specs.Digits.{bytesOf}
+use Rattle.hex.specs.Lines.{lineAt}
 use Rattle.frames.specs.First.{framesOf, isAtom}
 use Rattle.model.specs.Bound.{most}
 use Rattle.model.specs.Scheduling.{atomOf}
 use Rattle.cost.specs.QueryAtoms.{atomOfFrame, atomFrames, atomsIn}
 use Rattle.lowering.specs.AtomLines.{AtomLine}
-use Rattle.lowering.specs.Eager.{lineAt, Located}
+use Rattle.lowering.specs.Eager.{Located}
 
 -- "Atoms are numbered from 0 by arrival": the first n of `from` are where their lines begin
 pub record Places (x from : List ℕ) (n : ℕ) : Type 0 where

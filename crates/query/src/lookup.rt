@@ -6,6 +6,7 @@ ghost use lib.ListN.{length, take};
 ghost use Rattle.hex.specs.Digits.{bytesOf, digitsOf, hexDigit};
 ghost use Rattle.frames.specs.First.{framesOf};
 ghost use Rattle.reading.specs.Keys.{find as findOf};
+ghost use Rattle.reading.specs.Index.{Proper, Indexed};
 use hex::hex_digit;
 use reading::keys::find;
 
@@ -47,4 +48,24 @@ pub fn find_six(text: &[u8], n: usize, k: u8, a: u8, b: u8, c: u8, d: u8, e: u8)
 {
     let key = digits(k, a, b, c, d, e);
     find(text, &key[..2 * n])
+}
+
+// The same by the text's index.
+pub fn look_up<'a, 'b>(
+    text: &'a [u8],
+    index: &'b [u32],
+    n: usize,
+    k: u8,
+    a: u8,
+    b: u8,
+    c: u8,
+    d: u8,
+    e: u8,
+) -> &'a [u8]
+    requires { ⌜ n ≤ 6 ⌝ }
+    requires { ⌜ Proper (take n (k ∷ a ∷ b ∷ c ∷ d ∷ e ∷ [])) ⌝ }
+    requires { ⌜ Indexed (now text) (now index) ⌝ }
+    ensures { λ r. ⌜ bytesOf (now r) ≡ findOf (take n (k ∷ a ∷ b ∷ c ∷ d ∷ e ∷ [])) (framesOf (now (text .entry))) ⌝ }
+{
+    find_six(text, n, k, a, b, c, d, e)
 }

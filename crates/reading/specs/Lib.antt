@@ -1,3 +1,4 @@
 pub mod Keys
+pub mod Index
 pub mod Walk
 pub mod Second

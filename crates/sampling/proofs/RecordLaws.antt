@@ -11,6 +11,7 @@ use lib.Seq.{drop-cons}
 use borrow.Author.Tests.{ltb-true, ltb-false, lt-ltb}
 use Rattle.base.specs.Choose.{pick}
 use Rattle.hex.specs.Digits.{bytesOf}
+use Rattle.hex.specs.Lines.{lineAt}
 use Rattle.frames.specs.First.{isAtom}
 use Rattle.frames.specs.Kinds.{kinds, kindAt}
 use Rattle.model.specs.Atoms.{Operand, localOf, Atom, Eq}
@@ -21,7 +22,7 @@ use Rattle.model.specs.Scheduling.{atomOf}
 use Rattle.cost.specs.QueryAtoms.{operandsFrom, atomOfFrame}
 use Rattle.cost.specs.Emitters.{Emitters, decode, from, emitterOf, setEmitter, setElements, copyEmitter, recordAtom, recordEmitters}
 use Rattle.lowering.specs.AtomLines.{AtomLine, itemOperands, scansKind}
-use Rattle.lowering.specs.Eager.{lineAt, atomsOf, Located}
+use Rattle.lowering.specs.Eager.{atomsOf, Located}
 use Rattle.lowering.proofs.AtomLaws.{by-kind, items-kind, node-kind}
 use Rattle.sampling.specs.Items.{setItems, recordIfNew}
 use Rattle.sampling.proofs.ItemLaws.{children-are, elements-are}

@@ -11,6 +11,7 @@ use lib.Seq.{drop-cons}
 use lib.Ieee.{Float, lt}
 use Rattle.base.specs.Choose.{pick}
 use Rattle.hex.specs.Digits.{bytesOf}
+use Rattle.hex.specs.Lines.{lineAt}
 use Rattle.frames.specs.First.{framesOf}
 use Rattle.model.specs.Atoms.{Atom}
 use Rattle.model.specs.Bound.{Bound, has}
@@ -24,7 +25,7 @@ use Rattle.cost.specs.Sampling.{Tally}
 use Rattle.cost.specs.Costs.{Costed, estimateCost}
 use Rattle.cost.specs.Memo.{tallyAt}
 use Rattle.plan_facts.specs.Remembered.{Grows, grows-self, cost-grows}
-use Rattle.lowering.specs.Eager.{lineAt, Located, atomsOf}
+use Rattle.lowering.specs.Eager.{Located, atomsOf}
 use Rattle.lowering.specs.AtomLines.{AtomLine}
 use Rattle.pricing.specs.Remembering.{Samples, Remembers, Stands}
 use Rattle.pricing.specs.declared.costs.Costed.{Costed as CostedAs}

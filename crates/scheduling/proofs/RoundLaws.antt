@@ -12,6 +12,7 @@ use lib.ListN.{length, getD, take, set, length-set}
 use lib.Seq.{take-suc, take-suc-set, take-length}
 use lib.Ieee.{Float}
 use Rattle.hex.specs.Digits.{bytesOf}
+use Rattle.hex.specs.Lines.{lineAt}
 use Rattle.frames.specs.First.{framesOf}
 use Rattle.model.specs.Atoms.{Atom, Plain, Lit, LitBind, Eq, EqGlobal, Pred, Variadic}
 use Rattle.model.specs.Bound.{Bound, has, add, most}
@@ -25,7 +26,7 @@ use Rattle.cost.specs.Emitters.{Emitters, recordAtom, recordEmitters}
 use Rattle.cost.specs.Memo.{tallyAt}
 use Rattle.cost.specs.declared.memo.Tallies.{Tallies}
 use Rattle.lowering.specs.AtomLines.{AtomLine, lowers, boundBehind, Lowers}
-use Rattle.lowering.specs.Eager.{Went, LoweredEager, lineAt, Located, Ready, atomsOf}
+use Rattle.lowering.specs.Eager.{Went, LoweredEager, Located, Ready, atomsOf}
 use Rattle.lowering.proofs.EagerLaws.{went-one}
 use Rattle.scheduling.specs.Choosing.{candidates, Chose}
 use Rattle.scheduling.specs.Rounds.{Takes, Chooses, TakesNext, roundTally, RoundRoom}

@@ -7,6 +7,7 @@ use native.Mathlib.Numerals.{add-one}
 use lib.ListN.{length, getD, take, drop, length-take, drop-of-length-le}
 use lib.Seq.{drop-cons, getD-take}
 use Rattle.hex.specs.Digits.{bytesOf}
+use Rattle.hex.specs.Lines.{lineAt}
 use Rattle.model.specs.Atoms.{Atom}
 use Rattle.model.specs.Bound.{Bound, most}
 use Rattle.model.specs.Lowering.{lower}
@@ -15,7 +16,7 @@ use Rattle.cost.specs.QueryAtoms.{atomOfFrame}
 use Rattle.plans.specs.PlanText.{textOf}
 use Rattle.plans.specs.StepFrames.{frameOf}
 use Rattle.lowering.specs.AtomLines.{AtomLine, boundBehind}
-use Rattle.lowering.specs.Eager.{lineAt, atomsOf, Located}
+use Rattle.lowering.specs.Eager.{atomsOf, Located}
 use Rattle.writing.specs.Written.{PutsFrames}
 use Rattle.writing.specs.Emitting.{stepsOf, Emits, Emittable}
 use Rattle.writing.specs.Steps.{stepsAlong, stepCount, countAlong, Ordered, PutsSteps}

@@ -7,13 +7,14 @@ use mathlib.Core.List.{List, [], _∷_, _++_, map}
 use native.Mathlib.Omega.{arith}
 use lib.ListN.{length, getD, length-append}
 use Rattle.hex.specs.Digits.{bytesOf}
+use Rattle.hex.specs.Lines.{lineAt}
 use Rattle.model.specs.Atoms.{Operand, Atom, Plain, Lit, LitBind, Eq, EqGlobal, Pred, Variadic, Step}
 use Rattle.model.specs.Bound.{Bound, has, add, most}
 use Rattle.model.specs.Lowering.{Emitted, emitReadChildren, pvMarkBound, lowerEq, lowerEqGlobal, lower, Lowered, done, more}
 use Rattle.model.specs.Scheduling.{atomOf}
 use Rattle.plans.specs.StepFrames.{frameOf}
 use Rattle.lowering.specs.AtomLines.{boundBehind}
-use Rattle.lowering.specs.Eager.{lineAt, atomsOf}
+use Rattle.lowering.specs.Eager.{atomsOf}
 use Rattle.writing.specs.Emitting.{stepsOf, Emittable}
 use Rattle.writing.specs.Written.{PutsFrames}
 
