@@ -1,17 +1,19 @@
 -- A key as digits, and what is found by it. Assumes nothing.
-use Prim.Native.Nat.{ℕ, _*_, _/_, _%_, _<_, _≤_}
+use Prim.Native.Nat.{ℕ, suc, _*_, _/_, _%_, _<_, _≤_}
 use mathlib.Core.Path.{_≡_, refl, sym, _∙_, ap}
-use mathlib.Core.Bool.{_&&_}
+use mathlib.Core.Bool.{true, _&&_}
 use mathlib.Core.List.{List, [], _∷_}
 use native.Mathlib.Omega.{arith}
 use lib.ListN.{length, take}
 use lib.Seq.{length-take-le}
-use lib.Dec.{T, ltb}
+use lib.Dec.{T, ltb, leb}
 use lib.Pow.{areBytes}
-use borrow.Author.Tests.{lt-ltb}
+use borrow.Author.Tests.{lt-ltb, ltb-true, leb-true}
 use Rattle.hex.specs.Digits.{bytesOf, digitsOf, hexDigit}
 use Rattle.hex.specs.Bytes.{bytes-take, bytes-read}
+use Rattle.frames.specs.Kinds.{kindAt}
 use Rattle.reading.specs.Keys.{find}
+use Rattle.reading.specs.Index.{hashed, Proper}
 
 pub high-is : (b v : ℕ) → b < 256 → v ≡ hexDigit (b / 16 % 16) → v ≡ hexDigit (b / 16)
 high-is b v h p = let e : b / 16 % 16 ≡ b / 16 = omega arith in p ∙ ap hexDigit e
@@ -26,3 +28,7 @@ key-found l d r fs n t p q = q ∙ rw (bytes-take n d, p, bytes-read l t)
 
 pub key-length : (k a b c d e n : ℕ) (ds : List ℕ) → ds ≡ digitsOf (k ∷ a ∷ b ∷ c ∷ d ∷ e ∷ []) → n ≤ 6 → 2 * n ≡ length (take (2 * n) ds)
 key-length k a b c d e n ds p h = rw p (sym (length-take-le (2 * n) (digitsOf (k ∷ a ∷ b ∷ c ∷ d ∷ e ∷ [])) (omega arith)))
+
+-- a key of kind b with the bytes r behind it, where the table of kinds says so
+pub proper : (b : ℕ) (r : List ℕ) → ltb 0 (kindAt b .key) ≡ true → leb (hashed b) (suc (length r)) ≡ true → Proper (b ∷ r)
+proper b r h l = record { keyed = ltb-true 0 (kindAt b .key) h; whole = leb-true (hashed b) (suc (length r)) l }
