@@ -47,6 +47,16 @@ module _ (fs : List (List ℕ)) (x : Item) (v : FanOut) where
   pub by-row : (ps : List Float) (p : ℕ) (d : Float) → v ≡ Unmeasured → ItemPriced fs x ps → p ≡ x .position → getD ps (p + 2) d ≡ pathSelectivity (orFan v (itemFan fs (x .op) (x .element) (x .position))) (denominator fs (x .op))
   by-row ps p d e w h = rw (e, h) (within ps (x .position + 2) d zero64 (w .room) ∙ w .is)
 
+-- the row of atom number k, as a part of the table
+module _ (x from : List ℕ) (n : ℕ) (ps : List Float) (w : Priced x from n ps) (k : ℕ) (h : k < n) where
+  pub row-within : rowSize * k + rowSize ≤ length ps
+  row-within = omega (arith, w .room)
+
+  pub row-priced : (i : ℕ) (l : List ℕ) → i ≡ k → l ≡ lineAt x (getD from k 0) → Row (framesOf x) (bytesOf l) i (take (rowSize * k + rowSize - rowSize * k) (drop (rowSize * k) ps))
+  row-priced i l hi hl =
+      let e : rowSize * k + rowSize - rowSize * k ≡ rowSize = omega arith in
+      rw (hi, hl, e) (w .rows k h)
+
 -- ---- how a row is filled
 
 module _ (fs : List (List ℕ)) (o p : ℕ) (t : Bool) (f : FanOut) where
