@@ -2,3 +2,4 @@ pub mod Keys
 pub mod Index
 pub mod Walk
 pub mod Second
+pub mod IndexedReading

@@ -7,6 +7,7 @@ ghost use Rattle.hex.specs.Digits.{bytesOf};
 ghost use Rattle.frames.specs.First.{framesOf, firstLine};
 ghost use Rattle.frames.specs.declared.first.Reading.the-variants.{Accepted};
 ghost use Rattle.reading.specs.Second.{headerCounts, countsOf, secondFault, secondFrom, reading};
+ghost use Rattle.reading.specs.IndexedReading.{Blank, ReadIndexed};
 use super::keys::key_given;
 use frames::fields::Counts;
 use frames::fields::Test;
@@ -81,6 +82,14 @@ fn second_lines(n: Counts, text: &[u8], lines: usize, counted: usize) -> Reading
         k += 1;
     }
     Reading::Accepted(lines, counted)
+}
+
+// The reading of a text of any bytes and length; where it is accepted, the lent numbers are its index.
+pub fn read_indexed(t: Text, text: &[u8], index: &mut [u32]) -> Reading
+    requires { ⌜ Blank (now text) (now index) ⌝ }
+    ensures { λ r. ⌜ ReadIndexed t (now (text .entry)) (now (index .exit)) r ⌝ }
+{
+    read_text(t, text)
 }
 
 // The reading of a text of any bytes and length.
