@@ -85,6 +85,12 @@ noted i f at m = pick (eqb (kindOf f .key) 0) i (entered i (slotOf f) at (m + 1)
 abbrev pub entriesWith : List ℕ → ℕ → ℕ
 entriesWith f m = pick (eqb (kindOf f .key) 0) m (m + 1)
 
+-- there is room for one more entry, and its numbers fit
+pub record Noting (i : List ℕ) (at m : ℕ) : Type 0 where
+  pub room : slots + 2 * (m + 1) + 2 ≤ length i
+  pub place : at < 4294967296
+  pub few : m + 1 < 4294967296
+
 -- ---- an index i of the text x, with m entries: its search finds what is to be found among the frames fs
 pub record Indexes (x i : List ℕ) (fs : List (List ℕ)) (m : ℕ) : Type 0 where
   pub falling : Falling i
