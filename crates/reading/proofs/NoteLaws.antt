@@ -16,7 +16,7 @@ use Rattle.frames.specs.Kinds.{kindAt}
 use Rattle.frames.specs.Frames.{kindOf}
 use Rattle.reading.specs.Keys.{begins, find, isFound, keyOf, keyGiven}
 use Rattle.reading.specs.Index.{slots, hashed, slotOf, Slotted, Proper, placeOf, olderOf, latest, searched, found, Falling, givenBy, entered, noted, entriesWith, Indexes}
-use Rattle.reading.proofs.SlotLaws.{slot-below, slotted-some, proper-slotted, begins-slot, begins-part}
+use Rattle.reading.proofs.SlotLaws.{slot-below, slotted-some, proper-slotted, begins-first, begins-slot, begins-part, key-slotted}
 use Rattle.reading.proofs.SearchLaws.{enough}
 
 -- ---- the numbers of a new entry
@@ -121,7 +121,7 @@ find-more b k ((c ∷ g) ∷ fs) f = go (begins (b ∷ k) (c ∷ g)) (find-more 
     go true q = refl
     go false q = q
 
-pub find-with : (k : List ℕ) → Slotted k → (fs : List (List ℕ)) (f : List ℕ) → find k (fs ++ f ∷ []) ≡ pick (isFound (find k fs)) (find k fs) (pick (begins k f) f [])
+find-with : (k : List ℕ) → Slotted k → (fs : List (List ℕ)) (f : List ℕ) → find k (fs ++ f ∷ []) ≡ pick (isFound (find k fs)) (find k fs) (pick (begins k f) f [])
 find-with k s fs f = slotted-some (λ (k : List ℕ). find k (fs ++ f ∷ []) ≡ pick (isFound (find k fs)) (find k fs) (pick (begins k f) f [])) k s (λ b k. find-more b k fs f)
 
 begun-some : (b : ℕ) (k f : List ℕ) → begins (b ∷ k) f ≡ true → isFound f ≡ true
@@ -156,6 +156,80 @@ none-by k b p (g ∷ fs) h q = go (begins k g) (begins (b ∷ p) g) refl refl (n
     go true false e d m q = let z : _≡_ {A = ℕ} 0 1 = cc (h g e) in absurd (omega arith)
     go false true e d m q = let z : _≡_ {A = ℕ} 0 1 = cc (begun-some b p g d) in absurd (omega arith)
     go false false e d m q = m q
+
+none-by-part : (n : ℕ) (k f : List ℕ) (fs : List (List ℕ)) → 0 < n → n ≤ length k → begins k f ≡ true → isFound (find (take n f) fs) ≡ false → isFound (find k fs) ≡ false
+unfolding begins
+none-by-part zero k f fs z h p q = absurd (omega arith)
+none-by-part (suc n) [] f fs z h p q = absurd (omega arith)
+none-by-part (suc n) (b ∷ k) [] fs z h p q = let y : _≡_ {A = ℕ} 0 1 = cc in absurd (omega arith)
+none-by-part (suc n) (b ∷ k) (c ∷ f) fs z h p q = none-by (b ∷ k) c (take n f) fs (λ g e. begins-part (suc n) (b ∷ k) (c ∷ f) g h p e) q
+
+-- a whole key of a frame whose key was not given was not given
+none-given : (k f : List ℕ) (fs : List (List ℕ)) → Proper k → keyGiven fs f ≡ false → begins k f ≡ true → isFound (find k fs) ≡ false
+unfolding keyGiven
+none-given k f fs w g p =
+    let e : getD k 0 0 ≡ getD f 0 0 = begins-first k f (proper-slotted k w) p in
+    let a : 0 < kindOf f .key = rw e at (w .keyed) in
+    let b : kindOf f .key ≤ length k = rw e at (w .whole) in
+    none-by-part (kindOf f .key) k f fs a b p (rw (ne-eqb (kindOf f .key) 0 (λ z. omega arith)) at g)
+
+-- ---- an index with one more line
+
+keyed-line : (x i j f : List ℕ) (fs : List (List ℕ)) (at m : ℕ) → Entry i j (slotOf f) at m → Indexes x i fs m → bytesOf (lineAt x at) ≡ f → keyGiven fs f ≡ false → Indexes x j (fs ++ f ∷ []) (suc m)
+keyed-line x i j f fs at m t q l g = record {
+  falling = falls-still x i j f fs at m t q l;
+  few = few-still x i j f fs at m t q l;
+  given = λ k s. rw (found-with x i j f fs at m t q l k s, find-with k s fs f) (given-with (found x i k) (find k fs) f (begins k f) (q .given k s) (found-some k f s));
+  is = λ k p. rw (found-with x i j f fs at m t q l k (proper-slotted k p), find-with k (proper-slotted k p) fs f, q .is k p) (found-first (find k fs) f (begins k f) (none-given k f fs p g));
+}
+
+-- a line without a key changes nothing
+unkeyed-line : (x i f : List ℕ) (fs : List (List ℕ)) (m : ℕ) → Indexes x i fs m → kindOf f .key ≡ 0 → Indexes x i (fs ++ f ∷ []) m
+unkeyed-line x i f fs m q z = record {
+  falling = q .falling;
+  few = q .few;
+  given = λ k s. rw (find-with k s fs f, never k s) (given-with (found x i k) (find k fs) f false (q .given k s) (λ e. absurd (no-truth e)));
+  is = λ k p. rw (find-with k (proper-slotted k p) fs f, never k (proper-slotted k p), q .is k p) (found-first (find k fs) f false (λ e. absurd (no-truth e)));
+}
+  where
+    no-truth : false ≡ true → ⊥
+    no-truth e = let y : _≡_ {A = ℕ} 0 1 = cc in omega arith
+
+    never : (k : List ℕ) → Slotted k → begins k f ≡ false
+    never k s = not-begun k f (λ p. let a : 0 < kindOf f .key = rw (begins-first k f s p) at (s .keyed) in omega arith)
+
+pub noted-line : (x i f : List ℕ) (fs : List (List ℕ)) (at m : ℕ) → Indexes x i fs m → slots + 2 * (m + 1) + 2 ≤ length i → bytesOf (lineAt x at) ≡ f → keyGiven fs f ≡ false → Indexes x (noted i f at m) (fs ++ f ∷ []) (entriesWith f m)
+noted-line x i f fs at m q r l g = go (eqb (kindOf f .key) 0) refl
+  where
+    go : (b : Bool) → eqb (kindOf f .key) 0 ≡ b → Indexes x (pick b i (entered i (slotOf f) at (m + 1))) (fs ++ f ∷ []) (pick b m (m + 1))
+    go true p = unkeyed-line x i f fs m q (eqb-true _ _ p)
+    go false p = rw (add-one m) (keyed-line x i (entered i (slotOf f) at (suc m)) f fs at m (entry-made i (slotOf f) at m (slot-below f) r) q l g)
+
+pub noted-length : (i f : List ℕ) (at m : ℕ) → length (noted i f at m) ≡ length i
+noted-length i f at m = go (eqb (kindOf f .key) 0)
+  where
+    go : (b : Bool) → length (pick b i (entered i (slotOf f) at (m + 1))) ≡ length i
+    go true = refl
+    go false = simp length-set
+
+-- the clash test by the index
+pub given-is : (x i f : List ℕ) (fs : List (List ℕ)) (m : ℕ) → Indexes x i fs m → ((kindOf f .key ≡ 0 → ⊥) → hashed (getD f 0 0) ≤ length f) → givenBy x i f ≡ keyGiven fs f
+unfolding keyGiven
+given-is x i f fs m q h = go (eqb (kindOf f .key) 0) refl
+  where
+    go : (b : Bool) → eqb (kindOf f .key) 0 ≡ b → pick b false (isFound (found x i (keyOf f))) ≡ pick b false (isFound (find (keyOf f) fs))
+    go true p = refl
+    go false p = let n = eqb-false (kindOf f .key) 0 p in q .given (keyOf f) (key-slotted f n (h n))
+
+-- no entries
+pub blank-indexes : (x i : List ℕ) → ((e : ℕ) → getD i e 0 ≡ 0) → Indexes x i [] 0
+unfolding found searched find
+blank-indexes x i z = record {
+  falling = record { falls = λ e h. rw (z (slots + 2 * e + 1)) h };
+  few = λ s h. rw (z s) (omega arith);
+  given = λ k s. rw (z (slotOf k));
+  is = λ k p. rw (z (slotOf k));
+}
 
 -- ---- the code's ways
 

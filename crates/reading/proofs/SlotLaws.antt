@@ -1,19 +1,22 @@
 -- The slot of a key: by its bytes in turn, and the same for a frame that begins with the key. Assumes nothing.
 use Prim.Native.Nat.{ℕ, zero, suc, _+_, _*_, _/_, _%_, _<_, _≤_}
 use mathlib.Core.Path.{_≡_, refl, sym, _∙_, ap}
-use mathlib.Core.Bool.{Bool, true, false}
+use mathlib.Core.Bool.{Bool, true, false, _&&_}
 use mathlib.Core.List.{List, [], _∷_}
 use native.Mathlib.Numerals.{add-one}
 use native.Mathlib.Omega.{arith}
 use lib.ListN.{length, getD, take, drop, drop-of-length-le}
 use lib.Seq.{drop-cons, getD-take, length-take-le, take-all, take-length}
-use lib.Dec.{eqb, leb, ltb}
-use borrow.Author.Tests.{eq-eqb, le-leb, lt-leb, eqb-true, leb-false, ltb-false}
+use lib.Dec.{T, eqb, leb, ltb, leb→le}
+use borrow.Author.Tests.{eq-eqb, ne-eqb, le-leb, lt-leb, eqb-true, leb-true, leb-false, ltb-false}
 use Rattle.base.specs.Choose.{pick}
+use Rattle.base.specs.Table.{all, both-left, both-right}
 use Rattle.hex.specs.Digits.{bytesOf}
 use Rattle.hex.specs.Bytes.{bytes-length}
-use Rattle.frames.specs.Kinds.{kindAt}
-use Rattle.reading.specs.Keys.{begins}
+use Rattle.frames.specs.Kinds.{Kind, kinds, kindAt, fixedLength}
+use Rattle.frames.specs.Frames.{kindOf, frameLength}
+use Rattle.frames.proofs.KindLaws.{held}
+use Rattle.reading.specs.Keys.{begins, keyOf}
 use Rattle.reading.specs.Index.{slots, hashed, mixed, slotOf, Slotted, Proper}
 
 mixed-below : (h : ℕ) (l : List ℕ) → h < slots → mixed h l < slots
@@ -102,7 +105,7 @@ begins-take (suc n) (b ∷ k) (d ∷ f) h p =
     let e = begins-more b d k f p in
     rw (e .0, begins-take n k f (omega arith) (e .1))
 
-begins-first : (k f : List ℕ) → Slotted k → begins k f ≡ true → getD k 0 0 ≡ getD f 0 0
+pub begins-first : (k f : List ℕ) → Slotted k → begins k f ≡ true → getD k 0 0 ≡ getD f 0 0
 unfolding begins kindAt
 begins-first [] f s p = absurd (omega (arith, s .keyed))
 begins-first (b ∷ k) [] s p = let z : _≡_ {A = ℕ} 0 1 = cc in absurd (omega arith)
@@ -123,3 +126,50 @@ begins-part (suc n) (b ∷ k) (d ∷ f) (e ∷ g) h p q =
     let u = begins-more b d k f p in
     let v = begins-more b e k g q in
     rw (eq-eqb d e (sym (u .0) ∙ v .0)) (begins-part n k f g (omega arith) (u .1) (v .1))
+
+-- ---- the key of a frame that has its kind's length
+
+-- what counts of a key: no more than it has
+counting : ℕ → ℕ
+counting n = pick (leb n 6) n 4
+
+counting-least : (n : ℕ) → counting n ≤ n
+unfolding counting
+counting-least n = go (leb n 6) refl
+  where
+    go : (t : Bool) → leb n 6 ≡ t → pick t n 4 ≤ n
+    go true q = omega arith
+    go false q = omega (arith, leb-false n 6 q)
+
+-- a kind with a key has three bytes or more, and those that count
+long-kind : Kind → Bool
+long-kind r = pick (eqb (r .key) 0) true (leb 3 (fixedLength r) && leb (counting (r .key)) (fixedLength r))
+
+pub record LongKeyed (f : List ℕ) : Type 0 where
+  pub three : 3 ≤ length f
+  pub counts : hashed (getD f 0 0) ≤ length f
+
+pub keyed-long : (f : List ℕ) → length f ≡ frameLength f → (kindOf f .key ≡ 0 → ⊥) → LongKeyed f
+unfolding kindAt kinds all long-kind counting
+keyed-long f l n =
+    let n3 = leb 3 (fixedLength (kindOf f)) in
+    let nh = leb (hashed (getD f 0 0)) (fixedLength (kindOf f)) in
+    let t : T (n3 && nh) = rw (ne-eqb (kindOf f .key) 0 n) at (held long-kind kinds (getD f 0 0) tt tt) in
+    let u = leb→le 3 (fixedLength (kindOf f)) (both-left n3 nh t) in
+    let v = leb→le (hashed (getD f 0 0)) (fixedLength (kindOf f)) (both-right n3 nh t) in
+    record { three = omega arith; counts = omega arith }
+
+pub key-slotted : (f : List ℕ) → (kindOf f .key ≡ 0 → ⊥) → hashed (getD f 0 0) ≤ length f → Slotted (keyOf f)
+unfolding counting
+key-slotted f n h = record { keyed = rw first (omega arith); enough = rw first (go (leb (kindOf f .key) (length f)) refl) }
+  where
+    some : (k : ℕ) → (k ≡ 0 → ⊥) → 0 < k
+    some zero z = absurd (z refl)
+    some (suc k) z = omega arith
+
+    first : getD (keyOf f) 0 0 ≡ getD f 0 0
+    first = getD-take (kindOf f .key) f 0 0 (some (kindOf f .key) n)
+
+    go : (t : Bool) → leb (kindOf f .key) (length f) ≡ t → hashed (getD f 0 0) ≤ length (take (kindOf f .key) f)
+    go true q = rw (length-take-le (kindOf f .key) f (leb-true (kindOf f .key) (length f) q)) (counting-least (kindOf f .key))
+    go false q = let g = leb-false (kindOf f .key) (length f) q in rw (take-all (kindOf f .key) f (omega arith)) h

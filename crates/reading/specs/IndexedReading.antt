@@ -10,22 +10,27 @@ use Rattle.frames.specs.declared.fields.Counts.{Counts}
 use Rattle.frames.specs.declared.first.Text.{Text}
 use Rattle.frames.specs.declared.first.Reading.{Reading}
 use Rattle.frames.specs.declared.first.Reading.the-variants.{Accepted}
-use Rattle.reading.specs.Index.{Indexed}
+use Rattle.reading.specs.Index.{slots, Indexed}
 use Rattle.reading.specs.Second.{secondFrom, reading}
 
--- how many numbers the index of a text of n bytes has: a keyed line has three bytes or more, that is 7 bytes of text
+-- how many numbers the index of a text of n bytes has: a keyed line has three bytes or more, that is 7 bytes of text, and two numbers;
+-- there are two entries more, that numbered 0 and one beyond the last
 abbrev pub indexSize : ℕ → ℕ
-indexSize n = 514 + 2 * (n / 7)
+indexSize n = slots + 2 * (n / 7 + 2)
 
 -- an index without entries, with room for those of the text x, where that is not too long
 pub record Blank (x i : List ℕ) : Type 0 where
   pub room : length x ≤ textMost → indexSize (length x) ≤ length i
   pub blank : (e : ℕ) → getD i e 0 ≡ 0
 
--- what the first reading's acceptance says: the text is not too long, and each frame has its kind's length
+-- each frame has the length that it says
+abbrev pub Framed : List (List ℕ) → Type 0
+Framed fs = (j : ℕ) → j < length fs → length (getD fs j []) ≡ frameLength (getD fs j [])
+
+-- what the first reading's acceptance says: the text is not too long, and its frames have their lengths
 pub record FirstRead (x : List ℕ) : Type 0 where
   pub size : length x ≤ textMost
-  pub long : (j : ℕ) → j < length (framesOf x) → length (getD (framesOf x) j []) ≡ frameLength (getD (framesOf x) j [])
+  pub framed : Framed (framesOf x)
 
 -- the second reading, where the first one says `a`
 pub record Rereads (n : Counts) (x : List ℕ) (a : Reading) (i : List ℕ) (r : Reading) : Type 0 where

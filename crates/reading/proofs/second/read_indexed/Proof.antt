@@ -1,3 +1,4 @@
+use borrow.Author.Needs.{needs}
 use Rattle.reading.proofs.second.read_indexed.Statement.{statement}
 use Rattle.reading.proofs.second.read_indexed.Tie as tie
 use Rattle.reading.proofs.second.read_indexed.Reads as reads
@@ -8,19 +9,19 @@ use Rattle.reading.proofs.second.second_lines.Reads as second-lines-rea
 
 -- src/second.rt:103:11
 first-reading-requires : tie.Need-first-reading-requires
-first-reading-requires c κs = ?
+first-reading-requires c κs = search needs
 
 -- src/second.rt:104:26
 enum-known-k : tie.Need-enum-known-k
-enum-known-k c = ?
+enum-known-k c = search needs
 
 -- src/second.rt:105:27
 enum-known-lines : tie.Need-enum-known-lines
-enum-known-lines c = ?
+enum-known-lines c = search needs
 
 -- src/second.rt:106:13
 counts-of-requires : tie.Need-counts-of-requires
-counts-of-requires c κs = ?
+counts-of-requires c κs = search needs
 
 -- src/second.rt:105:46
 second-lines-requires : tie.Need-second-lines-requires
@@ -32,7 +33,7 @@ returns c = ?
 
 -- src/second.rt:99:1
 same-length : tie.Need-same-length
-same-length c = ?
+same-length c = search needs
 
 -- src/second.rt:99:1
 returns-2 : tie.Need-returns-2

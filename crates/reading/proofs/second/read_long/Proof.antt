@@ -1,3 +1,4 @@
+use borrow.Author.Needs.{needs}
 use Rattle.reading.proofs.second.read_long.Statement.{statement}
 use Rattle.reading.proofs.second.read_long.Tie as tie
 use Rattle.reading.proofs.second.read_long.Reads as reads
@@ -6,7 +7,7 @@ use Rattle.reading.proofs.second.read_indexed.Reads as read-indexed-rea
 
 -- src/second.rt:127:27
 slice-aggregate-read-indexed : tie.Need-slice-aggregate-read-indexed
-slice-aggregate-read-indexed c = ?
+slice-aggregate-read-indexed c = search needs
 
 -- src/second.rt:127:5
 read-indexed-requires : tie.Need-read-indexed-requires
@@ -14,7 +15,7 @@ read-indexed-requires c κs = ?
 
 -- src/second.rt:123:1
 returns : tie.Need-returns
-returns c = ?
+returns c = search needs
 
 pub read-long-spec : {M : Type 1} → statement M
 read-long-spec = tie.close (tie.spec slice-aggregate-read-indexed read-indexed-requires returns)
