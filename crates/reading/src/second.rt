@@ -65,13 +65,7 @@ fn second_fault(n: Counts, text: &[u8], index: &[u32], line: &[u8]) -> u8
 }
 
 // The lines in turn, after a first reading that found that many lines and counted so many of them. Each that passes is entered.
-fn second_lines(
-    n: Counts,
-    text: &[u8],
-    lines: usize,
-    counted: usize,
-    index: &mut [u32],
-) -> Reading
+fn second_lines(n: Counts, text: &[u8], lines: usize, counted: usize, index: &mut [u32]) -> Reading
     requires { ⌜ Blank (now text) (now index) ⌝ }
     requires { ⌜ FirstRead (now text) ⌝ }
     ensures { λ r. ⌜ Rereads n (now (text .entry)) (Accepted lines counted) (now (index .exit)) r ⌝ }

@@ -1,3 +1,4 @@
+-- `reading::index::at_most` meets its contract: the smaller of two.
 use borrow.Author.Needs.{needs}
 use Rattle.base.specs.Choose.{tests}
 use Rattle.reading.proofs.index.at_most.Statement.{statement}

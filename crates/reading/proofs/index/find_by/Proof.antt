@@ -1,16 +1,12 @@
+-- `reading::index::find_by` meets its contract: by the index of the whole text.
 use mathlib.Core.Path.{_∙_}
 use borrow.Author.Needs.{needs}
 use Rattle.reading.proofs.index.find_by.Statement.{statement}
 use Rattle.reading.proofs.index.find_by.Tie as tie
-use Rattle.reading.proofs.index.find_by.Reads as reads
-use Rattle.reading.proofs.index.find_by.Lts as lts
-use Rattle.reading.proofs.index.search.Reads as search-reads
 
--- src/index.rt:78:5
 search-requires : tie.Need-search-requires
 search-requires c κs = c .before .before .before .pre .1 .are .falling
 
--- src/index.rt:73:1
 returns : tie.Need-returns
 returns c = c .search .ensures ∙ c .before .before .before .before .pre .1 .are .is _ (c .before .before .before .before .pre .0)
 

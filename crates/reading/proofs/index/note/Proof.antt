@@ -1,3 +1,4 @@
+-- `reading::index::note` meets its contract: three stores.
 use lib.ListN.{length-set}
 use native.Mathlib.Omega.{arith}
 use Rattle.reading.proofs.NoteLaws.{note-none, note-some}
@@ -5,97 +6,70 @@ use Rattle.hex.specs.Digits.{bytesOf}
 use borrow.Author.Needs.{needs}
 use Rattle.reading.proofs.index.note.Statement.{statement}
 use Rattle.reading.proofs.index.note.Tie as tie
-use Rattle.reading.proofs.index.note.Reads as reads
-use Rattle.reading.proofs.index.note.Lts as lts
-use Rattle.frames.proofs.kinds.key_length.Reads as key-length-reads
-use Rattle.hex.proofs.byte_at.Reads as byte-at-reads
-use Rattle.reading.proofs.index.slot_of.Reads as slot-of-reads
 
--- src/index.rt:100:19
 byte-at-requires : tie.Need-byte-at-requires
 byte-at-requires c κs = search needs
 
--- src/index.rt:100:8
 key-length-requires : tie.Need-key-length-requires
 key-length-requires c κs = search needs
 
--- src/index.rt:101:9
 returns : tie.Need-returns
 returns c = note-none _ (bytesOf (c .before .before .before .before .before .args .line .now)) (c .before .before .before .before .before .args .at) (c .before .before .before .before .before .args .m) _ _ (c .before .before .byte-at .ensures) (c .before .key-length .ensures) (c .if1 .taken)
 
--- src/index.rt:103:9
 slot-of-requires : tie.Need-slot-of-requires
 slot-of-requires c κs = search needs
 
--- src/index.rt:104:13
 add-e : tie.Need-add-e
 add-e c = search needs
 
--- src/index.rt:105:17
 mul-older : tie.Need-mul-older
 mul-older c = search needs
 
--- src/index.rt:105:17
 slice-read-older : tie.Need-slice-read-older
 slice-read-older c = search needs
 
--- src/index.rt:106:26
 cast-index : tie.Need-cast-index
 cast-index c = search needs
 
--- src/index.rt:106:17
 mul-index : tie.Need-mul-index
 mul-index c = search needs
 
--- src/index.rt:106:11
 add-index : tie.Need-add-index
 add-index c = search needs
 
--- src/index.rt:106:5
 mul-index-2 : tie.Need-mul-index-2
 mul-index-2 c = search needs
 
--- src/index.rt:106:5
 slice-write-index : tie.Need-slice-write-index
 slice-write-index c = search needs
 
--- src/index.rt:107:17
 mul-index-3 : tie.Need-mul-index-3
 mul-index-3 c = search needs
 
--- src/index.rt:107:11
 add-index-2 : tie.Need-add-index-2
 add-index-2 c = search needs
 
--- src/index.rt:107:11
 add-index-3 : tie.Need-add-index-3
 add-index-3 c = search needs
 
--- src/index.rt:107:5
 mul-index-4 : tie.Need-mul-index-4
 mul-index-4 c = search needs
 
--- src/index.rt:107:5
 slice-write-index-2 : tie.Need-slice-write-index-2
 slice-write-index-2 c = simp length-set (omega arith)
 
--- src/index.rt:108:16
 cast-index-2 : tie.Need-cast-index-2
 cast-index-2 c = search needs
 
--- src/index.rt:108:5
 mul-index-5 : tie.Need-mul-index-5
 mul-index-5 c = search needs
 
--- src/index.rt:108:5
 slice-write-index-3 : tie.Need-slice-write-index-3
 slice-write-index-3 c = simp length-set (omega arith)
 
--- src/index.rt:96:1
 same-length : tie.Need-same-length
 same-length c = search needs
 
--- src/index.rt:96:1
 returns-2 : tie.Need-returns-2
 returns-2 c = note-some _ _ _ _ _ _ (c .before .before .before .before .byte-at .ensures) (c .before .before .before .key-length .ensures) _ (c .before .before .if1 .left) (c .before .slot-of .ensures .0)
 

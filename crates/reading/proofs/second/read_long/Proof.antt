@@ -1,19 +1,15 @@
+-- `reading::second::read_long` meets its contract: by an index of its own.
+use Rattle.reading.specs.IndexedReading.{blank-long}
 use borrow.Author.Needs.{needs}
 use Rattle.reading.proofs.second.read_long.Statement.{statement}
 use Rattle.reading.proofs.second.read_long.Tie as tie
-use Rattle.reading.proofs.second.read_long.Reads as reads
-use Rattle.reading.proofs.second.read_long.Lts as lts
-use Rattle.reading.proofs.second.read_indexed.Reads as read-indexed-reads
 
--- src/second.rt:127:27
 slice-aggregate-read-indexed : tie.Need-slice-aggregate-read-indexed
 slice-aggregate-read-indexed c = search needs
 
--- src/second.rt:127:5
 read-indexed-requires : tie.Need-read-indexed-requires
-read-indexed-requires c κs = ?
+read-indexed-requires c κs = blank-long _
 
--- src/second.rt:123:1
 returns : tie.Need-returns
 returns c = search needs
 

@@ -1,19 +1,15 @@
+-- `reading::second::read_short` meets its contract: by an index of its own.
+use Rattle.reading.specs.IndexedReading.{blank-short}
 use borrow.Author.Needs.{needs}
 use Rattle.reading.proofs.second.read_short.Statement.{statement}
 use Rattle.reading.proofs.second.read_short.Tie as tie
-use Rattle.reading.proofs.second.read_short.Reads as reads
-use Rattle.reading.proofs.second.read_short.Lts as lts
-use Rattle.reading.proofs.second.read_indexed.Reads as read-indexed-reads
 
--- src/second.rt:120:27
 slice-aggregate-read-indexed : tie.Need-slice-aggregate-read-indexed
 slice-aggregate-read-indexed c = search needs
 
--- src/second.rt:120:5
 read-indexed-requires : tie.Need-read-indexed-requires
-read-indexed-requires c κs = ?
+read-indexed-requires c κs = blank-short _ (c .before .before .pre)
 
--- src/second.rt:115:1
 returns : tie.Need-returns
 returns c = search needs
 

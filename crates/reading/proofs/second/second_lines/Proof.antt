@@ -1,3 +1,4 @@
+-- `reading::second::second_lines` meets its contract: line by line, each entered in the index behind the test.
 use borrow.Author.Needs.{needs}
 use Prim.Native.Nat.{_-_}
 use native.Mathlib.Omega.{arith}
@@ -6,11 +7,6 @@ use Rattle.frames.specs.declared.first.Reading.the-variants.{Accepted}
 use Rattle.reading.proofs.SecondLaws.{line-from, line-within, line-less, Rereading, from-blank, all-indexed, none-indexed, noting, refused-indexed, reread-again}
 use Rattle.reading.proofs.second.second_lines.Statement.{statement}
 use Rattle.reading.proofs.second.second_lines.Tie as tie
-use Rattle.reading.proofs.second.second_lines.Reads as reads
-use Rattle.reading.proofs.second.second_lines.Lts as lts
-use Rattle.hex.proofs.line_end.Reads as line-end-reads
-use Rattle.reading.proofs.index.note.Reads as note-reads
-use Rattle.reading.proofs.second.second_fault.Reads as second-fault-reads
 
 abbrev Inv-loop : tie.InvT-loop
 Inv-loop n text lines counted index₀ at₀ k₀ m₀ index at k m = Rereading n text (Accepted lines counted) index₀ index at k m
@@ -18,87 +14,66 @@ Inv-loop n text lines counted index₀ at₀ k₀ m₀ index at k m = Rereading 
 abbrev μ-loop : tie.MeasureT-loop
 μ-loop n text lines counted index₀ at₀ k₀ m₀ index at k m = length text - at
 
--- src/second.rt:82:5
 loop-holds : tie.Need-loop-holds Inv-loop μ-loop
 loop-holds c = from-blank _ _ _ _ (c .before .before .pre .0) (c .before .before .pre .1)
 
--- src/second.rt:83:13
 line-end-requires : tie.Need-line-end-requires Inv-loop μ-loop
 line-end-requires c κs = search needs
 
--- src/second.rt:85:13
 same-length : tie.Need-same-length Inv-loop μ-loop
 same-length c = c .before .before .before .loop .inv .same
 
--- src/second.rt:85:13
 returns : tie.Need-returns Inv-loop μ-loop
 returns c = none-indexed _ _ _ _ _ _ _ _ (c .before .before .before .loop .inv) _ (c .before .line-end .ensures .0) (c .if1 .taken)
 
--- src/second.rt:87:50
 sub-second-fault : tie.Need-sub-second-fault Inv-loop μ-loop
 sub-second-fault c = line-from _ _ _ _ _ (c .before .before .before .before .loop .inv .read) _ (c .before .before .line-end .ensures .0) (c .before .if1 .left)
 
--- src/second.rt:87:50
 part-second-fault-start : tie.Need-part-second-fault-start Inv-loop μ-loop
 part-second-fault-start c = line-from _ _ _ _ _ (c .before .before .before .before .loop .inv .read) _ (c .before .before .line-end .ensures .0) (c .before .if1 .left)
 
--- src/second.rt:87:50
 part-second-fault-end : tie.Need-part-second-fault-end Inv-loop μ-loop
 part-second-fault-end c = line-within _ _ _ _ _ (c .before .before .before .before .loop .inv .read) _ (c .before .before .line-end .ensures .0) (c .before .if1 .left)
 
--- src/second.rt:87:13
 second-fault-requires : tie.Need-second-fault-requires Inv-loop μ-loop
 second-fault-requires c κs = c .before .before .before .before .before .loop .inv .index .falling
 
--- src/second.rt:89:44
 add-t18 : tie.Need-add-t18 Inv-loop μ-loop
 add-t18 c = omega (arith, c .before .before .before .before .before .before .before .loop .inv .read .few)
 
--- src/second.rt:89:13
 same-length-2 : tie.Need-same-length-2 Inv-loop μ-loop
 same-length-2 c = c .before .before .before .before .before .before .before .loop .inv .same
 
--- src/second.rt:89:13
 returns-2 : tie.Need-returns-2 Inv-loop μ-loop
 returns-2 c = refused-indexed _ _ _ _ _ _ _ _ (c .before .before .before .before .before .before .before .loop .inv) _ (c .before .before .before .before .before .line-end .ensures .0) (c .before .before .before .before .if1 .left) _ (c .before .second-fault .ensures) (c .if2 .taken)
 
--- src/second.rt:91:25
 sub-note : tie.Need-sub-note Inv-loop μ-loop
 sub-note c = line-from _ _ _ _ _ (c .before .before .before .before .before .before .before .before .loop .inv .read) _ (c .before .before .before .before .before .before .line-end .ensures .0) (c .before .before .before .before .before .if1 .left)
 
--- src/second.rt:91:25
 part-note-start : tie.Need-part-note-start Inv-loop μ-loop
 part-note-start c = line-from _ _ _ _ _ (c .before .before .before .before .before .before .before .before .loop .inv .read) _ (c .before .before .before .before .before .before .line-end .ensures .0) (c .before .before .before .before .before .if1 .left)
 
--- src/second.rt:91:25
 part-note-end : tie.Need-part-note-end Inv-loop μ-loop
 part-note-end c = line-within _ _ _ _ _ (c .before .before .before .before .before .before .before .before .loop .inv .read) _ (c .before .before .before .before .before .before .line-end .ensures .0) (c .before .before .before .before .before .if1 .left)
 
--- src/second.rt:91:9
 note-requires : tie.Need-note-requires Inv-loop μ-loop
 note-requires c κs = noting _ _ _ _ _ _ _ _ (c .before .before .before .before .before .before .before .before .before .loop .inv)
 
--- src/second.rt:92:14
 add-at : tie.Need-add-at Inv-loop μ-loop
 add-at c = search needs
 
--- src/second.rt:93:9
 add-k : tie.Need-add-k Inv-loop μ-loop
 add-k c = omega (arith, c .before .before .before .before .before .before .before .before .before .before .before .before .loop .inv .read .few)
 
--- src/second.rt:82:5
 loop-less : tie.Need-loop-less Inv-loop μ-loop
 loop-less c = line-less _ _ _ _ _ (c .before .before .before .before .before .before .before .before .before .before .before .before .loop .inv .read) _ (c .before .before .before .before .before .before .before .before .before .before .line-end .ensures .0) (c .before .before .before .before .before .before .before .before .before .if1 .left)
 
--- src/second.rt:82:5
 loop-again : tie.Need-loop-again Inv-loop μ-loop
 loop-again c = reread-again _ _ _ _ _ _ _ _ (c .before .before .before .before .before .before .before .before .before .before .before .before .loop .inv) _ (c .before .before .before .before .before .before .before .before .before .before .line-end .ensures .0) (c .before .before .before .before .before .before .before .before .before .if1 .left) _ (c .before .before .before .before .before .before .second-fault .ensures) (c .before .before .before .before .before .if2 .left) _ _ (c .before .before .note .ensures .0) (c .before .before .note .ensures .1)
 
--- src/second.rt:68:1
 same-length-3 : tie.Need-same-length-3 Inv-loop μ-loop
 same-length-3 c = c .before .loop .inv .same
 
--- src/second.rt:68:1
 returns-3 : tie.Need-returns-3 Inv-loop μ-loop
 returns-3 c = all-indexed _ _ _ _ _ _ _ _ (c .before .loop .inv) (c .loop-test .left)
 
