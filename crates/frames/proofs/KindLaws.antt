@@ -17,7 +17,7 @@ use Rattle.frames.specs.Rows.{code, decode, rowOf, sixFields, sixAt, wor
 use Rattle.frames.specs.declared.kinds.KindRow.{KindRow}
 
 -- what a test says of every kind of the table
-held : (P : Kind → Bool) (l : List Kind) (i : ℕ) → T (all P l) → T (P noKind) → T (P (getD l i noKind))
+pub held : (P : Kind → Bool) (l : List Kind) (i : ℕ) → T (all P l) → T (P noKind) → T (P (getD l i noKind))
 unfolding all
 held P [] i t n = n
 held P (r ∷ l) ℕ.zero t n = both-left (P r) (all P l) t

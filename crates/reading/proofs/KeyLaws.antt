@@ -6,18 +6,17 @@ use mathlib.Core.List.{List, [], _∷_, map}
 use native.Mathlib.Numerals.{add-one}
 use native.Mathlib.Omega.{arith}
 use lib.ListN.{length, getD, take, drop, length-drop, drop-of-length-le}
-use lib.Seq.{drop-cons, take-all, take-length}
-use lib.Dec.{eqb, leb, ltb}
-use borrow.Author.Tests.{eq-eqb, ne-eqb, le-leb, ltb-false}
+use lib.Seq.{drop-cons}
+use lib.Dec.{eqb}
+use borrow.Author.Tests.{eq-eqb, ne-eqb}
 use Rattle.base.specs.Choose.{pick}
 use Rattle.hex.specs.Digits.{bytesOf}
-use Rattle.hex.specs.Bytes.{bytes-length, bytes-take}
+use Rattle.hex.specs.Bytes.{bytes-length}
 use Rattle.hex.specs.Lines.{split, withLine, endOf}
 use Rattle.hex.specs.Cuts.{Line}
 use Rattle.reading.specs.Walk.{walk-line, frames-step, frames-none, frames-end}
-use Rattle.frames.specs.Kinds.{kindAt}
 use Rattle.frames.specs.First.{framesOf}
-use Rattle.reading.specs.Keys.{begins, find, isFound, keyGiven}
+use Rattle.reading.specs.Keys.{begins, find}
 
 -- ---- a key's bytes
 
@@ -98,28 +97,3 @@ module _ (x k : List ℕ) (at : ℕ) (s : Seeking x k at) where
       unfolding find
       seek-again b q t =
           record { within = omega (arith, line .within); is = s .is ∙ rw (frames-step x at e line, ← q, t) }
-
--- ---- a key that is given twice
-
-found-length : (r : List ℕ) → leb 2 (length r) ≡ isFound (bytesOf r)
-found-length [] = refl
-found-length (a ∷ []) = refl
-found-length (a ∷ b ∷ r) = le-leb 2 (length (a ∷ b ∷ r)) (omega arith)
-
-take-least : (k m : ℕ) (f : List ℕ) → m ≡ pick (ltb k (length f)) k (length f) → take m f ≡ take k f
-take-least k m f p = rw p (go (ltb k (length f)) refl)
-  where
-    go : (t : Bool) → ltb k (length f) ≡ t → take (pick t k (length f)) f ≡ take k f
-    go true h = refl
-    go false h = take-length f ∙ sym (take-all k f (ltb-false k (length f) h))
-
-module _ (l : List ℕ) (b k : ℕ) (p : b ≡ getD (bytesOf l) 0 0) (q : k ≡ kindAt b .key) (x : List ℕ) where
-  pub no-key : k ≡ 0 → false ≡ keyGiven (framesOf x) (bytesOf l)
-  unfolding keyGiven
-  no-key z = rw (← p, ← q, eq-eqb _ _ z)
-
-  pub key-is : (w m : ℕ) (r : List ℕ) → (k ≡ 0 → ⊥) → w ≡ k → m ≡ pick (ltb w (length l / 2)) w (length l / 2) → bytesOf r ≡ find (bytesOf (take (2 * m) l)) (framesOf x) → leb 2 (length r) ≡ keyGiven (framesOf x) (bytesOf l)
-  unfolding keyGiven
-  key-is w m r z u v g =
-      let e : take m (bytesOf l) ≡ take k (bytesOf l) = take-least k m (bytesOf l) (rw (bytes-length l, ← u) v) in
-      rw (← p, ← q, ne-eqb _ _ z) (found-length r ∙ ap isFound g ∙ rw (bytes-take m l, e))

@@ -1,18 +1,22 @@
 -- The second reading, a test and a line at a time. Assumes nothing.
-use Prim.Native.Nat.{ℕ, zero, suc, _+_, _-_, _<_, _≤_}
+use Prim.Native.Nat.{ℕ, zero, suc, _+_, _-_, _*_, _/_, _<_, _≤_}
 use mathlib.Core.Path.{_≡_, refl, sym, _∙_, ap}
 use mathlib.Core.Bool.{Bool, true, false, not}
-use mathlib.Core.List.{List, [], _∷_, _++_}
+use mathlib.Core.List.{List, [], _∷_, _++_, append-nil}
 use native.Mathlib.Numerals.{add-one}
 use native.Mathlib.Omega.{arith}
-use lib.ListN.{length, take, drop}
-use borrow.Author.Tests.{not-true, not-false}
+use lib.ListN.{length, getD, take, drop, length-drop}
+use lib.Seq.{length-take-le}
+use lib.Dec.{eqb}
+use borrow.Author.Tests.{eqb-false, not-true, not-false}
 use Rattle.hex.specs.Digits.{bytesOf}
-use Rattle.hex.specs.Lines.{split, endOf}
+use Rattle.hex.specs.Bytes.{bytes-length}
+use Rattle.hex.specs.Lines.{split, endOf, lineAt}
 use Rattle.hex.specs.Cuts.{Line}
-use Rattle.frames.specs.Limits.{atomsMost}
+use Rattle.base.specs.Choose.{pick}
+use Rattle.frames.specs.Limits.{textMost, atomsMost}
 use Rattle.frames.specs.Fields.{fieldPasses}
-use Rattle.frames.specs.Frames.{framePasses}
+use Rattle.frames.specs.Frames.{kindOf, frameLength, framePasses}
 use Rattle.frames.specs.First.{framesOf, orElse, firstReading}
 use Rattle.frames.specs.declared.fields.Counts.{Counts}
 use Rattle.frames.specs.declared.fields.Test.the-variants.{Range, Reals}
@@ -21,8 +25,13 @@ use Rattle.frames.specs.declared.first.Text.the-variants.{Query, Plan, Table}
 use Rattle.frames.specs.declared.first.Reading.{Reading}
 use Rattle.frames.specs.declared.first.Reading.the-variants.{Accepted, Refused}
 use Rattle.reading.specs.Keys.{keyGiven}
-use Rattle.reading.specs.Walk.{walk-line, frames-step, frames-none, frames-end, frames-before, lines-before}
-use Rattle.reading.specs.Second.{headerCounts, countsOf, secondFault, secondFrom, reading}
+use Rattle.reading.specs.Walk.{walk-line, frames-step, frames-none, frames-end, frames-before, frames-split, lines-before}
+use Rattle.reading.specs.Second.{headerCounts, countsOf, faultOf, secondFault, secondFrom, reading}
+use Rattle.reading.specs.Index.{givenBy, noted, entriesWith, Noting, Indexes, Indexed}
+use Rattle.reading.specs.IndexedReading.{indexSize, Blank, Framed, FirstRead, Rereads, ReadIndexed}
+use Rattle.reading.specs.Formed.{First, first-accepted, lines-pass}
+use Rattle.reading.proofs.SlotLaws.{keyed-long}
+use Rattle.reading.proofs.NoteLaws.{noted-line, noted-length, given-is, blank-indexes}
 
 -- ---- what there is to name
 
@@ -35,24 +44,30 @@ module _ (t : Text) (x : List ℕ) (c e : ℕ) (r : Counts) (p : e ≡ endOf 0 x
 
 -- ---- the tests of one line
 
-module _ (n : Counts) (es : List (List ℕ)) (f : List ℕ) (a : Bool) (p : a ≡ framePasses (fieldPasses Range n) f) where
-  pub fault-5 : not a ≡ true → 5 ≡ secondFault n es f
-  unfolding secondFault
+module _ (n : Counts) (f : List ℕ) (g a : Bool) (p : a ≡ framePasses (fieldPasses Range n) f) where
+  pub fault-5 : not a ≡ true → 5 ≡ faultOf n f g
   fault-5 h = rw (← p, not-true a h)
 
   module _ (h : not a ≡ false) (b : Bool) (q : b ≡ framePasses (fieldPasses Reals n) f) where
-    pub fault-6 : not b ≡ true → 6 ≡ secondFault n es f
-    unfolding secondFault
-    fault-6 g = rw (← p, not-false a h, ← q, not-true b g)
+    pub fault-6 : not b ≡ true → 6 ≡ faultOf n f g
+    fault-6 e = rw (← p, not-false a h, ← q, not-true b e)
 
-    module _ (g : not b ≡ false) (c : Bool) (r : c ≡ keyGiven es f) where
-      pub fault-7 : c ≡ true → 7 ≡ secondFault n es f
-      unfolding secondFault
-      fault-7 z = rw (← p, not-false a h, ← q, not-false b g, ← r, z)
+    module _ (e : not b ≡ false) (c : Bool) (r : c ≡ g) where
+      pub fault-7 : c ≡ true → 7 ≡ faultOf n f g
+      fault-7 z = rw (← p, not-false a h, ← q, not-false b e, ← r, z)
 
-      pub fault-none : c ≡ false → 0 ≡ secondFault n es f
-      unfolding secondFault
-      fault-none z = rw (← p, not-false a h, ← q, not-false b g, ← r, z)
+      pub fault-none : c ≡ false → 0 ≡ faultOf n f g
+      fault-none z = rw (← p, not-false a h, ← q, not-false b e, ← r, z)
+
+-- a line without a fault has a new key
+fresh-key : (n : Counts) (f : List ℕ) (g : Bool) → faultOf n f g ≡ 0 → g ≡ false
+fresh-key n f g p = go (framePasses (fieldPasses Range n) f) (framePasses (fieldPasses Reals n) f) g p
+  where
+    go : (a b g : Bool) → pick {A = ℕ} a (pick b (pick g 7 0) 6) 5 ≡ 0 → g ≡ false
+    go true true true q = absurd (omega arith)
+    go true true false q = refl
+    go true false g q = absurd (omega arith)
+    go false b g q = absurd (omega arith)
 
 -- ---- the lines in turn
 
@@ -110,6 +125,95 @@ module _ (n : Counts) (x : List ℕ) (a : Reading) (at k : ℕ) (s : Reread n x 
         pub line-refused : (v ≡ 0 → ⊥) → Refused v (k + 1) ≡ secondFrom n [] 0 (framesOf x) a
         line-refused g = sym (line-says ∙ or-stops v k _ g ∙ rw (add-one k))
 
+-- ---- the lines with their index
+
+-- m of the lines that are passed are entered in i
+pub record Rereading (n : Counts) (x : List ℕ) (a : Reading) (i₀ i : List ℕ) (at k m : ℕ) : Type 0 where
+  pub read : Reread n x a at k
+  pub index : Indexes x i (framesOf (take at x)) m
+  pub few : m * 7 ≤ at
+  pub framed : Framed (framesOf (drop at x))
+  pub size : length x ≤ textMost
+  pub room : indexSize (length x) ≤ length i
+  pub same : length i ≡ length i₀
+
+pub from-blank : (n : Counts) (x : List ℕ) (a : Reading) (i : List ℕ) → Blank x i → FirstRead x → Rereading n x a i i 0 0 0
+unfolding framesOf split
+from-blank n x a i b f = record {
+  read = from-start n x a;
+  index = blank-indexes x i (b .blank);
+  few = omega arith;
+  framed = f .framed;
+  size = f .size;
+  room = b .room (f .size);
+  same = refl;
+}
+
+module _ (n : Counts) (x : List ℕ) (a : Reading) (i₀ i : List ℕ) (at k m : ℕ) (s : Rereading n x a i₀ i at k m) where
+  indexed-all : framesOf (drop at x) ≡ [] → Indexed x i
+  indexed-all p =
+      let e : framesOf (take at x) ≡ framesOf x = sym (append-nil (framesOf (take at x))) ∙ ap (λ (fs : List (List ℕ)). framesOf (take at x) ++ fs) (sym p) ∙ frames-split x at (s .read .whole) in
+      record { entries = m; are = rw e at (s .index) }
+
+  pub all-indexed : length x ≤ at → Rereads n x a i a
+  all-indexed h = record { is = all-read n x a at k (s .read) h; indexed = λ b c p. indexed-all (frames-end x at h) }
+
+  pub noting : Noting i at m
+  noting = record { room = omega (arith, s .room, s .few, s .read .within); place = omega (arith, s .size, s .read .within); few = omega (arith, s .size, s .few, s .read .within) }
+
+  module _ (e : ℕ) (p : e ≡ endOf at (drop at x)) where
+    pub none-indexed : e ≡ length x → Rereads n x a i a
+    none-indexed z = record { is = none-left n x a at k (s .read) e p z; indexed = λ b c q. indexed-all (frames-none x at e p z) }
+
+    module _ (z : e ≡ length x → ⊥) (v : ℕ) (q : v ≡ faultOf n (bytesOf (take (e - at) (drop at x))) (givenBy x i (bytesOf (take (e - at) (drop at x))))) where
+      abbrev f : List ℕ
+      f = bytesOf (take (e - at) (drop at x))
+
+      l : Line x at e
+      l = walk-line x at e (s .read .within) p z
+
+      framed-here : length f ≡ frameLength f
+      framed-here = rw (frames-step x at e l) at (s .framed) 0 (omega arith)
+
+      given-here : givenBy x i f ≡ keyGiven (framesOf (take at x)) f
+      given-here = given-is x i f (framesOf (take at x)) m (s .index) (λ h. keyed-long f framed-here h .counts)
+
+      fault-here : v ≡ secondFault n (framesOf (take at x)) f
+      unfolding secondFault
+      fault-here = q ∙ rw given-here
+
+      pub refused-indexed : (v ≡ 0 → ⊥) → Rereads n x a i (Refused v (k + 1))
+      refused-indexed g = record {
+        is = line-refused n x a at k (s .read) e p z v fault-here g;
+        indexed = λ b c h. let y : _≡_ {A = ℕ} 0 1 = cc in absurd (omega arith);
+      }
+
+      line-length : length (take (e - at) (drop at x)) ≡ e - at
+      line-length = length-take-le (e - at) (drop at x) (omega (arith, length-drop at x, l .within, l .from))
+
+      few-still : entriesWith f m * 7 ≤ e + 1
+      few-still = go (eqb (kindOf f .key) 0) refl
+        where
+          go : (b : Bool) → eqb (kindOf f .key) 0 ≡ b → pick b m (m + 1) * 7 ≤ e + 1
+          go true h = omega (arith, s .few, l .from)
+          go false h =
+              let w = keyed-long f framed-here (eqb-false (kindOf f .key) 0 h) .three in
+              omega (arith, s .few, l .from, line-length, bytes-length (take (e - at) (drop at x)))
+
+      pub reread-again : v ≡ 0 → (j : List ℕ) (m′ : ℕ) → j ≡ noted i f at m → m′ ≡ entriesWith f m → Rereading n x a i₀ j (e + 1) (k + 1) m′
+      reread-again g j m′ u w =
+          let new : keyGiven (framesOf (take at x)) f ≡ false = sym given-here ∙ fresh-key n f (givenBy x i f) (sym q ∙ g) in
+          let o : length j ≡ length i = ap length u ∙ noted-length i f at m in
+          record {
+            read = read-again n x a at k (s .read) e p z v fault-here g;
+            index = rw (u, w, frames-before x at e (s .read .whole) l) (noted-line x i f (framesOf (take at x)) at m (s .index) (noting .room) (rw (← p)) new);
+            few = rw w few-still;
+            framed = λ d h. rw (frames-step x at e l) at (s .framed) (suc d) (omega arith);
+            size = s .size;
+            room = rw o (s .room);
+            same = o ∙ s .same;
+          }
+
 -- ---- the whole
 
 module _ (t : Text) (x : List ℕ) (f : Reading) (p : f ≡ firstReading t x) where
@@ -120,3 +224,20 @@ module _ (t : Text) (x : List ℕ) (f : Reading) (p : f ≡ firstReading t x) wh
   pub second-decides : (m c : ℕ) (n : Counts) (r : Reading) → f ≡ Accepted m c → n ≡ countsOf t x c → r ≡ secondFrom n [] 0 (framesOf x) (Accepted m c) → r ≡ reading t x
   unfolding reading
   second-decides m c n r q g h = rw (← p, q, ← g) h
+
+-- ---- the whole with its index
+
+pub first-read : (t : Text) (x : List ℕ) (m c : ℕ) → firstReading t x ≡ Accepted m c → FirstRead x
+unfolding framesOf
+first-read t x m c p =
+    let f = first-accepted t x m c p in
+    let w = lines-pass t 0 0 (split x .ended) (split x .rest) m c (f .lines) in
+    record { size = f .size; framed = λ j h. w .formed j h .long }
+
+module _ (t : Text) (x i : List ℕ) (f : Reading) (p : f ≡ firstReading t x) where
+  pub indexed-refuses : (k l : ℕ) → f ≡ Refused k l → ReadIndexed t x i (Refused k l)
+  indexed-refuses k l q =
+      record { is = first-refuses t x f p k l q; indexed = λ n c h. let z : _≡_ {A = ℕ} 0 1 = cc in absurd (omega arith) }
+
+  pub indexed-decides : (m c : ℕ) (n : Counts) (r : Reading) → f ≡ Accepted m c → n ≡ countsOf t x c → Rereads n x (Accepted m c) i r → ReadIndexed t x i r
+  indexed-decides m c n r q g w = record { is = second-decides t x f p m c n r q g (w .is); indexed = w .indexed }

@@ -1,4 +1,6 @@
 pub mod Keys
 pub mod Index
 pub mod Walk
+pub mod Formed
 pub mod Second
+pub mod IndexedReading

@@ -3,10 +3,10 @@ use Prim.Native.Nat.{ℕ, suc, _+_, _-_, _<_, _≤_}
 use mathlib.Core.Path.{_≡_, refl, sym, _∙_, ap}
 use mathlib.Core.List.{List, [], _∷_, _++_, map, map-append}
 use native.Mathlib.Omega.{arith}
-use lib.ListN.{length, take, drop, length-drop, drop-of-length-le}
+use lib.ListN.{length, take, drop, length-drop, drop-of-length-le, take-append-drop}
 use lib.Seq.{take-add}
 use Rattle.hex.specs.Digits.{bytesOf}
-use Rattle.hex.specs.Lines.{split, withLine, endOf}
+use Rattle.hex.specs.Lines.{Split, split, withLine, endOf}
 use Rattle.hex.specs.Cuts.{Line, end-line, end-none, split-append}
 use Rattle.frames.specs.First.{framesOf}
 
@@ -47,3 +47,11 @@ lines-before x at e w l =
 pub frames-before : (x : List ℕ) (at e : ℕ) → split (take at x) .rest ≡ [] → Line x at e → framesOf (take (e + 1) x) ≡ framesOf (take at x) ++ bytesOf (take (e - at) (drop at x)) ∷ []
 unfolding framesOf
 frames-before x at e w l = rw (lines-before x at e w l) (map-append bytesOf (split (take at x) .ended) (take (e - at) (drop at x) ∷ []))
+
+-- and all of them, where whole lines stand before `at`
+pub frames-split : (x : List ℕ) (at : ℕ) → split (take at x) .rest ≡ [] → framesOf (take at x) ++ framesOf (drop at x) ≡ framesOf x
+unfolding framesOf
+frames-split x at w =
+    sym (map-append bytesOf (split (take at x) .ended) (split (drop at x) .ended))
+    ∙ sym (ap (λ (s : Split). map bytesOf (s .ended)) (split-append (take at x) (drop at x) w))
+    ∙ ap framesOf (take-append-drop at x)

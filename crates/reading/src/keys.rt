@@ -1,18 +1,13 @@
 // A frame is found by its key. A key is a line of digits too, whole or the first part of one.
 ghost use mathlib.Core.Path.{_≡_};
-ghost use Prim.Native.Nat.{ℕ, _+_, _*_, _/_, _<_, _≤_};
-ghost use lib.ListN.{length, getD, take};
-ghost use lib.Dec.{ltb};
-ghost use Rattle.base.specs.Choose.{pick};
 ghost use Rattle.hex.specs.Digits.{bytesOf};
 ghost use Rattle.frames.specs.First.{framesOf};
-ghost use Rattle.reading.specs.Keys.{begins as beginsWith, find as findOf, keyGiven};
-use frames::kinds::key_length;
+ghost use Rattle.reading.specs.Keys.{begins as beginsWith, find as findOf};
 use hex::byte_at;
 use hex::line_end;
 
 // Whether the line begins with the key.
-fn begins(key: &[u8], line: &[u8]) -> bool
+pub fn begins(key: &[u8], line: &[u8]) -> bool
     ensures { λ r. ⌜ r ≡ beginsWith (bytesOf (now (key .entry))) (bytesOf (now (line .entry))) ⌝ }
 {
     let n = key.len() / 2;
@@ -45,30 +40,4 @@ pub fn find<'a, 'b>(text: &'a [u8], key: &'b [u8]) -> &'a [u8]
         at = e + 1;
     }
     &text[0..0]
-}
-
-fn wide(b: u8) -> usize
-    ensures { λ r. ⌜ (r ≡ b) × (r < 256) ⌝ }
-{
-    b as usize
-}
-
-// How many bytes of a frame are its first k.
-fn at_most(k: usize, length: usize) -> usize
-    ensures { λ r. ⌜ (r ≤ length) × (r ≡ pick (ltb k length) k length) ⌝ }
-{
-    if k < length { k } else { length }
-}
-
-// Whether an earlier line has the key of this one.
-pub fn key_given(earlier: &[u8], line: &[u8]) -> bool
-    ensures { λ r. ⌜ r ≡ keyGiven (framesOf (now (earlier .entry))) (bytesOf (now (line .entry))) ⌝ }
-{
-    let k = key_length(byte_at(line, 0));
-    if k == 0 {
-        return false;
-    }
-    let digits = 2 * at_most(wide(k), line.len() / 2);
-    let found = find(earlier, &line[..digits]);
-    2 <= found.len()
 }

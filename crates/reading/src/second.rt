@@ -1,13 +1,14 @@
 // The second reading: each line is tested 5, 6, 7 in turn. And the whole reading of a query, a plan or a table.
 ghost use mathlib.Core.Path.{_≡_};
-ghost use mathlib.Core.List.{[]};
-ghost use Prim.Native.Nat.{ℕ, _+_, _<_, _≤_};
-ghost use lib.ListN.{length, getD, take};
+ghost use Prim.Native.Nat.{ℕ, _≤_};
+ghost use lib.ListN.{length};
 ghost use Rattle.hex.specs.Digits.{bytesOf};
-ghost use Rattle.frames.specs.First.{framesOf, firstLine};
 ghost use Rattle.frames.specs.declared.first.Reading.the-variants.{Accepted};
-ghost use Rattle.reading.specs.Second.{headerCounts, countsOf, secondFault, secondFrom, reading};
-use super::keys::key_given;
+ghost use Rattle.reading.specs.Second.{headerCounts, countsOf, faultOf, reading};
+ghost use Rattle.reading.specs.Index.{Falling, givenBy};
+ghost use Rattle.reading.specs.IndexedReading.{Blank, FirstRead, Rereads, ReadIndexed};
+use super::index::key_given;
+use super::index::note;
 use frames::fields::Counts;
 use frames::fields::Test;
 use frames::first::Reading;
@@ -49,9 +50,10 @@ pub fn counts_of(t: Text, text: &[u8], c: usize) -> Counts
     }
 }
 
-// The tests 5, 6 and 7 of a line: the first that it fails, or 0.
-fn second_fault(n: Counts, earlier: &[u8], line: &[u8]) -> u8
-    ensures { λ r. ⌜ r ≡ secondFault n (framesOf (now (earlier .entry))) (bytesOf (now (line .entry))) ⌝ }
+// The tests 5, 6 and 7 of a line, by the index of those before it: the first that it fails, or 0.
+fn second_fault(n: Counts, text: &[u8], index: &[u32], line: &[u8]) -> u8
+    requires { ⌜ Falling (now index) ⌝ }
+    ensures { λ r. ⌜ r ≡ faultOf n (bytesOf (now (line .entry))) (givenBy (now (text .entry)) (now (index .entry)) (bytesOf (now (line .entry)))) ⌝ }
 {
     if !frame_passes(Test::Range, n, line) {
         return 5;
@@ -59,33 +61,38 @@ fn second_fault(n: Counts, earlier: &[u8], line: &[u8]) -> u8
     if !frame_passes(Test::Reals, n, line) {
         return 6;
     }
-    if key_given(earlier, line) { 7 } else { 0 }
+    if key_given(text, index, line) { 7 } else { 0 }
 }
 
-// The lines in turn, after a first reading that found that many lines and counted so many of them.
-fn second_lines(n: Counts, text: &[u8], lines: usize, counted: usize) -> Reading
-    ensures { λ r. ⌜ r ≡ secondFrom n [] 0 (framesOf (now (text .entry))) (Accepted lines counted) ⌝ }
+// The lines in turn, after a first reading that found that many lines and counted so many of them. Each that passes is entered.
+fn second_lines(n: Counts, text: &[u8], lines: usize, counted: usize, index: &mut [u32]) -> Reading
+    requires { ⌜ Blank (now text) (now index) ⌝ }
+    requires { ⌜ FirstRead (now text) ⌝ }
+    ensures { λ r. ⌜ Rereads n (now (text .entry)) (Accepted lines counted) (now (index .exit)) r ⌝ }
 {
     let mut at: usize = 0;
     let mut k: usize = 0;
+    let mut m: usize = 0;
     while at < text.len() {
         let e = line_end(text, at);
         if e == text.len() {
             return Reading::Accepted(lines, counted);
         }
-        let fault = second_fault(n, &text[..at], &text[at..e]);
+        let fault = second_fault(n, text, index, &text[at..e]);
         if fault != 0 {
             return Reading::Refused(fault, k + 1);
         }
+        m = note(index, &text[at..e], at, m);
         at = e + 1;
         k += 1;
     }
     Reading::Accepted(lines, counted)
 }
 
-// The reading of a text of any bytes and length.
-pub fn read_text(t: Text, text: &[u8]) -> Reading
-    ensures { λ r. ⌜ r ≡ reading t (now (text .entry)) ⌝ }
+// The reading of a text of any bytes and length; where it is accepted, the lent numbers are its index.
+pub fn read_indexed(t: Text, text: &[u8], index: &mut [u32]) -> Reading
+    requires { ⌜ Blank (now text) (now index) ⌝ }
+    ensures { λ r. ⌜ ReadIndexed t (now (text .entry)) (now (index .exit)) r ⌝ }
 {
     match first_reading(t, text) {
         Reading::Refused(k, line) => Reading::Refused(k, line),
@@ -94,6 +101,32 @@ pub fn read_text(t: Text, text: &[u8]) -> Reading
             text,
             lines,
             counted,
+            index,
         ),
     }
+}
+
+fn read_short(t: Text, text: &[u8]) -> Reading
+    requires { ⌜ length (now text) ≤ 4096 ⌝ }
+    ensures { λ r. ⌜ r ≡ reading t (now (text .entry)) ⌝ }
+{
+    let mut index = [0u32; 1686];
+    read_indexed(t, text, &mut index)
+}
+
+fn read_long(t: Text, text: &[u8]) -> Reading
+    ensures { λ r. ⌜ r ≡ reading t (now (text .entry)) ⌝ }
+{
+    let mut index = [0u32; 19240];
+    read_indexed(t, text, &mut index)
+}
+
+// The same without an index for later.
+pub fn read_text(t: Text, text: &[u8]) -> Reading
+    ensures { λ r. ⌜ r ≡ reading t (now (text .entry)) ⌝ }
+{
+    if text.len() <= 4096 {
+        return read_short(t, text);
+    }
+    read_long(t, text)
 }

@@ -1,64 +1,81 @@
+-- `reading::second::second_lines` meets its contract: line by line, each entered in the index behind the test.
 use borrow.Author.Needs.{needs}
-use mathlib.Core.Path.{sym}
 use Prim.Native.Nat.{_-_}
 use native.Mathlib.Omega.{arith}
 use lib.ListN.{length}
-use lib.Seq.{length-take-le}
 use Rattle.frames.specs.declared.first.Reading.the-variants.{Accepted}
-use Rattle.reading.proofs.SecondLaws.{Reread, from-start, all-read, none-left, line-from, line-within, line-less, read-again, line-refused}
+use Rattle.reading.proofs.SecondLaws.{line-from, line-within, line-less, Rereading, from-blank, all-indexed, none-indexed, noting, refused-indexed, reread-again}
 use Rattle.reading.proofs.second.second_lines.Statement.{statement}
 use Rattle.reading.proofs.second.second_lines.Tie as tie
 
 abbrev Inv-loop : tie.InvT-loop
-Inv-loop n text lines counted at₀ k₀ at k = Reread n text (Accepted lines counted) at k
+Inv-loop n text lines counted index₀ at₀ k₀ m₀ index at k m = Rereading n text (Accepted lines counted) index₀ index at k m
 
 abbrev μ-loop : tie.MeasureT-loop
-μ-loop n text lines counted at₀ k₀ at k = length text - at
+μ-loop n text lines counted index₀ at₀ k₀ m₀ index at k m = length text - at
 
 loop-holds : tie.Need-loop-holds Inv-loop μ-loop
-loop-holds c = search from-start
+loop-holds c = from-blank _ _ _ _ (c .before .before .pre .0) (c .before .before .pre .1)
 
 line-end-requires : tie.Need-line-end-requires Inv-loop μ-loop
 line-end-requires c κs = search needs
 
-returns : tie.Need-returns Inv-loop μ-loop
-returns c = search none-left
+same-length : tie.Need-same-length Inv-loop μ-loop
+same-length c = c .before .before .before .loop .inv .same
 
-slice-aggregate-second-fault : tie.Need-slice-aggregate-second-fault Inv-loop μ-loop
-slice-aggregate-second-fault c = sym (length-take-le _ _ (omega arith))
+returns : tie.Need-returns Inv-loop μ-loop
+returns c = none-indexed _ _ _ _ _ _ _ _ (c .before .before .before .loop .inv) _ (c .before .line-end .ensures .0) (c .if1 .taken)
 
 sub-second-fault : tie.Need-sub-second-fault Inv-loop μ-loop
-sub-second-fault c = search line-from
+sub-second-fault c = line-from _ _ _ _ _ (c .before .before .before .before .loop .inv .read) _ (c .before .before .line-end .ensures .0) (c .before .if1 .left)
 
 part-second-fault-start : tie.Need-part-second-fault-start Inv-loop μ-loop
-part-second-fault-start c = search line-from
+part-second-fault-start c = line-from _ _ _ _ _ (c .before .before .before .before .loop .inv .read) _ (c .before .before .line-end .ensures .0) (c .before .if1 .left)
 
 part-second-fault-end : tie.Need-part-second-fault-end Inv-loop μ-loop
-part-second-fault-end c = search line-within
+part-second-fault-end c = line-within _ _ _ _ _ (c .before .before .before .before .loop .inv .read) _ (c .before .before .line-end .ensures .0) (c .before .if1 .left)
 
 second-fault-requires : tie.Need-second-fault-requires Inv-loop μ-loop
-second-fault-requires c κs = search needs
+second-fault-requires c κs = c .before .before .before .before .before .loop .inv .index .falling
 
-add-t16 : tie.Need-add-t16 Inv-loop μ-loop
-add-t16 c = search needs
+add-t18 : tie.Need-add-t18 Inv-loop μ-loop
+add-t18 c = omega (arith, c .before .before .before .before .before .before .before .loop .inv .read .few)
+
+same-length-2 : tie.Need-same-length-2 Inv-loop μ-loop
+same-length-2 c = c .before .before .before .before .before .before .before .loop .inv .same
 
 returns-2 : tie.Need-returns-2 Inv-loop μ-loop
-returns-2 c = search line-refused
+returns-2 c = refused-indexed _ _ _ _ _ _ _ _ (c .before .before .before .before .before .before .before .loop .inv) _ (c .before .before .before .before .before .line-end .ensures .0) (c .before .before .before .before .if1 .left) _ (c .before .second-fault .ensures) (c .if2 .taken)
+
+sub-note : tie.Need-sub-note Inv-loop μ-loop
+sub-note c = line-from _ _ _ _ _ (c .before .before .before .before .before .before .before .before .loop .inv .read) _ (c .before .before .before .before .before .before .line-end .ensures .0) (c .before .before .before .before .before .if1 .left)
+
+part-note-start : tie.Need-part-note-start Inv-loop μ-loop
+part-note-start c = line-from _ _ _ _ _ (c .before .before .before .before .before .before .before .before .loop .inv .read) _ (c .before .before .before .before .before .before .line-end .ensures .0) (c .before .before .before .before .before .if1 .left)
+
+part-note-end : tie.Need-part-note-end Inv-loop μ-loop
+part-note-end c = line-within _ _ _ _ _ (c .before .before .before .before .before .before .before .before .loop .inv .read) _ (c .before .before .before .before .before .before .line-end .ensures .0) (c .before .before .before .before .before .if1 .left)
+
+note-requires : tie.Need-note-requires Inv-loop μ-loop
+note-requires c κs = noting _ _ _ _ _ _ _ _ (c .before .before .before .before .before .before .before .before .before .loop .inv)
 
 add-at : tie.Need-add-at Inv-loop μ-loop
 add-at c = search needs
 
 add-k : tie.Need-add-k Inv-loop μ-loop
-add-k c = search needs
+add-k c = omega (arith, c .before .before .before .before .before .before .before .before .before .before .before .before .loop .inv .read .few)
 
 loop-less : tie.Need-loop-less Inv-loop μ-loop
-loop-less c = search line-less
+loop-less c = line-less _ _ _ _ _ (c .before .before .before .before .before .before .before .before .before .before .before .before .loop .inv .read) _ (c .before .before .before .before .before .before .before .before .before .before .line-end .ensures .0) (c .before .before .before .before .before .before .before .before .before .if1 .left)
 
 loop-again : tie.Need-loop-again Inv-loop μ-loop
-loop-again c = search read-again
+loop-again c = reread-again _ _ _ _ _ _ _ _ (c .before .before .before .before .before .before .before .before .before .before .before .before .loop .inv) _ (c .before .before .before .before .before .before .before .before .before .before .line-end .ensures .0) (c .before .before .before .before .before .before .before .before .before .if1 .left) _ (c .before .before .before .before .before .before .second-fault .ensures) (c .before .before .before .before .before .if2 .left) _ _ (c .before .before .note .ensures .0) (c .before .before .note .ensures .1)
+
+same-length-3 : tie.Need-same-length-3 Inv-loop μ-loop
+same-length-3 c = c .before .loop .inv .same
 
 returns-3 : tie.Need-returns-3 Inv-loop μ-loop
-returns-3 c = search all-read
+returns-3 c = all-indexed _ _ _ _ _ _ _ _ (c .before .loop .inv) (c .loop-test .left)
 
 pub second-lines-spec : {M : Type 1} → statement M
 second-lines-spec =
@@ -68,16 +85,22 @@ second-lines-spec =
     μ-loop
     loop-holds
     line-end-requires
+    same-length
     returns
-    slice-aggregate-second-fault
     sub-second-fault
     part-second-fault-start
     part-second-fault-end
     second-fault-requires
-    add-t16
+    add-t18
+    same-length-2
     returns-2
+    sub-note
+    part-note-start
+    part-note-end
+    note-requires
     add-at
     add-k
     loop-less
     loop-again
+    same-length-3
     returns-3)

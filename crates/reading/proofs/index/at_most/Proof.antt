@@ -1,7 +1,8 @@
+-- `reading::index::at_most` meets its contract: the smaller of two.
 use borrow.Author.Needs.{needs}
 use Rattle.base.specs.Choose.{tests}
-use Rattle.reading.proofs.keys.at_most.Statement.{statement}
-use Rattle.reading.proofs.keys.at_most.Tie as tie
+use Rattle.reading.proofs.index.at_most.Statement.{statement}
+use Rattle.reading.proofs.index.at_most.Tie as tie
 
 returns : tie.Need-returns
 returns c = (search needs, search tests)

@@ -1,10 +1,11 @@
+-- `reading::index::key_given` meets its contract: the search for the line's own key.
 use mathlib.Core.Path.{sym}
 use native.Mathlib.Omega.{arith}
 use lib.Seq.{length-take-le}
-use Rattle.reading.proofs.KeyLaws.{no-key, key-is}
+use Rattle.reading.proofs.SearchLaws.{no-key, key-is}
 use borrow.Author.Needs.{needs}
-use Rattle.reading.proofs.keys.key_given.Statement.{statement}
-use Rattle.reading.proofs.keys.key_given.Tie as tie
+use Rattle.reading.proofs.index.key_given.Statement.{statement}
+use Rattle.reading.proofs.index.key_given.Tie as tie
 
 byte-at-requires : tie.Need-byte-at-requires
 byte-at-requires c κs = search needs
@@ -24,11 +25,11 @@ at-most-requires c κs = search needs
 mul-digits : tie.Need-mul-digits
 mul-digits c = search needs
 
-slice-aggregate-find : tie.Need-slice-aggregate-find
-slice-aggregate-find c = sym (length-take-le _ _ (omega arith))
+slice-aggregate-search : tie.Need-slice-aggregate-search
+slice-aggregate-search c = sym (length-take-le _ _ (omega arith))
 
-find-requires : tie.Need-find-requires
-find-requires c κs = search needs
+search-requires : tie.Need-search-requires
+search-requires c κs = search needs
 
 returns-2 : tie.Need-returns-2
 returns-2 c = search key-is
@@ -43,6 +44,6 @@ key-given-spec =
     wide-requires
     at-most-requires
     mul-digits
-    slice-aggregate-find
-    find-requires
+    slice-aggregate-search
+    search-requires
     returns-2)

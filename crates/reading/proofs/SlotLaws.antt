@@ -1,0 +1,175 @@
+-- The slot of a key: by its bytes in turn, and the same for a frame that begins with the key. Assumes nothing.
+use Prim.Native.Nat.{ℕ, zero, suc, _+_, _*_, _/_, _%_, _<_, _≤_}
+use mathlib.Core.Path.{_≡_, refl, sym, _∙_, ap}
+use mathlib.Core.Bool.{Bool, true, false, _&&_}
+use mathlib.Core.List.{List, [], _∷_}
+use native.Mathlib.Numerals.{add-one}
+use native.Mathlib.Omega.{arith}
+use lib.ListN.{length, getD, take, drop, drop-of-length-le}
+use lib.Seq.{drop-cons, getD-take, length-take-le, take-all, take-length}
+use lib.Dec.{T, eqb, leb, ltb, leb→le}
+use borrow.Author.Tests.{eq-eqb, ne-eqb, le-leb, lt-leb, eqb-true, leb-true, leb-false, ltb-false}
+use Rattle.base.specs.Choose.{pick}
+use Rattle.base.specs.Table.{all, both-left, both-right}
+use Rattle.hex.specs.Digits.{bytesOf}
+use Rattle.hex.specs.Bytes.{bytes-length}
+use Rattle.frames.specs.Kinds.{Kind, kinds, kindAt, fixedLength}
+use Rattle.frames.specs.Frames.{kindOf, frameLength}
+use Rattle.frames.proofs.KindLaws.{held}
+use Rattle.reading.specs.Keys.{begins, keyOf}
+use Rattle.reading.specs.Index.{slots, hashed, mixed, slotOf, Slotted, Proper}
+
+mixed-below : (h : ℕ) (l : List ℕ) → h < slots → mixed h l < slots
+unfolding mixed
+mixed-below h [] p = p
+mixed-below h (b ∷ l) p = mixed-below ((h * 31 + b) % slots) l (omega arith)
+
+pub slot-below : (f : List ℕ) → slotOf f < slots
+unfolding slotOf
+slot-below f = mixed-below 0 (take (hashed (getD f 0 0)) f) (omega arith)
+
+-- ---- how many bytes count
+
+module _ (b v k : ℕ) (p : v ≡ kindAt b .key) (q : k ≡ v) where
+  pub hashed-all : k ≤ 6 → k ≡ hashed b
+  hashed-all h = rw (← p, ← q, le-leb k 6 h)
+
+  pub hashed-part : 6 < k → 4 ≡ hashed b
+  hashed-part h = rw (← p, ← q, lt-leb k 6 h)
+
+-- ---- the loop
+
+pub take-least : (k m : ℕ) (f : List ℕ) → m ≡ pick (ltb k (length f)) k (length f) → take m f ≡ take k f
+take-least k m f p = rw p (go (ltb k (length f)) refl)
+  where
+    go : (t : Bool) → ltb k (length f) ≡ t → take (pick t k (length f)) f ≡ take k f
+    go true h = refl
+    go false h = take-length f ∙ sym (take-all k f (ltb-false k (length f) h))
+
+-- i bytes of n are mixed
+pub record Mixing (l : List ℕ) (n h i : ℕ) : Type 0 where
+  pub below : h < slots
+  pub within : n ≤ length (bytesOf l)
+  pub is : slotOf (bytesOf l) ≡ mixed h (drop i (take n (bytesOf l)))
+
+pub mix-starts : (l : List ℕ) (b w n : ℕ) → b ≡ getD (bytesOf l) 0 0 → w ≡ hashed b → n ≤ length l / 2 → n ≡ pick (ltb w (length l / 2)) w (length l / 2) → Mixing l n 0 0
+unfolding slotOf
+mix-starts l b w n p q h g =
+    let e : take n (bytesOf l) ≡ take w (bytesOf l) = take-least w n (bytesOf l) (rw (bytes-length l) g) in
+    record { below = omega arith; within = omega (arith, bytes-length l); is = rw (← p, ← q, e) }
+
+module _ (l : List ℕ) (n h i : ℕ) (s : Mixing l n h i) where
+  pub mix-again : (b w : ℕ) → i < n → b ≡ getD (bytesOf l) i 0 → w ≡ b → Mixing l n ((h * 31 + w) % 512) (i + 1)
+  unfolding mixed
+  mix-again b w g p q =
+      let e : i < length (take n (bytesOf l)) = rw (length-take-le n (bytesOf l) (s .within)) g in
+      let d : getD (take n (bytesOf l)) i 0 ≡ w = getD-take n (bytesOf l) i 0 g ∙ sym p ∙ sym q in
+      record { below = omega arith; within = s .within; is = s .is ∙ rw (add-one i, drop-cons (take n (bytesOf l)) i 0 e, d) }
+
+  pub mix-ends : n ≤ i → h ≡ slotOf (bytesOf l)
+  unfolding mixed
+  mix-ends g =
+      let e : length (take n (bytesOf l)) ≤ i = rw (length-take-le n (bytesOf l) (s .within)) g in
+      sym (s .is ∙ rw (drop-of-length-le (take n (bytesOf l)) e))
+
+-- ---- a frame that begins with a key
+
+-- a key with a slot has a first byte
+pub slotted-some : (P : List ℕ → Type 0) (k : List ℕ) → Slotted k → ((b : ℕ) (k : List ℕ) → P (b ∷ k)) → P k
+unfolding kindAt
+slotted-some P [] s f = absurd (omega (arith, s .keyed))
+slotted-some P (b ∷ k) s f = f b k
+
+pub proper-slotted : (k : List ℕ) → Proper k → Slotted k
+proper-slotted k p = record { keyed = p .keyed; enough = go (leb (kindAt (getD k 0 0) .key) 6) refl }
+  where
+    go : (t : Bool) → leb (kindAt (getD k 0 0) .key) 6 ≡ t → pick t (kindAt (getD k 0 0) .key) 4 ≤ length k
+    go true q = p .whole
+    go false q = omega (arith, p .whole, leb-false (kindAt (getD k 0 0) .key) 6 q)
+
+begins-more : (k b : ℕ) (key f : List ℕ) → begins (k ∷ key) (b ∷ f) ≡ true → (k ≡ b) × (begins key f ≡ true)
+unfolding begins
+begins-more k b key f p = go (eqb k b) refl p
+  where
+    go : (t : Bool) → eqb k b ≡ t → pick t (begins key f) false ≡ true → (k ≡ b) × (begins key f ≡ true)
+    go true q r = (eqb-true k b q, r)
+    go false q r = let z : _≡_ {A = ℕ} 0 1 = cc in absurd (omega arith)
+
+-- the first bytes agree
+begins-take : (n : ℕ) (k f : List ℕ) → n ≤ length k → begins k f ≡ true → take n k ≡ take n f
+unfolding begins
+begins-take zero k f h p = refl
+begins-take (suc n) [] f h p = absurd (omega arith)
+begins-take (suc n) (b ∷ k) [] h p = let z : _≡_ {A = ℕ} 0 1 = cc in absurd (omega arith)
+begins-take (suc n) (b ∷ k) (d ∷ f) h p =
+    let e = begins-more b d k f p in
+    rw (e .0, begins-take n k f (omega arith) (e .1))
+
+pub begins-first : (k f : List ℕ) → Slotted k → begins k f ≡ true → getD k 0 0 ≡ getD f 0 0
+unfolding begins kindAt
+begins-first [] f s p = absurd (omega (arith, s .keyed))
+begins-first (b ∷ k) [] s p = let z : _≡_ {A = ℕ} 0 1 = cc in absurd (omega arith)
+begins-first (b ∷ k) (d ∷ f) s p = begins-more b d k f p .0
+
+pub begins-slot : (k f : List ℕ) → Slotted k → begins k f ≡ true → slotOf k ≡ slotOf f
+unfolding slotOf
+begins-slot k f s p = rw (begins-take (hashed (getD k 0 0)) k f (s .enough) p, begins-first k f s p)
+
+-- and so does what begins with the key k begin with the first bytes of f, which does too
+pub begins-part : (n : ℕ) (k f g : List ℕ) → n ≤ length k → begins k f ≡ true → begins k g ≡ true → begins (take n f) g ≡ true
+unfolding begins
+begins-part zero k f g h p q = refl
+begins-part (suc n) [] f g h p q = absurd (omega arith)
+begins-part (suc n) (b ∷ k) [] g h p q = let z : _≡_ {A = ℕ} 0 1 = cc in absurd (omega arith)
+begins-part (suc n) (b ∷ k) (d ∷ f) [] h p q = let z : _≡_ {A = ℕ} 0 1 = cc in absurd (omega arith)
+begins-part (suc n) (b ∷ k) (d ∷ f) (e ∷ g) h p q =
+    let u = begins-more b d k f p in
+    let v = begins-more b e k g q in
+    rw (eq-eqb d e (sym (u .0) ∙ v .0)) (begins-part n k f g (omega arith) (u .1) (v .1))
+
+-- ---- the key of a frame that has its kind's length
+
+-- what counts of a key: no more than it has
+counting : ℕ → ℕ
+counting n = pick (leb n 6) n 4
+
+counting-least : (n : ℕ) → counting n ≤ n
+unfolding counting
+counting-least n = go (leb n 6) refl
+  where
+    go : (t : Bool) → leb n 6 ≡ t → pick t n 4 ≤ n
+    go true q = omega arith
+    go false q = omega (arith, leb-false n 6 q)
+
+-- a kind with a key has three bytes or more, and those that count
+long-kind : Kind → Bool
+long-kind r = pick (eqb (r .key) 0) true (leb 3 (fixedLength r) && leb (counting (r .key)) (fixedLength r))
+
+pub record LongKeyed (f : List ℕ) : Type 0 where
+  pub three : 3 ≤ length f
+  pub counts : hashed (getD f 0 0) ≤ length f
+
+pub keyed-long : (f : List ℕ) → length f ≡ frameLength f → (kindOf f .key ≡ 0 → ⊥) → LongKeyed f
+unfolding kindAt kinds all long-kind counting
+keyed-long f l n =
+    let n3 = leb 3 (fixedLength (kindOf f)) in
+    let nh = leb (hashed (getD f 0 0)) (fixedLength (kindOf f)) in
+    let t : T (n3 && nh) = rw (ne-eqb (kindOf f .key) 0 n) at (held long-kind kinds (getD f 0 0) tt tt) in
+    let u = leb→le 3 (fixedLength (kindOf f)) (both-left n3 nh t) in
+    let v = leb→le (hashed (getD f 0 0)) (fixedLength (kindOf f)) (both-right n3 nh t) in
+    record { three = omega arith; counts = omega arith }
+
+pub key-slotted : (f : List ℕ) → (kindOf f .key ≡ 0 → ⊥) → hashed (getD f 0 0) ≤ length f → Slotted (keyOf f)
+unfolding counting
+key-slotted f n h = record { keyed = rw first (omega arith); enough = rw first (go (leb (kindOf f .key) (length f)) refl) }
+  where
+    some : (k : ℕ) → (k ≡ 0 → ⊥) → 0 < k
+    some zero z = absurd (z refl)
+    some (suc k) z = omega arith
+
+    first : getD (keyOf f) 0 0 ≡ getD f 0 0
+    first = getD-take (kindOf f .key) f 0 0 (some (kindOf f .key) n)
+
+    go : (t : Bool) → leb (kindOf f .key) (length f) ≡ t → hashed (getD f 0 0) ≤ length (take (kindOf f .key) f)
+    go true q = rw (length-take-le (kindOf f .key) f (leb-true (kindOf f .key) (length f) q)) (counting-least (kindOf f .key))
+    go false q = let g = leb-false (kindOf f .key) (length f) q in rw (take-all (kindOf f .key) f (omega arith)) h

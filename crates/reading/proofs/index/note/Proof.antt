@@ -1,0 +1,101 @@
+-- `reading::index::note` meets its contract: three stores.
+use lib.ListN.{length-set}
+use native.Mathlib.Omega.{arith}
+use Rattle.reading.proofs.NoteLaws.{note-none, note-some}
+use Rattle.hex.specs.Digits.{bytesOf}
+use borrow.Author.Needs.{needs}
+use Rattle.reading.proofs.index.note.Statement.{statement}
+use Rattle.reading.proofs.index.note.Tie as tie
+
+byte-at-requires : tie.Need-byte-at-requires
+byte-at-requires c κs = search needs
+
+key-length-requires : tie.Need-key-length-requires
+key-length-requires c κs = search needs
+
+returns : tie.Need-returns
+returns c = note-none _ (bytesOf (c .before .before .before .before .before .args .line .now)) (c .before .before .before .before .before .args .at) (c .before .before .before .before .before .args .m) _ _ (c .before .before .byte-at .ensures) (c .before .key-length .ensures) (c .if1 .taken)
+
+slot-of-requires : tie.Need-slot-of-requires
+slot-of-requires c κs = search needs
+
+add-e : tie.Need-add-e
+add-e c = search needs
+
+mul-older : tie.Need-mul-older
+mul-older c = search needs
+
+slice-read-older : tie.Need-slice-read-older
+slice-read-older c = search needs
+
+cast-index : tie.Need-cast-index
+cast-index c = search needs
+
+mul-index : tie.Need-mul-index
+mul-index c = search needs
+
+add-index : tie.Need-add-index
+add-index c = search needs
+
+mul-index-2 : tie.Need-mul-index-2
+mul-index-2 c = search needs
+
+slice-write-index : tie.Need-slice-write-index
+slice-write-index c = search needs
+
+mul-index-3 : tie.Need-mul-index-3
+mul-index-3 c = search needs
+
+add-index-2 : tie.Need-add-index-2
+add-index-2 c = search needs
+
+add-index-3 : tie.Need-add-index-3
+add-index-3 c = search needs
+
+mul-index-4 : tie.Need-mul-index-4
+mul-index-4 c = search needs
+
+slice-write-index-2 : tie.Need-slice-write-index-2
+slice-write-index-2 c = simp length-set (omega arith)
+
+cast-index-2 : tie.Need-cast-index-2
+cast-index-2 c = search needs
+
+mul-index-5 : tie.Need-mul-index-5
+mul-index-5 c = search needs
+
+slice-write-index-3 : tie.Need-slice-write-index-3
+slice-write-index-3 c = simp length-set (omega arith)
+
+same-length : tie.Need-same-length
+same-length c = search needs
+
+returns-2 : tie.Need-returns-2
+returns-2 c = note-some _ _ _ _ _ _ (c .before .before .before .before .byte-at .ensures) (c .before .before .before .key-length .ensures) _ (c .before .before .if1 .left) (c .before .slot-of .ensures .0)
+
+pub note-spec : {M : Type 1} → statement M
+note-spec =
+    tie.close
+    (tie.spec
+    byte-at-requires
+    key-length-requires
+    returns
+    slot-of-requires
+    add-e
+    mul-older
+    slice-read-older
+    cast-index
+    mul-index
+    add-index
+    mul-index-2
+    slice-write-index
+    mul-index-3
+    add-index-2
+    add-index-3
+    mul-index-4
+    slice-write-index-2
+    cast-index-2
+    mul-index-5
+    slice-write-index-3
+    same-length
+    returns-2)
