@@ -26,6 +26,10 @@ six k a b c d e h i j l m n = rw (lt-ltb k 256 h, lt-ltb a 256 i, lt-ltb b 256 j
 pub key-found : (l d r : List ℕ) (fs : List (List ℕ)) (n : ℕ) → T (areBytes l) → d ≡ digitsOf l → bytesOf r ≡ find (bytesOf (take (2 * n) d)) fs → bytesOf r ≡ find (take n l) fs
 key-found l d r fs n t p q = q ∙ rw (bytes-take n d, p, bytes-read l t)
 
+-- its digits are the key's
+pub key-read : (P : List ℕ → Type 0) (l d : List ℕ) (n : ℕ) → T (areBytes l) → d ≡ digitsOf l → P (take n l) → P (bytesOf (take (2 * n) d))
+key-read P l d n t p q = rw (bytes-take n d, p, bytes-read l t) q
+
 pub key-length : (k a b c d e n : ℕ) (ds : List ℕ) → ds ≡ digitsOf (k ∷ a ∷ b ∷ c ∷ d ∷ e ∷ []) → n ≤ 6 → 2 * n ≡ length (take (2 * n) ds)
 key-length k a b c d e n ds p h = rw p (sym (length-take-le (2 * n) (digitsOf (k ∷ a ∷ b ∷ c ∷ d ∷ e ∷ [])) (omega arith)))
 

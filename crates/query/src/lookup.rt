@@ -8,6 +8,7 @@ ghost use Rattle.frames.specs.First.{framesOf};
 ghost use Rattle.reading.specs.Keys.{find as findOf};
 ghost use Rattle.reading.specs.Index.{Proper, Indexed};
 use hex::hex_digit;
+use reading::index::find_by;
 use reading::keys::find;
 
 fn high_digit(b: u8) -> u8
@@ -67,5 +68,6 @@ pub fn look_up<'a, 'b>(
     requires { ⌜ Indexed (now text) (now index) ⌝ }
     ensures { λ r. ⌜ bytesOf (now r) ≡ findOf (take n (k ∷ a ∷ b ∷ c ∷ d ∷ e ∷ [])) (framesOf (now (text .entry))) ⌝ }
 {
-    find_six(text, n, k, a, b, c, d, e)
+    let key = digits(k, a, b, c, d, e);
+    find_by(text, index, &key[..2 * n])
 }
