@@ -13,7 +13,7 @@ use Rattle.hex.specs.Digits.{bytesOf, digitsOf, hexDigit}
 use Rattle.hex.specs.Bytes.{bytes-take, bytes-read}
 use Rattle.frames.specs.Kinds.{kindAt}
 use Rattle.reading.specs.Keys.{find}
-use Rattle.reading.specs.Index.{hashed, Proper}
+use Rattle.reading.specs.Index.{Proper}
 
 pub high-is : (b v : ℕ) → b < 256 → v ≡ hexDigit (b / 16 % 16) → v ≡ hexDigit (b / 16)
 high-is b v h p = let e : b / 16 % 16 ≡ b / 16 = omega arith in p ∙ ap hexDigit e
@@ -34,5 +34,5 @@ pub key-length : (k a b c d e n : ℕ) (ds : List ℕ) → ds ≡ digitsOf (k �
 key-length k a b c d e n ds p h = rw p (sym (length-take-le (2 * n) (digitsOf (k ∷ a ∷ b ∷ c ∷ d ∷ e ∷ [])) (omega arith)))
 
 -- a key of kind b with the bytes r behind it, where the table of kinds says so
-pub proper : (b : ℕ) (r : List ℕ) → ltb 0 (kindAt b .key) ≡ true → leb (hashed b) (suc (length r)) ≡ true → Proper (b ∷ r)
-proper b r h l = record { keyed = ltb-true 0 (kindAt b .key) h; whole = leb-true (hashed b) (suc (length r)) l }
+pub proper : (b : ℕ) (r : List ℕ) → ltb 0 (kindAt b .key) ≡ true → leb (kindAt b .key) (suc (length r)) ≡ true → Proper (b ∷ r)
+proper b r h l = record { keyed = ltb-true 0 (kindAt b .key) h; whole = leb-true (kindAt b .key) (suc (length r)) l }
