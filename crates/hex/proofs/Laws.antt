@@ -1,15 +1,19 @@
 -- The loops' laws. Assumes nothing.
 use Prim.Native.Nat.{ℕ, suc, _+_, _-_, _<_, _≤_}
 use mathlib.Core.Path.{_≡_, refl, sym, _∙_}
+use mathlib.Core.Bool.{Bool, true, false}
 use mathlib.Core.List.{List, [], _∷_}
+use native.Mathlib.Omega.{arith}
 use native.Mathlib.Numerals.{add-one}
-use lib.ListN.{length, getD, drop, drop-of-length-le}
-use lib.Seq.{drop-cons}
+use lib.ListN.{length, getD, take, drop, drop-of-length-le}
+use lib.Seq.{drop-cons, take-nil}
+use lib.Dec.{eqb}
 use borrow.Author.Tests.{eq-eqb, ne-eqb}
+use Rattle.base.specs.Choose.{pick}
 use Rattle.hex.specs.declared.Found.{Found}
 use Rattle.hex.specs.declared.Found.the-variants.{At, Nothing}
 use Rattle.hex.specs.Digits.{digitValue}
-use Rattle.hex.specs.Lines.{hexLineOf, endOf}
+use Rattle.hex.specs.Lines.{hexLineOf, endOf, lineAt}
 use Rattle.hex.specs.Scan.{scan, scan-line, stoppedAt}
 
 module _ (t : List ℕ) (at i : ℕ) where
@@ -38,3 +42,24 @@ module _ (t : List ℕ) (at i : ℕ) where
 
   pub end-none : endOf at (drop at t) ≡ endOf i (drop i t) → length t ≤ i → i ≡ endOf at (drop at t)
   end-none q h = sym (q ∙ rw (drop-of-length-le t h))
+
+-- ---- the line that begins at a place
+
+-- it ends behind where it begins
+pub end-from : (x : List ℕ) (at e : ℕ) → e ≡ endOf at (drop at x) → at ≤ e
+end-from x at e h = rw h (go (drop at x) at)
+  where
+    go : (t : List ℕ) (at : ℕ) → at ≤ endOf at t
+    go [] at = omega arith
+    go (b ∷ t) at = by (eqb b 10) (go t (suc at))
+      where
+        by : (d : Bool) → suc at ≤ endOf (suc at) t → at ≤ pick d at (endOf (suc at) t)
+        by true h = omega arith
+        by false h = omega arith
+
+-- past the end of the text there is none
+pub line-past : (t : List ℕ) (at : ℕ) → length t < at → take 0 t ≡ lineAt t at
+line-past t at h = let l : length t ≤ at = omega arith in rw (drop-of-length-le t l) (sym (take-nil (endOf at [] - at)))
+
+pub line-there : (t : List ℕ) (at e : ℕ) → e ≡ endOf at (drop at t) → take (e - at) (drop at t) ≡ lineAt t at
+line-there t at e h = rw h

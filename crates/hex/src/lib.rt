@@ -3,8 +3,10 @@ ghost use mathlib.Core.Path.{_≡_};
 ghost use Prim.Native.Nat.{ℕ, _+_, _*_, _-_, _%_, _<_, _≤_};
 ghost use lib.ListN.{length, getD, take, drop};
 ghost use Rattle.hex.specs.Digits.{digitValue, hexDigit, bytesOf, shortAt, wordAt, longAt};
-ghost use Rattle.hex.specs.Lines.{hexLineOf, endOf};
+ghost use Rattle.hex.specs.Lines.{hexLineOf, endOf, lineAt};
 ghost use Rattle.hex.specs.Scan.{stoppedAt};
+
+pub mod reader;
 
 pub enum Found {
     At(usize),
@@ -172,4 +174,15 @@ pub fn line_end(text: &[u8], at: usize) -> usize
         i += 1;
     }
     i
+}
+
+// The line that begins at `at`: no bytes where the text ends before.
+pub fn line_at(text: &[u8], at: usize) -> &[u8]
+    ensures { λ r. ⌜ now r ≡ lineAt (now (text .entry)) at ⌝ }
+{
+    if text.len() < at {
+        return &text[0..0];
+    }
+    let e = line_end(text, at);
+    &text[at..e]
 }
