@@ -5,11 +5,11 @@ use mathlib.Core.List.{List, [], _∷_, _++_}
 use mathlib.Core.Bool.{Bool, true, false}
 use native.Mathlib.Omega.{arith}
 use native.Mathlib.Nat.{add-zero, add-suc, suc-add}
-use lib.ListN.{length, take, drop, length-drop}
+use lib.ListN.{length, take, drop, length-take, length-drop}
 use lib.Seq.{drop-drop}
 use lib.Dec.{eqb}
 use Rattle.base.specs.Choose.{pick}
-use Rattle.hex.specs.Lines.{Split, withLine, withByte, split, isHex, hexLineIn, hexLineOf, endOf}
+use Rattle.hex.specs.Lines.{Split, withLine, withByte, split, isHex, hexLineIn, hexLineOf, endOf, lineAt}
 use Rattle.hex.specs.declared.Found.{Found}
 use Rattle.hex.specs.declared.Found.the-variants.{At, Nothing}
 
@@ -176,3 +176,9 @@ pub split-append : (a y : List ℕ) → split a .rest ≡ [] → split (a ++ y) 
 unfolding split
 split-append [] y q = refl
 split-append (b ∷ a) y q = app-by b a y (eqb b 10) refl (split-append a y) q
+
+-- the line at a place lies within the text
+pub line-within : (x : List ℕ) (at : ℕ) → at ≤ length x → at + length (lineAt x at) ≤ length x
+line-within x at h =
+    let n = endOf at (drop at x) - at in
+    omega (arith, length-take n (drop at x), length-drop at x)
