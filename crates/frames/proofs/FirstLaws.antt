@@ -14,8 +14,8 @@ use mir.Syntax.{w64}
 use Rattle.base.specs.Choose.{pick, pick-elim}
 use Rattle.hex.specs.Digits.{bytesOf}
 use Rattle.hex.specs.Bytes.{bytes-length}
-use Rattle.hex.specs.Lines.{Split, split, isHex, hexLineIn, hexLineOf}
-use Rattle.hex.specs.Cuts.{Line, HexLine, hex-found, all-rest}
+use Rattle.hex.specs.Lines.{Split, split, isHex, hexLineIn, hexLineOf, lineAt}
+use Rattle.hex.specs.Cuts.{Line, HexLine, hex-found, all-rest, line-found}
 use Rattle.hex.specs.declared.Found.{Found}
 use Rattle.hex.specs.declared.Found.the-variants.{At, Nothing}
 use Rattle.frames.specs.declared.fields.Counts.{Counts}
@@ -89,12 +89,12 @@ module _ (t : Text) (x : List ℕ) (at e : ℕ) (f : Found) (p : f ≡ hexLineOf
   pub next-less : length x - (e + 1) < length x - at
   next-less = omega (arith, line .line .within, line .line .from)
 
-  module _ (n c k : ℕ) (s : Seen t x at n c) (r : k ≡ frameFault t (eqb n 0) c (bytesOf (take (e - at) (drop at x)))) where
-    line-says : firstFrom t 0 0 x ≡ orElse k n (firstFrom t (suc n) (counted t c (getD (bytesOf (take (e - at) (drop at x))) 0 0)) (drop (e + 1) x))
+  module _ (l : List ℕ) (taken : l ≡ lineAt x at) (n c k : ℕ) (s : Seen t x at n c) (r : k ≡ frameFault t (eqb n 0) c (bytesOf l)) where
+    line-says : firstFrom t 0 0 x ≡ orElse k n (firstFrom t (suc n) (counted t c (getD (bytesOf l) 0 0)) (drop (e + 1) x))
     unfolding firstLines lineFault
-    line-says = s .is ∙ rw (line .line .splits, line .hex, ← r)
+    line-says = let g : take (e - at) (drop at x) ≡ l = sym (taken ∙ line-found x at e (line .line)) in s .is ∙ rw (line .line .splits, line .hex, g, ← r)
 
-    pub next-seen : (b d : ℕ) → k ≡ 0 → b ≡ getD (bytesOf (take (e - at) (drop at x))) 0 0 → d ≡ counted t c b → Seen t x (e + 1) (n + 1) d
+    pub next-seen : (b d : ℕ) → k ≡ 0 → b ≡ getD (bytesOf l) 0 0 → d ≡ counted t c b → Seen t x (e + 1) (n + 1) d
     next-seen b d z u v = record {
       few = omega (arith, s .few, line .line .from);
       most = rw v (omega (arith, s .most, one-more t c b));

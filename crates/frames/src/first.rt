@@ -14,6 +14,7 @@ use hex::Found;
 use hex::byte_at;
 use hex::hex_line;
 use hex::line_end;
+use hex::reader::line_from;
 use hex::short_at;
 
 pub enum Text {
@@ -157,11 +158,12 @@ fn first_lines(t: Text, text: &[u8]) -> Reading
         let Found::At(e) = hex_line(text, at) else {
             return Reading::Refused(1, n + 1);
         };
-        let fault = frame_fault(t, n == 0, c, &text[at..e]);
+        let line = line_from(text, at);
+        let fault = frame_fault(t, n == 0, c, line);
         if fault != 0 {
             return Reading::Refused(fault, n + 1);
         }
-        c = counted(t, c, byte_at(&text[at..e], 0));
+        c = counted(t, c, byte_at(line, 0));
         at = e + 1;
         n += 1;
     }

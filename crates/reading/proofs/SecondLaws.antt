@@ -1,6 +1,6 @@
 -- The second reading, a test and a line at a time. Assumes nothing.
 use Prim.Native.Nat.{ℕ, zero, suc, _+_, _-_, _*_, _/_, _<_, _≤_}
-use mathlib.Core.Path.{_≡_, refl, sym, _∙_, ap}
+use mathlib.Core.Path.{_≡_, refl, sym, _∙_, ap, subst}
 use mathlib.Core.Bool.{Bool, true, false, not}
 use mathlib.Core.List.{List, [], _∷_, _++_, append-nil}
 use native.Mathlib.Numerals.{add-one}
@@ -12,7 +12,7 @@ use borrow.Author.Tests.{eqb-false, not-true, not-false}
 use Rattle.hex.specs.Digits.{bytesOf}
 use Rattle.hex.specs.Bytes.{bytes-length}
 use Rattle.hex.specs.Lines.{split, endOf, lineAt}
-use Rattle.hex.specs.Cuts.{Line}
+use Rattle.hex.specs.Cuts.{Line, line-ends, line-within as within-text}
 use Rattle.base.specs.Choose.{pick}
 use Rattle.frames.specs.Limits.{textMost, atomsMost}
 use Rattle.frames.specs.Fields.{fieldPasses}
@@ -99,12 +99,6 @@ module _ (n : Counts) (x : List ℕ) (a : Reading) (at k : ℕ) (s : Reread n x 
     module _ (z : e ≡ length x → ⊥) where
       line : Line x at e
       line = walk-line x at e (s .within) p z
-
-      pub line-from : at ≤ e
-      line-from = line .from
-
-      pub line-within : e ≤ length x
-      line-within = omega (arith, line .within)
 
       pub line-less : length x - (e + 1) < length x - at
       line-less = omega (arith, line .within, line .from)
@@ -213,6 +207,35 @@ module _ (n : Counts) (x : List ℕ) (a : Reading) (i₀ i : List ℕ) (at k m :
             room = rw o (s .room);
             same = o ∙ s .same;
           }
+
+  -- the line l that the reader takes at `at`
+  module _ (l : List ℕ) (taken : l ≡ lineAt x at) where
+    line-end : at + length l ≡ endOf at (drop at x)
+    line-end = line-ends x l at (s .read .within) taken
+
+    line-is : l ≡ take (at + length l - at) (drop at x)
+    line-is = rw line-end taken
+
+    pub end-fits : at + length l ≤ length x
+    end-fits = rw taken (within-text x at (s .read .within))
+
+    pub no-end : at + length l ≡ length x → Rereads n x a i a
+    no-end = none-indexed (at + length l) line-end
+
+    module _ (z : at + length l ≡ length x → ⊥) where
+      pub next-less : length x - (at + length l + 1) < length x - at
+      next-less = line-less n x a at k (s .read) (at + length l) line-end z
+
+      module _ (v : ℕ) (q : v ≡ faultOf n (bytesOf l) (givenBy x i (bytesOf l))) where
+        same-fault : v ≡ faultOf n (bytesOf (take (at + length l - at) (drop at x))) (givenBy x i (bytesOf (take (at + length l - at) (drop at x))))
+        same-fault = subst (λ (y : List ℕ). v ≡ faultOf n (bytesOf y) (givenBy x i (bytesOf y))) line-is q
+
+        pub line-turned-back : (v ≡ 0 → ⊥) → Rereads n x a i (Refused v (k + 1))
+        line-turned-back = refused-indexed (at + length l) line-end z v same-fault
+
+        pub line-entered : v ≡ 0 → (j : List ℕ) (m′ : ℕ) → j ≡ noted i (bytesOf l) at m → m′ ≡ entriesWith (bytesOf l) m → Rereading n x a i₀ j (at + length l + 1) (k + 1) m′
+        line-entered g j m′ u w =
+            reread-again (at + length l) line-end z v same-fault g j m′ (u ∙ ap (λ (y : List ℕ). noted i (bytesOf y) at m) line-is) (w ∙ ap (λ (y : List ℕ). entriesWith (bytesOf y) m) line-is)
 
 -- ---- the whole
 

@@ -17,6 +17,7 @@ use frames::first::first_reading;
 use frames::frame::frame_passes;
 use hex::byte_at;
 use hex::line_end;
+use hex::reader::line_from;
 
 // What a header says, with that many atoms.
 fn header_counts(line: &[u8], atoms: usize) -> Counts
@@ -74,15 +75,16 @@ fn second_lines(n: Counts, text: &[u8], lines: usize, counted: usize, index: &mu
     let mut k: usize = 0;
     let mut m: usize = 0;
     while at < text.len() {
-        let e = line_end(text, at);
+        let line = line_from(text, at);
+        let e = at + line.len();
         if e == text.len() {
             return Reading::Accepted(lines, counted);
         }
-        let fault = second_fault(n, text, index, &text[at..e]);
+        let fault = second_fault(n, text, index, line);
         if fault != 0 {
             return Reading::Refused(fault, k + 1);
         }
-        m = note(index, &text[at..e], at, m);
+        m = note(index, line, at, m);
         at = e + 1;
         k += 1;
     }

@@ -1,3 +1,4 @@
+-- `frames::first::first_lines` meets its contract: the lines that are left say what the whole text says.
 use borrow.Author.Needs.{needs}
 use Prim.Native.Nat.{_-_}
 use mathlib.Core.Path.{refl}
@@ -31,14 +32,8 @@ add-t11 c = search needs
 returns : tie.Need-returns Inv-loop μ-loop
 returns c = search none-refused
 
-sub-frame-fault : tie.Need-sub-frame-fault Inv-loop μ-loop
-sub-frame-fault c = search found-from
-
-part-frame-fault-start : tie.Need-part-frame-fault-start Inv-loop μ-loop
-part-frame-fault-start c = search found-from
-
-part-frame-fault-end : tie.Need-part-frame-fault-end Inv-loop μ-loop
-part-frame-fault-end c = search found-within
+line-from-requires : tie.Need-line-from-requires Inv-loop μ-loop
+line-from-requires c κs = search needs
 
 frame-fault-requires : tie.Need-frame-fault-requires Inv-loop μ-loop
 frame-fault-requires c κs = search needs
@@ -48,15 +43,6 @@ add-t15 c = search needs
 
 returns-2 : tie.Need-returns-2 Inv-loop μ-loop
 returns-2 c = search line-refused
-
-sub-byte-at : tie.Need-sub-byte-at Inv-loop μ-loop
-sub-byte-at c = search found-from
-
-part-byte-at-start : tie.Need-part-byte-at-start Inv-loop μ-loop
-part-byte-at-start c = search found-from
-
-part-byte-at-end : tie.Need-part-byte-at-end Inv-loop μ-loop
-part-byte-at-end c = search found-within
 
 byte-at-requires : tie.Need-byte-at-requires Inv-loop μ-loop
 byte-at-requires c κs = search needs
@@ -91,15 +77,10 @@ first-lines-spec =
     enum-told
     add-t11
     returns
-    sub-frame-fault
-    part-frame-fault-start
-    part-frame-fault-end
+    line-from-requires
     frame-fault-requires
     add-t15
     returns-2
-    sub-byte-at
-    part-byte-at-start
-    part-byte-at-end
     byte-at-requires
     counted-requires
     add-at

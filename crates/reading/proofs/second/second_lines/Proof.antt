@@ -4,7 +4,7 @@ use Prim.Native.Nat.{_-_}
 use native.Mathlib.Omega.{arith}
 use lib.ListN.{length}
 use Rattle.frames.specs.declared.first.Reading.the-variants.{Accepted}
-use Rattle.reading.proofs.SecondLaws.{line-from, line-within, line-less, Rereading, from-blank, all-indexed, none-indexed, noting, refused-indexed, reread-again}
+use Rattle.reading.proofs.SecondLaws.{Rereading, from-blank, all-indexed, noting, end-fits, no-end, next-less, line-turned-back, line-entered}
 use Rattle.reading.proofs.second.second_lines.Statement.{statement}
 use Rattle.reading.proofs.second.second_lines.Tie as tie
 
@@ -17,23 +17,11 @@ abbrev μ-loop : tie.MeasureT-loop
 loop-holds : tie.Need-loop-holds Inv-loop μ-loop
 loop-holds c = from-blank _ _ _ _ (c .before .before .pre .0) (c .before .before .pre .1)
 
-line-end-requires : tie.Need-line-end-requires Inv-loop μ-loop
-line-end-requires c κs = search needs
-
 same-length : tie.Need-same-length Inv-loop μ-loop
 same-length c = c .before .before .before .loop .inv .same
 
 returns : tie.Need-returns Inv-loop μ-loop
 returns c = none-indexed _ _ _ _ _ _ _ _ (c .before .before .before .loop .inv) _ (c .before .line-end .ensures .0) (c .if1 .taken)
-
-sub-second-fault : tie.Need-sub-second-fault Inv-loop μ-loop
-sub-second-fault c = line-from _ _ _ _ _ (c .before .before .before .before .loop .inv .read) _ (c .before .before .line-end .ensures .0) (c .before .if1 .left)
-
-part-second-fault-start : tie.Need-part-second-fault-start Inv-loop μ-loop
-part-second-fault-start c = line-from _ _ _ _ _ (c .before .before .before .before .loop .inv .read) _ (c .before .before .line-end .ensures .0) (c .before .if1 .left)
-
-part-second-fault-end : tie.Need-part-second-fault-end Inv-loop μ-loop
-part-second-fault-end c = line-within _ _ _ _ _ (c .before .before .before .before .loop .inv .read) _ (c .before .before .line-end .ensures .0) (c .before .if1 .left)
 
 second-fault-requires : tie.Need-second-fault-requires Inv-loop μ-loop
 second-fault-requires c κs = c .before .before .before .before .before .loop .inv .index .falling
@@ -46,15 +34,6 @@ same-length-2 c = c .before .before .before .before .before .before .before .loo
 
 returns-2 : tie.Need-returns-2 Inv-loop μ-loop
 returns-2 c = refused-indexed _ _ _ _ _ _ _ _ (c .before .before .before .before .before .before .before .loop .inv) _ (c .before .before .before .before .before .line-end .ensures .0) (c .before .before .before .before .if1 .left) _ (c .before .second-fault .ensures) (c .if2 .taken)
-
-sub-note : tie.Need-sub-note Inv-loop μ-loop
-sub-note c = line-from _ _ _ _ _ (c .before .before .before .before .before .before .before .before .loop .inv .read) _ (c .before .before .before .before .before .before .line-end .ensures .0) (c .before .before .before .before .before .if1 .left)
-
-part-note-start : tie.Need-part-note-start Inv-loop μ-loop
-part-note-start c = line-from _ _ _ _ _ (c .before .before .before .before .before .before .before .before .loop .inv .read) _ (c .before .before .before .before .before .before .line-end .ensures .0) (c .before .before .before .before .before .if1 .left)
-
-part-note-end : tie.Need-part-note-end Inv-loop μ-loop
-part-note-end c = line-within _ _ _ _ _ (c .before .before .before .before .before .before .before .before .loop .inv .read) _ (c .before .before .before .before .before .before .line-end .ensures .0) (c .before .before .before .before .before .if1 .left)
 
 note-requires : tie.Need-note-requires Inv-loop μ-loop
 note-requires c κs = noting _ _ _ _ _ _ _ _ (c .before .before .before .before .before .before .before .before .before .loop .inv)
@@ -84,19 +63,12 @@ second-lines-spec =
     Inv-loop
     μ-loop
     loop-holds
-    line-end-requires
     same-length
     returns
-    sub-second-fault
-    part-second-fault-start
-    part-second-fault-end
     second-fault-requires
     add-t18
     same-length-2
     returns-2
-    sub-note
-    part-note-start
-    part-note-end
     note-requires
     add-at
     add-k
