@@ -1,3 +1,4 @@
+-- `frames::first::first_lines` meets its contract: the lines that are left say what the whole text says.
 use borrow.Author.Needs.{needs}
 use Prim.Native.Nat.{_-_}
 use mathlib.Core.Path.{refl}
@@ -6,13 +7,6 @@ use lib.ListN.{length}
 use Rattle.frames.proofs.FirstLaws.{Seen, found-from, found-within, next-fits, next-less, next-seen, line-refused, none-refused, all-passed}
 use Rattle.frames.proofs.first.first_lines.Statement.{statement}
 use Rattle.frames.proofs.first.first_lines.Tie as tie
-use Rattle.frames.proofs.first.first_lines.Reads as reads
-use Rattle.frames.proofs.first.first_lines.Lts as lts
-use Rattle.frames.proofs.first.counted.Reads as counted-reads
-use Rattle.frames.proofs.first.frame_fault.Reads as frame-fault-reads
-use Rattle.hex.proofs.byte_at.Reads as byte-at-reads
-use Rattle.hex.proofs.hex_line.Reads as hex-line-reads
-use Rattle.hex.proofs.reader.line_from.Reads as line-from-reads
 
 abbrev Inv-loop : tie.InvT-loop
 Inv-loop t text at₀ n₀ c₀ at n c = Seen t text at n c
@@ -20,71 +14,54 @@ Inv-loop t text at₀ n₀ c₀ at n c = Seen t text at n c
 abbrev μ-loop : tie.MeasureT-loop
 μ-loop t text at₀ n₀ c₀ at n c = length text - at
 
--- src/first.rt:157:5
 loop-holds : tie.Need-loop-holds Inv-loop μ-loop
 loop-holds c = record { few = search needs; most = search needs; within = search needs; is = refl }
 
--- src/first.rt:158:28
 hex-line-requires : tie.Need-hex-line-requires Inv-loop μ-loop
 hex-line-requires c κs = search needs
 
--- src/first.rt:158:23
 enum-known-e : tie.Need-enum-known-e Inv-loop μ-loop
 enum-known-e c = search needs
 
--- src/first.rt:159:40
 enum-told : tie.Need-enum-told Inv-loop μ-loop
 enum-told c = search needs
 
--- src/first.rt:159:40
 add-t12 : tie.Need-add-t12 Inv-loop μ-loop
 add-t12 c = search needs
 
--- src/first.rt:159:13
 returns : tie.Need-returns Inv-loop μ-loop
 returns c = search none-refused
 
--- src/first.rt:161:13
 line-from-requires : tie.Need-line-from-requires Inv-loop μ-loop
 line-from-requires c κs = search needs
 
--- src/first.rt:162:13
 frame-fault-requires : tie.Need-frame-fault-requires Inv-loop μ-loop
 frame-fault-requires c κs = search needs
 
--- src/first.rt:164:44
 add-t13 : tie.Need-add-t13 Inv-loop μ-loop
 add-t13 c = search needs
 
--- src/first.rt:164:13
 returns-2 : tie.Need-returns-2 Inv-loop μ-loop
 returns-2 c = search line-refused
 
--- src/first.rt:166:27
 byte-at-requires : tie.Need-byte-at-requires Inv-loop μ-loop
 byte-at-requires c κs = search needs
 
--- src/first.rt:166:9
 counted-requires : tie.Need-counted-requires Inv-loop μ-loop
 counted-requires c κs = search needs
 
--- src/first.rt:167:14
 add-at : tie.Need-add-at Inv-loop μ-loop
 add-at c = search next-fits
 
--- src/first.rt:168:9
 add-n : tie.Need-add-n Inv-loop μ-loop
 add-n c = search needs
 
--- src/first.rt:157:5
 loop-less : tie.Need-loop-less Inv-loop μ-loop
 loop-less c = search next-less
 
--- src/first.rt:157:5
 loop-again : tie.Need-loop-again Inv-loop μ-loop
 loop-again c = search next-seen
 
--- src/first.rt:150:1
 returns-3 : tie.Need-returns-3 Inv-loop μ-loop
 returns-3 c = search all-passed
 
