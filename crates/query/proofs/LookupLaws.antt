@@ -1,12 +1,11 @@
 -- A key as digits, and what is found by it. Assumes nothing.
 use Prim.Native.Nat.{ℕ, _*_, _/_, _%_, _<_, _≤_}
-use mathlib.Core.Path.{_≡_, refl, sym, _∙_, ap}
-use mathlib.Core.Bool.{_&&_}
+use mathlib.Core.Path.{_≡_, sym, _∙_, ap}
 use mathlib.Core.List.{List, [], _∷_}
 use native.Mathlib.Omega.{arith}
 use lib.ListN.{length, take}
 use lib.Seq.{length-take-le}
-use lib.Dec.{T, ltb}
+use lib.Dec.{T}
 use lib.Pow.{areBytes}
 use borrow.Author.Tests.{lt-ltb}
 use Rattle.hex.specs.Digits.{bytesOf, digitsOf, hexDigit}

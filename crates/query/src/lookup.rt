@@ -1,8 +1,8 @@
 // A frame by a key of at most six bytes.
 ghost use mathlib.Core.Path.{_≡_};
 ghost use mathlib.Core.List.{[], _∷_};
-ghost use Prim.Native.Nat.{ℕ, _+_, _*_, _/_, _%_, _<_, _≤_};
-ghost use lib.ListN.{length, take};
+ghost use Prim.Native.Nat.{_*_, _/_, _%_, _≤_};
+ghost use lib.ListN.{take};
 ghost use Rattle.hex.specs.Digits.{bytesOf, digitsOf, hexDigit};
 ghost use Rattle.frames.specs.First.{framesOf};
 ghost use Rattle.reading.specs.Keys.{find as findOf};

@@ -1,18 +1,18 @@
 -- Keys compared and frames found, a byte and a line at a time. Assumes nothing.
-use Prim.Native.Nat.{ℕ, zero, suc, _+_, _-_, _*_, _/_, _<_, _≤_}
-use mathlib.Core.Path.{_≡_, refl, sym, _∙_, ap}
+use Prim.Native.Nat.{ℕ, _+_, _-_, _/_, _<_, _≤_}
+use mathlib.Core.Path.{_≡_, refl, sym, _∙_}
 use mathlib.Core.Bool.{Bool, true, false}
-use mathlib.Core.List.{List, [], _∷_, map}
+use mathlib.Core.List.{List, [], _∷_}
 use native.Mathlib.Numerals.{add-one}
 use native.Mathlib.Omega.{arith}
-use lib.ListN.{length, getD, take, drop, length-drop, drop-of-length-le}
+use lib.ListN.{length, getD, take, drop, drop-of-length-le}
 use lib.Seq.{drop-cons}
 use lib.Dec.{eqb}
 use borrow.Author.Tests.{eq-eqb, ne-eqb}
 use Rattle.base.specs.Choose.{pick}
 use Rattle.hex.specs.Digits.{bytesOf}
 use Rattle.hex.specs.Bytes.{bytes-length}
-use Rattle.hex.specs.Lines.{split, withLine, endOf}
+use Rattle.hex.specs.Lines.{endOf}
 use Rattle.hex.specs.Cuts.{Line}
 use Rattle.reading.specs.Walk.{walk-line, frames-step, frames-none, frames-end}
 use Rattle.frames.specs.First.{framesOf}

@@ -5,7 +5,7 @@ use mathlib.Core.Bool.{Bool, true, false}
 use mathlib.Core.List.{List, [], _∷_}
 use native.Mathlib.Omega.{arith}
 use lib.ListN.{length, getD, take, List·getD-eq-default}
-use lib.Dec.{eqb, leb, ltb}
+use lib.Dec.{leb, ltb}
 use borrow.Author.Tests.{eq-eqb, ne-eqb, le-leb}
 use Rattle.base.specs.Choose.{pick}
 use Rattle.hex.specs.Digits.{bytesOf}
@@ -13,7 +13,7 @@ use Rattle.hex.specs.Bytes.{bytes-length, bytes-take}
 use Rattle.hex.specs.Lines.{lineAt}
 use Rattle.frames.specs.Kinds.{kindAt}
 use Rattle.reading.specs.Keys.{begins, isFound}
-use Rattle.reading.specs.Index.{slots, slotOf, placeOf, olderOf, latest, searched, found, Falling, givenBy}
+use Rattle.reading.specs.Index.{slotOf, placeOf, olderOf, searched, found, Falling, givenBy}
 use Rattle.reading.proofs.SlotLaws.{take-least}
 
 pub number-past : (l : List ℕ) (i : ℕ) → length l ≤ i → (0 ≡ getD l i 0) × (0 < 4294967296)

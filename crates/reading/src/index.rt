@@ -1,6 +1,6 @@
 // An index of a text's keyed lines: one list of entries a slot, by the first bytes of a line's key.
 ghost use mathlib.Core.Path.{_≡_};
-ghost use Prim.Native.Nat.{ℕ, _+_, _*_, _<_, _≤_};
+ghost use Prim.Native.Nat.{_+_, _*_, _<_, _≤_};
 ghost use lib.ListN.{length, getD};
 ghost use lib.Dec.{ltb};
 ghost use Rattle.base.specs.Choose.{pick};
