@@ -1,5 +1,6 @@
 -- `reading::index::find_by` meets its contract: by the index of the whole text.
 use mathlib.Core.Path.{_∙_}
+use borrow.Author.Needs.{needs}
 use Rattle.reading.proofs.index.find_by.Statement.{statement}
 use Rattle.reading.proofs.index.find_by.Tie as tie
 
