@@ -2,10 +2,12 @@
 """Runs for the program replay: plans, tables, allowances and outputs with the answers of a model of document 01.
 
     tests/runs.py FILE DIR    FILE has a JSON object a line, its texts in base64: plan, table, allowance, out_len, and answer, either
-                              [status, tries, matches, written bytes] or ["refused", number, text, line]. Writes runs.in and runs.out
+                              [status, tries, matches, written bytes] or ["refused", number, text, line]; and some, the second entry's answer,
+                              ["match", line], ["none"], ["spent"] or the refusal. Writes runs.in and runs.out
 
 A case is a line: 04, allowance(8) room(4) length(4), the plan's bytes and the table's. Its answer is the match lines, the line
-51 0000 status(1) tries(8) matches(4), or ff number line(2) text; then how many bytes behind the match lines kept their value.
+51 0000 status(1) tries(8) matches(4), or ff number line(2) text; then how many bytes behind the match lines kept their value; then the second
+entry's answer as one number, and the line of its match.
 """
 import base64, json, sys
 from pathlib import Path
@@ -16,6 +18,14 @@ TEXT = {'plan': 1, 'table': 2}
 def case(c):
     plan, table = base64.b64decode(c['plan']), base64.b64decode(c['table'])
     return '04%016x%08x%08x%s%s\n' % (c['allowance'], c['out_len'], len(plan), plan.hex(), table.hex())
+
+def some(c):
+    a = c['some']
+    if a[0] == 'refused':
+        return '%d\n' % (1 << 63 | a[1] << 24 | TEXT[a[2]] << 16 | a[3])
+    if a[0] == 'match':
+        return '2\n' + base64.b64decode(a[1]).decode()
+    return '%d\n' % ['none', 'spent'].index(a[0])
 
 def answer(c):
     a = c['answer']
@@ -28,5 +38,5 @@ cases = [json.loads(line) for line in open(sys.argv[1])]
 cases = [c for c in cases if c['out_len'] is not None and c['out_len'] <= 65536]
 folder = Path(sys.argv[2])
 (folder / 'runs.in').write_text(''.join(map(case, cases)))
-(folder / 'runs.out').write_text(''.join(map(answer, cases)))
+(folder / 'runs.out').write_text(''.join(answer(c) + some(c) for c in cases))
 print(len(cases), 'runs')

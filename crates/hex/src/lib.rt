@@ -6,6 +6,8 @@ ghost use Rattle.hex.specs.Digits.{digitValue, hexDigit, bytesOf, shortA
 ghost use Rattle.hex.specs.Lines.{hexLineOf, endOf, lineAt};
 ghost use Rattle.hex.specs.Scan.{stoppedAt};
 
+pub mod reader;
+
 pub enum Found {
     At(usize),
     Nothing,

@@ -1,5 +1,5 @@
 -- The parts of the entry: what an accepted query gives them, and what they give the entry. Proved from the reading, the rounds and the writing.
-use Prim.Native.Nat.{ℕ, zero, suc, _+_, _<_, _≤_}
+use Prim.Native.Nat.{ℕ, zero, suc, _+_, _*_, _<_, _≤_}
 use mathlib.Core.Path.{_≡_, refl, sym, _∙_, ap, subst}
 use mathlib.Core.Bool.{Bool, true, false, not}
 use mathlib.Core.List.{List, [], _∷_, _++_, map, List·Memᴰ, List·Memᴰ·head, List·Memᴰ·tail}
@@ -27,6 +27,7 @@ use Rattle.plans.specs.PlanRead.{plan-length}
 use Rattle.plan_facts.specs.Remembered.{nothing-sampled}
 use Rattle.lowering.specs.Eager.{Located, atomsOf}
 use Rattle.lowering.specs.Places.{Places, located}
+use Rattle.pricing.specs.Prices.{rowSize, FewItems}
 use Rattle.pricing.specs.Remembering.{Samples}
 use Rattle.lowering.proofs.OperandLaws.{is-true, is-false}
 use Rattle.scheduling.specs.Rounds.{Unplanned, Scheduling}
@@ -89,6 +90,14 @@ pub places-located : (x from : List ℕ) (n : ℕ) → Accepts x → Places x fr
 places-located x from n a p =
     let f = frames-few x (a .lines) (a .atoms) (a .is) in
     located x from n p (omega (arith, p .count)) (λ k h. atom-lines x (a .lines) (a .atoms) (a .is) k (omega (arith, p .count)))
+
+-- "items 16": each atom's items have room in its row of the table
+pub items-fit : (x from : List ℕ) (n : ℕ) → Accepts x → Places x from n → FewItems x from n
+items-fit x from n a p = record { few = λ k h. rw (p .is k h) (let i = atom-items x (a .lines) (a .atoms) (a .is) k (omega (arith, p .count)) in omega arith) }
+
+-- "atoms 64": as many rows
+pub rows-fit : (x from : List ℕ) (n : ℕ) → Accepts x → Places x from n → rowSize * n ≤ 1152
+rows-fit x from n a p = omega (arith, places-located x from n a p .few)
 
 module _ (x from : List ℕ) (n : ℕ) (O : List ℕ) (s : Scheduled) (a : Accepts x) (y : Places x from n) (h : Scheduling x O s) where
   z : Located x from n

@@ -1,7 +1,10 @@
 // The entry: a query text and a lent output.
 ghost use mathlib.Core.Path.{_≡_};
+ghost use Prim.Native.Nat.{_≤_};
 ghost use lib.ListN.{length};
 ghost use lib.Dec.{leb};
+ghost use Rattle.reading.specs.Index.{Indexed};
+ghost use Rattle.reading.specs.IndexedReading.{Blank};
 ghost use Rattle.model.specs.Bound.{most};
 ghost use Rattle.lowering.specs.Places.{Places};
 ghost use Rattle.scheduling.specs.Rounds.{Scheduling};
@@ -13,7 +16,7 @@ use super::text::write_plan;
 use frames::first::Reading;
 use frames::first::Text;
 use lowering::places::atom_places;
-use reading::second::read_text;
+use reading::second::read_indexed;
 use scheduling::schedule::Scheduled;
 use writing::steps::count_steps;
 
@@ -63,23 +66,50 @@ fn plan_in_order(
     Planned::Written(size, steps, tallied, rejected)
 }
 
-fn plan_accepted(text: &[u8], out: &mut [u8]) -> Planned
+fn plan_accepted(text: &[u8], index: &[u32], out: &mut [u8]) -> Planned
     requires { ⌜ Accepts (now text) ⌝ }
+    requires { ⌜ Indexed (now text) (now index) ⌝ }
     ensures { λ r. ⌜ resultOf r (now (out .exit)) ≡ fitted (planOf (now (text .entry))) (now (out .entry)) ⌝ }
 {
     let mut from = [0usize; 64];
     let n = atom_places(text, &mut from);
     let mut order = [0u8; 64];
-    let s = find_order(text, &from, n, &mut order);
+    let s = find_order(text, index, &from, n, &mut order);
     plan_in_order(text, &from, n, &order, s, out)
+}
+
+// The plan, by an index that is lent for the query's keyed lines.
+fn plan_by(text: &[u8], index: &mut [u32], out: &mut [u8]) -> Planned
+    requires { ⌜ Blank (now text) (now index) ⌝ }
+    ensures { λ r. ⌜ resultOf r (now (out .exit)) ≡ planned (now (text .entry)) (now (out .entry)) ⌝ }
+{
+    match read_indexed(Text::Query, text, index) {
+        Reading::Refused(k, line) => Planned::Refused(k, line),
+        Reading::Accepted(_, _) => plan_accepted(text, index, out),
+    }
+}
+
+fn plan_short(text: &[u8], out: &mut [u8]) -> Planned
+    requires { ⌜ length (now text) ≤ 4096 ⌝ }
+    ensures { λ r. ⌜ resultOf r (now (out .exit)) ≡ planned (now (text .entry)) (now (out .entry)) ⌝ }
+{
+    let mut index = [0u32; 1686];
+    plan_by(text, &mut index, out)
+}
+
+fn plan_long(text: &[u8], out: &mut [u8]) -> Planned
+    ensures { λ r. ⌜ resultOf r (now (out .exit)) ≡ planned (now (text .entry)) (now (out .entry)) ⌝ }
+{
+    let mut index = [0u32; 19240];
+    plan_by(text, &mut index, out)
 }
 
 // Plans a query text into a lent output.
 pub fn plan(text: &[u8], out: &mut [u8]) -> Planned
     ensures { λ r. ⌜ resultOf r (now (out .exit)) ≡ planned (now (text .entry)) (now (out .entry)) ⌝ }
 {
-    match read_text(Text::Query, text) {
-        Reading::Refused(k, line) => Planned::Refused(k, line),
-        Reading::Accepted(_, _) => plan_accepted(text, out),
+    if text.len() <= 4096 {
+        return plan_short(text, out);
     }
+    plan_long(text, out)
 }

@@ -3,23 +3,36 @@ ghost use mathlib.Core.Path.{_≡_};
 ghost use Prim.Native.Nat.{_<_, _≤_};
 ghost use lib.ListN.{length};
 ghost use Rattle.frames.specs.First.{framesOf};
+ghost use Rattle.reading.specs.Index.{Indexed};
 ghost use Rattle.query.specs.Statistics.{settings as settingsOf};
 ghost use Rattle.query.specs.declared.statistics.Sampled.the-variants.{On, Off};
 ghost use Rattle.model.specs.Bound.{most};
 ghost use Rattle.lowering.specs.Eager.{Located};
+ghost use Rattle.lowering.specs.Places.{Places};
+ghost use Rattle.pricing.specs.Prices.{Priced};
 ghost use Rattle.scheduling.specs.Rounds.{Scheduling};
 ghost use Rattle.planner.specs.Entry.{Accepts};
 use measure::SamplerConfig;
+use pricing::prices::fill_prices;
 use query::statistics::Sampled;
 use query::statistics::settings;
 use scheduling::schedule::Scheduled;
 use scheduling::schedule::schedule;
 
 // Where sampling is off nothing is remembered.
-fn order_unsampled(text: &[u8], from: &[usize], n: usize, order: &mut [u8]) -> Scheduled
+fn order_unsampled(
+    text: &[u8],
+    index: &[u32],
+    from: &[usize],
+    n: usize,
+    prices: &[f64],
+    order: &mut [u8],
+) -> Scheduled
     requires { ⌜ Located (now text) (now from) n ⌝ }
     requires { ⌜ length (now order) ≡ most ⌝ }
     requires { ⌜ settingsOf (framesOf (now text)) ≡ Off ⌝ }
+    requires { ⌜ Indexed (now text) (now index) ⌝ }
+    requires { ⌜ Priced (now text) (now from) n (now prices) ⌝ }
     ensures { λ r. ⌜ Scheduling (now (text .entry)) (now (order .exit)) r ⌝ }
 {
     let mut used = [false; 64];
@@ -32,8 +45,10 @@ fn order_unsampled(text: &[u8], from: &[usize], n: usize, order: &mut [u8]) -> S
     let mut draws = [0.0; 1];
     schedule(
         text,
+        index,
         from,
         n,
+        prices,
         &mut used,
         &mut bound,
         &mut before,
@@ -50,8 +65,10 @@ fn order_unsampled(text: &[u8], from: &[usize], n: usize, order: &mut [u8]) -> S
 // Where it is on there is a key for each item of each atom at most.
 fn order_sampled(
     text: &[u8],
+    index: &[u32],
     from: &[usize],
     n: usize,
+    prices: &[f64],
     cfg: SamplerConfig,
     order: &mut [u8],
 ) -> Scheduled
@@ -59,6 +76,8 @@ fn order_sampled(
     requires { ⌜ Located (now text) (now from) n ⌝ }
     requires { ⌜ length (now order) ≡ most ⌝ }
     requires { ⌜ settingsOf (framesOf (now text)) ≡ On cfg ⌝ }
+    requires { ⌜ Indexed (now text) (now index) ⌝ }
+    requires { ⌜ Priced (now text) (now from) n (now prices) ⌝ }
     ensures { λ r. ⌜ Scheduling (now (text .entry)) (now (order .exit)) r ⌝ }
 {
     let mut used = [false; 64];
@@ -71,8 +90,10 @@ fn order_sampled(
     let mut draws = [0.0; 64];
     schedule(
         text,
+        index,
         from,
         n,
+        prices,
         &mut used,
         &mut bound,
         &mut before,
@@ -86,14 +107,24 @@ fn order_sampled(
     )
 }
 
-pub fn find_order(text: &[u8], from: &[usize], n: usize, order: &mut [u8]) -> Scheduled
+// The prices that no sample changes, then the rounds.
+pub fn find_order(
+    text: &[u8],
+    index: &[u32],
+    from: &[usize],
+    n: usize,
+    order: &mut [u8],
+) -> Scheduled
     requires { ⌜ Accepts (now text) ⌝ }
-    requires { ⌜ Located (now text) (now from) n ⌝ }
+    requires { ⌜ Places (now text) (now from) n ⌝ }
     requires { ⌜ length (now order) ≡ most ⌝ }
+    requires { ⌜ Indexed (now text) (now index) ⌝ }
     ensures { λ r. ⌜ Scheduling (now (text .entry)) (now (order .exit)) r ⌝ }
 {
-    match settings(text) {
-        Sampled::Off => order_unsampled(text, from, n, order),
-        Sampled::On(cfg) => order_sampled(text, from, n, cfg, order),
+    let mut prices = [0.0; 1152];
+    fill_prices(text, index, from, n, &mut prices);
+    match settings(text, index) {
+        Sampled::Off => order_unsampled(text, index, from, n, &prices, order),
+        Sampled::On(cfg) => order_sampled(text, index, from, n, &prices, cfg, order),
     }
 }

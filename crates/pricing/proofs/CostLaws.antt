@@ -24,10 +24,12 @@ use Rattle.cost.specs.declared.memo.Tallies.{Tallies}
 use Rattle.lowering.specs.AtomLines.{AtomLine, itemOperands}
 use Rattle.lowering.proofs.AtomLaws.{by-kind}
 use Rattle.lowering.proofs.OperandLaws.{is-true, is-false}
-use Rattle.pricing.specs.Items.{itemCosts, frameCosts, reprCost, literalKind}
+use Rattle.pricing.specs.Items.{itemCosts, frameCosts, literalKind}
+use Rattle.pricing.specs.Prices.{Row}
 use Rattle.pricing.specs.Remembering.{Remembers, Stands, costAt}
 use Rattle.pricing.specs.declared.costs.Costed.{Costed}
 use Rattle.pricing.proofs.ItemLaws.{children-are, elements-are}
+use Rattle.pricing.proofs.PriceLaws.{row-base, row-node}
 
 module _ (fs : List (List ℕ)) (em : Emitters) (B : Bound) (i : ℕ) (t : Tally) where
   -- 04, 05, 06
@@ -77,23 +79,23 @@ module _ (fs : List (List ℕ)) (em : Emitters) (B : Bound) (i : ℕ) (f ks : Li
   pub test-stands : (how : Sampled) (vs : List Bool) (xs : List Float) → not b ≡ true → Remembers fs how ks vs xs s → Stands fs how ks vs xs (record { cost = zero64; tallies = s }) (estimateCost fs em B i (atomOfFrame f) (tallyAt ks s))
   test-stands how vs xs h m = rw (test-cost fs em B i (tallyAt ks s) (atomOfFrame f) (sym hb ∙ is-false b h)) record { cost = refl; tally = refl; memo = m }
 
-  module _ (line : AtomLine f) (o : ℕ) (ho : o ≡ getD f 2 0) (e : Float) (k : ℕ) (hk : k ≡ getD f 0 0) (l : Bool) (hl : l ≡ literalKind k) where
-    pub literal-stands : (how : Sampled) (vs : List Bool) (xs : List Float) → e ≡ baseCard fs o i → l ≡ true → Remembers fs how ks vs xs s → Stands fs how ks vs xs (record { cost = e; tallies = s }) (estimateCost fs em B i (atomOfFrame f) (tallyAt ks s))
-    literal-stands how vs xs he h m = rw (literal-cost fs em B i (tallyAt ks s) f (line .kind) (rw (← hk) (sym hl ∙ h))) record { cost = he ∙ rw ho; tally = refl; memo = m }
+  module _ (line : AtomLine f) (ps : List Float) (w : Row fs f i ps) (d : Float) (k : ℕ) (hk : k ≡ getD f 0 0) (l : Bool) (hl : l ≡ literalKind k) where
+    pub literal-stands : (how : Sampled) (vs : List Bool) (xs : List Float) → l ≡ true → Remembers fs how ks vs xs s → Stands fs how ks vs xs (record { cost = getD ps 0 d; tallies = s }) (estimateCost fs em B i (atomOfFrame f) (tallyAt ks s))
+    literal-stands how vs xs h m = rw (literal-cost fs em B i (tallyAt ks s) f (line .kind) (rw (← hk) (sym hl ∙ h))) record { cost = row-base fs f i ps w d; tally = refl; memo = m }
 
     module _ (hs : not b ≡ false) (h : l ≡ false) (v : ℕ) (hv : v ≡ getD f 1 0) (u : Bool) (hu : u ≡ has B v) where
-      by-node : estimateCost fs em B i (atomOfFrame f) (tallyAt ks s) ≡ pick u (byReprCost fs o i (tallyAt ks s)) (frameCosts fs em B f (record { cost = baseCard fs o i; tally = tallyAt ks s }))
-      by-node = scan-cost fs em B i (tallyAt ks s) f (line .kind) (sym hb ∙ is-true b hs) (rw (← hk) (sym hl ∙ h)) ∙ rw (hu, hv, ho)
+      by-node : estimateCost fs em B i (atomOfFrame f) (tallyAt ks s) ≡ pick u (byReprCost fs (getD f 2 0) i (tallyAt ks s)) (frameCosts fs em B f (record { cost = baseCard fs (getD f 2 0) i; tally = tallyAt ks s }))
+      by-node = scan-cost fs em B i (tallyAt ks s) f (line .kind) (sym hb ∙ is-true b hs) (rw (← hk) (sym hl ∙ h)) ∙ rw (hu, hv)
 
-      pub node-stands : (how : Sampled) (vs : List Bool) (xs : List Float) → u ≡ true → e ≡ reprCost fs o i → Remembers fs how ks vs xs s → Stands fs how ks vs xs (record { cost = e; tallies = s }) (estimateCost fs em B i (atomOfFrame f) (tallyAt ks s))
-      node-stands how vs xs g he m = rw (by-node, g) record { cost = he; tally = refl; memo = m }
+      pub node-stands : (how : Sampled) (vs : List Bool) (xs : List Float) → u ≡ true → Remembers fs how ks vs xs s → Stands fs how ks vs xs (record { cost = getD ps 1 d; tallies = s }) (estimateCost fs em B i (atomOfFrame f) (tallyAt ks s))
+      node-stands how vs xs g m = rw (by-node, g) record { cost = row-node fs f i ps w d; tally = refl; memo = m }
 
-      module _ (g : u ≡ false) (he : e ≡ baseCard fs o i) where
-        by-items : estimateCost fs em B i (atomOfFrame f) (tallyAt ks s) ≡ frameCosts fs em B f (costAt ks (record { cost = e; tallies = s }))
-        by-items = by-node ∙ rw (g, he)
+      module _ (g : u ≡ false) where
+        by-items : estimateCost fs em B i (atomOfFrame f) (tallyAt ks s) ≡ frameCosts fs em B f (costAt ks (record { cost = getD ps 0 d; tallies = s }))
+        by-items = by-node ∙ rw (g, row-base fs f i ps w d)
 
-        pub items-room : length (estimateCost fs em B i (atomOfFrame f) (tallyAt ks s) .tally .memo) ≤ length ks → length (frameCosts fs em B f (costAt ks (record { cost = e; tallies = s })) .tally .memo) ≤ length ks
+        pub items-room : length (estimateCost fs em B i (atomOfFrame f) (tallyAt ks s) .tally .memo) ≤ length ks → length (frameCosts fs em B f (costAt ks (record { cost = getD ps 0 d; tallies = s })) .tally .memo) ≤ length ks
         items-room z = rw by-items at z
 
-        pub items-stand : (how : Sampled) (ks′ : List ℕ) (vs : List Bool) (xs : List Float) (r : Costed) → Stands fs how ks′ vs xs r (frameCosts fs em B f (costAt ks (record { cost = e; tallies = s }))) → Stands fs how ks′ vs xs r (estimateCost fs em B i (atomOfFrame f) (tallyAt ks s))
+        pub items-stand : (how : Sampled) (ks′ : List ℕ) (vs : List Bool) (xs : List Float) (r : Costed) → Stands fs how ks′ vs xs r (frameCosts fs em B f (costAt ks (record { cost = getD ps 0 d; tallies = s }))) → Stands fs how ks′ vs xs r (estimateCost fs em B i (atomOfFrame f) (tallyAt ks s))
         items-stand how ks′ vs xs r a = rw by-items a

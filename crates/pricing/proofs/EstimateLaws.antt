@@ -11,6 +11,7 @@ use lib.Ieee.{Float}
 use lib.ListN.{length, getD, set, length-set}
 use lib.Seq.{getD-set-same, getD-set-other}
 use borrow.Author.Tests.{lt-ltb, le-ltb, ltb-true, ltb-false}
+use Rattle.reading.specs.Index.{Indexed}
 use Rattle.measure.specs.Selectivity.{zero64}
 use Rattle.measure.specs.declared.FanOut.{FanOut}
 use Rattle.measure.specs.declared.FanOut.the-variants.{Unmeasured}
@@ -149,5 +150,5 @@ module _ (fs : List (List ℕ)) (cfg : SamplerConfig) (x : Key) (ks : List ℕ) 
 
 -- ---- the settings, and room for the draws
 
-pub draw-room : (fs : List (List ℕ)) (cfg : SamplerConfig) (ds : List Float) → Samples fs (On cfg) ds → (cfg .k ≤ 64) × ((cfg .bootstrap ≤ 256) × (cfg .k ≤ length ds))
-draw-room fs cfg ds z = (z .nodes cfg refl, (z .resamples cfg refl, z .room cfg refl))
+pub draw-room : (fs : List (List ℕ)) (cfg : SamplerConfig) (ds : List Float) (x i : List ℕ) → Samples fs (On cfg) ds → Indexed x i → (cfg .k ≤ 64) × ((cfg .bootstrap ≤ 256) × ((cfg .k ≤ length ds) × Indexed x i))
+draw-room fs cfg ds x i z h = (z .nodes cfg refl, (z .resamples cfg refl, (z .room cfg refl, h)))

@@ -44,10 +44,10 @@ module _ (fs : List (List ℕ)) (em : Emitters) (f : List ℕ) (x : Item) (ks : 
     unfolding itemCost
     item-room l = rw hq (rw (is-true (x .bound) h) at l)
 
-    pub item-stands : (how : Sampled) (ks′ : List ℕ) (vs : List Bool) (xs : List Float) (s : Sample) (g j : FanOut) (d : ℕ) (e : Float) → Gives fs how ks′ vs xs s (sampled fs em (operandAt f (x .at)) (q .op) (q .path) (q .place) (tallyAt ks (c .tallies))) → g ≡ itemFan fs (x .op) (x .element) (x .position) → j ≡ orFan (s .fan) g → d ≡ denominator fs (x .op) → e ≡ pathSelectivity j d → Stands fs how ks′ vs xs (record { cost = mul binary64 (c .cost) e; tallies = s .tallies }) (costBehind fs em f x (costAt ks c))
+    pub item-stands : (how : Sampled) (ks′ : List ℕ) (vs : List Bool) (xs : List Float) (s : Sample) (e : Float) → Gives fs how ks′ vs xs s (sampled fs em (operandAt f (x .at)) (q .op) (q .path) (q .place) (tallyAt ks (c .tallies))) → e ≡ pathSelectivity (orFan (s .fan) (itemFan fs (x .op) (x .element) (x .position))) (denominator fs (x .op)) → Stands fs how ks′ vs xs (record { cost = mul binary64 (c .cost) e; tallies = s .tallies }) (costBehind fs em f x (costAt ks c))
     unfolding itemCost
-    item-stands how ks′ vs xs s g j d e a hg hj hd he = rw (is-true (x .bound) h) record {
-      cost = rw (he, hd, hj, a .fan, hg, or-measured, hq);
+    item-stands how ks′ vs xs s e a he = rw (is-true (x .bound) h) record {
+      cost = rw (he, a .fan, or-measured, hq);
       tally = a .tally ∙ rw hq;
       memo = a .memo;
     }

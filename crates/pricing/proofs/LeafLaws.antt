@@ -6,11 +6,9 @@ use mathlib.Core.List.{List, [], _∷_}
 use native.Mathlib.Omega.{arith}
 use lib.Dec.{ltb}
 use lib.ListN.{length, getD, List·getD-eq-default}
-use lib.Ieee.{Float, binary64, mul}
-use Rattle.measure.specs.Selectivity.{zero64, pathSelectivity}
-use Rattle.measure.specs.declared.FanOut.{FanOut}
+use lib.Ieee.{Float}
+use Rattle.measure.specs.Selectivity.{zero64}
 use Rattle.measure.specs.declared.FanOut.the-variants.{Measured, Unmeasured}
-use Rattle.query.specs.Statistics.{baseCard, byChildPos, byContains, byRepr, nodes}
 use Rattle.cost.specs.declared.sampling.Key.{Key}
 use Rattle.cost.specs.Costs.{orMeasured}
 use Rattle.frames.specs.Fields.{width}
@@ -19,7 +17,7 @@ use Rattle.frames.specs.Frames.{kindOf}
 use Rattle.model.specs.Bound.{Bound}
 use Rattle.model.specs.Lowering.{pvIsBound}
 use Rattle.cost.specs.QueryAtoms.{operandAt}
-use Rattle.pricing.specs.Items.{numberKey, itemProbe, itemFan, ItemsOf, itemAt, reprCost}
+use Rattle.pricing.specs.Items.{numberKey, itemProbe, ItemsOf, itemAt}
 use Rattle.pricing.specs.declared.costs.Probe.{Probe}
 use Rattle.pricing.specs.declared.costs.Items.{Items}
 use Rattle.pricing.specs.declared.costs.Item.{Item}
@@ -37,7 +35,7 @@ pub key-number : (e a b c o p q : ℕ) → a ≡ (e - 1) / 1024 % 256 → b ≡ 
 key-number e a b c o p q ha hb hc = rw (ha, hb, hc)
 
 -- within a list, what stands past its end does not matter
-within : (xs : List Float) (i : ℕ) (d e : Float) → i < length xs → getD xs i d ≡ getD xs i e
+pub within : (xs : List Float) (i : ℕ) (d e : Float) → i < length xs → getD xs i d ≡ getD xs i e
 within [] i d e h = absurd (omega arith)
 within (x ∷ xs) zero d e h = refl
 within (x ∷ xs) (suc i) d e h = within xs i d e (omega arith)
@@ -48,16 +46,6 @@ module _ (B : List Bool) (xs : List Float) (i : ℕ) where
 
   pub no-value : getD B i false ≡ false → Unmeasured ≡ orMeasured (memoValue (getD B i false) (getD xs i zero64)) Unmeasured
   no-value h = rw h
-
-module _ (fs : List (List ℕ)) (o p : ℕ) (t : Bool) (f : FanOut) where
-  pub element-fan : t ≡ true → f ≡ byContains fs o → f ≡ itemFan fs o t p
-  element-fan h e = rw h e
-
-  pub child-fan : t ≡ false → f ≡ byChildPos fs o p → f ≡ itemFan fs o t p
-  child-fan h e = rw h e
-
-pub repr-cost : (fs : List (List ℕ)) (o i n : ℕ) (b r s : Float) → r ≡ byRepr fs → b ≡ baseCard fs o i → n ≡ nodes fs → s ≡ pathSelectivity (Measured r) n → mul binary64 b s ≡ reprCost fs o i
-repr-cost fs o i n b r s hr hb hn hs = rw (hs, hb, hr, hn)
 
 module _ (x : Item) where
   pub element-probe : x .element ≡ true → _≡_ {A = Probe} (record { op = x .op; path = 1; place = 0 }) (itemProbe x)

@@ -1,5 +1,6 @@
 pub mod MemoLaws
 pub mod LeafLaws
+pub mod PriceLaws
 pub mod EstimateLaws
 pub mod SampleLaws
 pub mod ItemLaws

@@ -8,6 +8,7 @@ use native.Mathlib.Omega.{arith}
 use lib.Ieee.{Float}
 use lib.ListN.{length, getD, List·getD-map}
 use borrow.Author.Tests.{eq-eqb, ne-eqb}
+use Rattle.reading.specs.Index.{Indexed}
 use Rattle.measure.specs.declared.FanOut.the-variants.{Unmeasured}
 use Rattle.measure.specs.declared.SamplerConfig.{SamplerConfig}
 use Rattle.query.specs.Statistics.{settings}
@@ -59,8 +60,8 @@ module _ (fs : List (List ℕ)) (em f : List ℕ) (j o path place : ℕ) (how : 
         sampled-on : sampled fs (map decode em) (operandAt f j) o path place (tallyAt ks s) ≡ estimate fs (On cfg) x (tallyAt ks s)
         sampled-on = probe-by (tallyAt ks s) ∙ rw (w, hx)
 
-        pub estimate-ready : length (sampled fs (map decode em) (operandAt f j) o path place (tallyAt ks s) .tally .memo) ≤ length ks → Samples fs (On cfg) ds × (Remembers fs (On cfg) ks vs xs s × (length (afterEstimate fs cfg x (tallyAt ks s) .memo) ≤ length ks))
-        estimate-ready l = (rw w at z, (rw w at m, rw sampled-on at l))
+        pub estimate-ready : (y i : List ℕ) → Indexed y i → length (sampled fs (map decode em) (operandAt f j) o path place (tallyAt ks s) .tally .memo) ≤ length ks → Samples fs (On cfg) ds × (Remembers fs (On cfg) ks vs xs s × ((length (afterEstimate fs cfg x (tallyAt ks s) .memo) ≤ length ks) × Indexed y i))
+        estimate-ready y i n l = (rw w at z, (rw w at m, (rw sampled-on at l, n)))
 
         pub sampled-gives : (ks′ : List ℕ) (vs′ : List Bool) (xs′ : List Float) (r : Sample) → Gives fs (On cfg) ks′ vs′ xs′ r (estimate fs (On cfg) x (tallyAt ks s)) → Gives fs how ks′ vs′ xs′ r (sampled fs (map decode em) (operandAt f j) o path place (tallyAt ks s))
         sampled-gives ks′ vs′ xs′ r q = rw (sampled-on, w) q

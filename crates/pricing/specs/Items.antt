@@ -91,8 +91,11 @@ abbrev pub frameCosts : List (List ℕ) → Emitters → Bound → List ℕ → 
 frameCosts fs em B f c = itemCosts fs em B (getD f 2 0) (ltb 6 (getD f 0 0)) 0 (itemOperands f) c
 
 -- "base times selectivity(by_repr, nodes)", as `byReprCost` has it
+abbrev pub reprSelectivity : List (List ℕ) → Float
+reprSelectivity fs = pathSelectivity (Measured (byRepr fs)) (nodes fs)
+
 abbrev pub reprCost : List (List ℕ) → ℕ → ℕ → Float
-reprCost fs o i = mul binary64 (baseCard fs o i) (pathSelectivity (Measured (byRepr fs)) (nodes fs))
+reprCost fs o i = mul binary64 (baseCard fs o i) (reprSelectivity fs)
 
 -- 02 Lit and 03 LitBind
 abbrev pub literalKind : ℕ → Bool

@@ -5,13 +5,17 @@ ghost use Prim.Native.Nat.{_+_, _*_, _<_, _≤_};
 ghost use lib.ListN.{length, getD};
 ghost use Rattle.hex.specs.Digits.{bytesOf};
 ghost use Rattle.frames.specs.First.{framesOf};
+ghost use Rattle.reading.specs.Index.{Indexed};
+ghost use Rattle.measure.specs.Selectivity.{pathSelectivity};
 ghost use Rattle.measure.specs.declared.FanOut.the-variants.{Unmeasured};
+ghost use Rattle.query.specs.Statistics.{denominator as denominatorOf};
 ghost use Rattle.cost.specs.Costs.{sampled as sampledOf, estimateCost};
 ghost use Rattle.cost.specs.Emitters.{decode};
 ghost use Rattle.cost.specs.Memo.{tallyAt};
 ghost use Rattle.cost.specs.QueryAtoms.{operandAt, atomOfFrame};
 ghost use Rattle.lowering.specs.AtomLines.{AtomLine};
-ghost use Rattle.pricing.specs.Items.{numberKey, itemProbe, itemFan, orFan, costBehind, ItemsOf, itemAt, frameCosts, reprCost, literalKind};
+ghost use Rattle.pricing.specs.Items.{numberKey, itemProbe, itemFan, orFan, costBehind, ItemsOf, itemAt, frameCosts, literalKind};
+ghost use Rattle.pricing.specs.Prices.{ItemPriced, RowItems, Row};
 ghost use Rattle.pricing.specs.Remembering.{Samples, Remembers, Gives, Stands, costAt};
 use super::memo::Sample;
 use super::memo::estimate;
@@ -28,12 +32,7 @@ use lowering::sets::is_set;
 use measure::FanOut;
 use measure::path_selectivity;
 use query::statistics::Sampled;
-use query::statistics::base_card;
-use query::statistics::by_child_pos;
-use query::statistics::by_contains;
-use query::statistics::by_repr;
 use query::statistics::denominator;
-use query::statistics::nodes;
 
 // A cost, and what is remembered behind it.
 pub struct Costed {
@@ -66,7 +65,7 @@ pub struct Item {
     pub bound: bool,
 }
 
-fn narrow(i: usize) -> u8
+pub fn narrow(i: usize) -> u8
     requires { ⌜ i < 256 ⌝ }
     ensures { λ r. ⌜ r ≡ i ⌝ }
 {
@@ -119,6 +118,7 @@ fn unsampled(s: Tallies) -> Sample
 // The sample of a probe by the operand at byte j: a global, or a variable without emitter, is not sampled.
 pub fn sampled(
     text: &[u8],
+    index: &[u32],
     line: &[u8],
     j: usize,
     em: &[u32],
@@ -134,6 +134,7 @@ pub fn sampled(
     requires { ⌜ Samples (framesOf (now text)) how (now draws) ⌝ }
     requires { ⌜ Remembers (framesOf (now text)) how (now keys) (now valued) (now values) s ⌝ }
     requires { ⌜ length (sampledOf (framesOf (now text)) (map decode (now em)) (operandAt (bytesOf (now line)) j) (q .op) (q .path) (q .place) (tallyAt (now keys) s) .tally .memo) ≤ length (now keys) ⌝ }
+    requires { ⌜ Indexed (now text) (now index) ⌝ }
     ensures { λ r. ⌜ Gives (framesOf (now (text .entry))) how (now (keys .exit)) (now (valued .exit)) (now (values .exit)) r (sampledOf (framesOf (now (text .entry))) (map decode (now (em .entry))) (operandAt (bytesOf (now (line .entry))) j) (q .op) (q .path) (q .place) (tallyAt (now (keys .entry)) s)) ⌝ }
 {
     if byte_at(line, j) != 0 {
@@ -147,16 +148,7 @@ pub fn sampled(
         return unsampled(s);
     };
     let x = key_of(e, q);
-    estimate(text, cfg, x, keys, valued, values, draws, s)
-}
-
-fn or_fan(f: FanOut, g: FanOut) -> FanOut
-    ensures { λ r. ⌜ r ≡ orFan f g ⌝ }
-{
-    match f {
-        FanOut::Measured(x) => FanOut::Measured(x),
-        FanOut::Unmeasured => g,
-    }
+    estimate(text, index, cfg, x, keys, valued, values, draws, s)
 }
 
 // A child's position, or an element.
@@ -177,19 +169,24 @@ fn item_probe(x: Item) -> Probe
     }
 }
 
-fn item_fan(text: &[u8], x: Item) -> FanOut
-    ensures { λ r. ⌜ r ≡ itemFan (framesOf (now (text .entry))) (x .op) (x .element) (x .position) ⌝ }
+// The selectivity of an item: by its sample, else as its row has it.
+fn item_selectivity(text: &[u8], index: &[u32], row: &[f64], x: Item, drawn: FanOut) -> f64
+    requires { ⌜ Indexed (now text) (now index) ⌝ }
+    requires { ⌜ ItemPriced (framesOf (now text)) x (now row) ⌝ }
+    ensures { λ r. ⌜ r ≡ pathSelectivity (orFan drawn (itemFan (framesOf (now (text .entry))) (x .op) (x .element) (x .position))) (denominatorOf (framesOf (now (text .entry))) (x .op)) ⌝ }
 {
-    if x.element {
-        return by_contains(text, x.op);
+    match drawn {
+        FanOut::Measured(_) => path_selectivity(drawn, denominator(text, index, x.op)),
+        FanOut::Unmeasured => row[wide(x.position) + 2],
     }
-    by_child_pos(text, x.op, x.position)
 }
 
 // An item that is bound has its selectivity multiplied in.
 fn item_cost(
     text: &[u8],
+    index: &[u32],
     line: &[u8],
+    row: &[f64],
     x: Item,
     em: &[u32],
     how: Sampled,
@@ -203,6 +200,8 @@ fn item_cost(
     requires { ⌜ Samples (framesOf (now text)) how (now draws) ⌝ }
     requires { ⌜ Remembers (framesOf (now text)) how (now keys) (now valued) (now values) (c .tallies) ⌝ }
     requires { ⌜ length (costBehind (framesOf (now text)) (map decode (now em)) (bytesOf (now line)) x (costAt (now keys) c) .tally .memo) ≤ length (now keys) ⌝ }
+    requires { ⌜ Indexed (now text) (now index) ⌝ }
+    requires { ⌜ ItemPriced (framesOf (now text)) x (now row) ⌝ }
     ensures { λ r. ⌜ Stands (framesOf (now (text .entry))) how (now (keys .exit)) (now (valued .exit)) (now (values .exit)) r (costBehind (framesOf (now (text .entry))) (map decode (now (em .entry))) (bytesOf (now (line .entry))) x (costAt (now (keys .entry)) c)) ⌝ }
 {
     if !x.bound {
@@ -211,16 +210,28 @@ fn item_cost(
     let q = item_probe(x);
     let t = c.tallies;
     let j = x.at;
-    let s = sampled(text, line, j, em, how, q, keys, valued, values, draws, t);
+    let s = sampled(
+        text,
+        index,
+        line,
+        j,
+        em,
+        how,
+        q,
+        keys,
+        valued,
+        values,
+        draws,
+        t,
+    );
     let drawn = s.fan;
-    let fan = or_fan(drawn, item_fan(text, x));
     let tallies = s.tallies;
-    let cost = c.cost * path_selectivity(fan, denominator(text, x.op));
+    let cost = c.cost * item_selectivity(text, index, row, x, drawn);
     Costed { cost, tallies }
 }
 
 // The items of a frame, as the table of kinds has them.
-fn items_at(line: &[u8]) -> Items
+pub fn items_at(line: &[u8]) -> Items
     ensures { λ r. ⌜ ItemsOf (bytesOf (now (line .entry))) r ⌝ }
 {
     let kind = byte_at(line, 0);
@@ -252,7 +263,9 @@ fn item_at(line: &[u8], g: Items, k: usize, bound: &[bool]) -> Item
 // The items of a frame, one behind the other.
 fn item_costs(
     text: &[u8],
+    index: &[u32],
     line: &[u8],
+    row: &[f64],
     bound: &[bool],
     em: &[u32],
     how: Sampled,
@@ -265,6 +278,8 @@ fn item_costs(
     requires { ⌜ Samples (framesOf (now text)) how (now draws) ⌝ }
     requires { ⌜ Remembers (framesOf (now text)) how (now keys) (now valued) (now values) (start .tallies) ⌝ }
     requires { ⌜ length (frameCosts (framesOf (now text)) (map decode (now em)) (now bound) (bytesOf (now line)) (costAt (now keys) start) .tally .memo) ≤ length (now keys) ⌝ }
+    requires { ⌜ Indexed (now text) (now index) ⌝ }
+    requires { ⌜ RowItems (framesOf (now text)) (bytesOf (now line)) (now row) ⌝ }
     ensures { λ r. ⌜ Stands (framesOf (now (text .entry))) how (now (keys .exit)) (now (valued .exit)) (now (values .exit)) r (frameCosts (framesOf (now (text .entry))) (map decode (now (em .entry))) (now (bound .entry)) (bytesOf (now (line .entry))) (costAt (now (keys .entry)) start)) ⌝ }
 {
     let g = items_at(line);
@@ -273,18 +288,23 @@ fn item_costs(
     let mut k: usize = 0;
     while k < n {
         let x = item_at(line, g, k, bound);
-        c = item_cost(text, line, x, em, how, keys, valued, values, draws, c);
+        c = item_cost(
+            text,
+            index,
+            line,
+            row,
+            x,
+            em,
+            how,
+            keys,
+            valued,
+            values,
+            draws,
+            c,
+        );
         k += 1;
     }
     c
-}
-
-// The cost of a node that is bound: it is looked up within its class.
-fn by_repr_cost(text: &[u8], op: u8, k: u8) -> f64
-    ensures { λ r. ⌜ r ≡ reprCost (framesOf (now (text .entry))) op k ⌝ }
-{
-    let fan = FanOut::Measured(by_repr(text));
-    base_card(text, op, k) * path_selectivity(fan, nodes(text))
 }
 
 // Whether a kind is Lit or LitBind.
@@ -300,7 +320,9 @@ fn is_literal(kind: u8) -> bool
 // The cost of atom number k, by its line.
 pub fn estimate_cost(
     text: &[u8],
+    index: &[u32],
     line: &[u8],
+    row: &[f64],
     k: u8,
     bound: &[bool],
     em: &[u32],
@@ -315,6 +337,8 @@ pub fn estimate_cost(
     requires { ⌜ Samples (framesOf (now text)) how (now draws) ⌝ }
     requires { ⌜ Remembers (framesOf (now text)) how (now keys) (now valued) (now values) s ⌝ }
     requires { ⌜ length (estimateCost (framesOf (now text)) (map decode (now em)) (now bound) k (atomOfFrame (bytesOf (now line))) (tallyAt (now keys) s) .tally .memo) ≤ length (now keys) ⌝ }
+    requires { ⌜ Indexed (now text) (now index) ⌝ }
+    requires { ⌜ Row (framesOf (now text)) (bytesOf (now line)) k (now row) ⌝ }
     ensures { λ r. ⌜ Stands (framesOf (now (text .entry))) how (now (keys .exit)) (now (valued .exit)) (now (values .exit)) r (estimateCost (framesOf (now (text .entry))) (map decode (now (em .entry))) (now (bound .entry)) k (atomOfFrame (bytesOf (now (line .entry)))) (tallyAt (now (keys .entry)) s)) ⌝ }
 {
     if !scans(line) {
@@ -323,15 +347,34 @@ pub fn estimate_cost(
             tallies: s,
         };
     }
-    let op = byte_at(line, 2);
-    let cost = base_card(text, op, k);
     if is_literal(byte_at(line, 0)) {
-        return Costed { cost, tallies: s };
+        return Costed {
+            cost: row[0],
+            tallies: s,
+        };
     }
     if is_set(bound, byte_at(line, 1)) {
-        let cost = by_repr_cost(text, op, k);
-        return Costed { cost, tallies: s };
+        return Costed {
+            cost: row[1],
+            tallies: s,
+        };
     }
-    let c = Costed { cost, tallies: s };
-    item_costs(text, line, bound, em, how, keys, valued, values, draws, c)
+    let c = Costed {
+        cost: row[0],
+        tallies: s,
+    };
+    item_costs(
+        text,
+        index,
+        line,
+        row,
+        bound,
+        em,
+        how,
+        keys,
+        valued,
+        values,
+        draws,
+        c,
+    )
 }

@@ -6,6 +6,7 @@ ghost use lib.ListN.{length, getD};
 ghost use Rattle.measure.specs.Selectivity.{zero64};
 ghost use Rattle.measure.specs.declared.FanOut.the-variants.{Unmeasured};
 ghost use Rattle.frames.specs.First.{framesOf};
+ghost use Rattle.reading.specs.Index.{Indexed};
 ghost use Rattle.query.specs.declared.statistics.Sampled.the-variants.{On};
 ghost use Rattle.cost.specs.Sampling.{afterEstimate};
 ghost use Rattle.cost.specs.Memo.{tallyAt};
@@ -85,6 +86,7 @@ fn fan_value(f: FanOut) -> f64
 // The value of a key; one that is not known is measured, remembered and counted.
 pub fn estimate(
     text: &[u8],
+    index: &[u32],
     cfg: SamplerConfig,
     x: Key,
     keys: &mut [u64],
@@ -96,6 +98,7 @@ pub fn estimate(
     requires { ⌜ Samples (framesOf (now text)) (On cfg) (now draws) ⌝ }
     requires { ⌜ Remembers (framesOf (now text)) (On cfg) (now keys) (now valued) (now values) s ⌝ }
     requires { ⌜ length (afterEstimate (framesOf (now text)) cfg x (tallyAt (now keys) s) .memo) ≤ length (now keys) ⌝ }
+    requires { ⌜ Indexed (now text) (now index) ⌝ }
     ensures { λ r. ⌜ Gives (framesOf (now (text .entry))) (On cfg) (now (keys .exit)) (now (valued .exit)) (now (values .exit)) r (estimateOf (framesOf (now (text .entry))) (On cfg) x (tallyAt (now (keys .entry)) s)) ⌝ }
 {
     let key = pack_key(x);
@@ -105,7 +108,7 @@ pub fn estimate(
         let fan = fan_at(valued, values, i);
         return Sample { fan, tallies: s };
     }
-    let m = measure_key(text, x, cfg, draws);
+    let m = measure_key(text, index, x, cfg, draws);
     let fan = measured_fan(m);
     keys[c] = key;
     valued[c] = is_measured(fan);

@@ -5,8 +5,9 @@ ghost use lib.ListN.{length, getD};
 ghost use lib.Ieee.{binary64, ofBits};
 ghost use Rattle.hex.specs.Digits.{bytesOf, wordAt};
 ghost use Rattle.frames.specs.First.{framesOf};
+ghost use Rattle.reading.specs.Index.{Indexed};
 ghost use Rattle.query.specs.Statistics.{cardOf, opCard, atomCard, inFull, orCard, baseCard as baseCardOf, orZero, denominator as denominatorOf, fanOutAt, byChildPos, byContains, reprOf, byRepr, nodes as nodesOf, sampledOf, settings as settingsOf, probeLen};
-use super::lookup::find_six;
+use super::lookup::look_up;
 use frames::fields::wide;
 use hex::byte_at;
 use hex::long_at;
@@ -37,17 +38,19 @@ fn card_of(line: &[u8]) -> Card
 }
 
 // The cardinality of an operator.
-pub fn op_card(text: &[u8], op: u8) -> Card
+pub fn op_card(text: &[u8], index: &[u32], op: u8) -> Card
+    requires { ⌜ Indexed (now text) (now index) ⌝ }
     ensures { λ r. ⌜ r ≡ opCard (framesOf (now (text .entry))) op ⌝ }
 {
-    card_of(find_six(text, 2, 0x10, op, 0, 0, 0, 0))
+    card_of(look_up(text, index, 2, 0x10, op, 0, 0, 0, 0))
 }
 
 // The cardinality of an atom, which overrides its operator's.
-pub fn atom_card(text: &[u8], atom: u8) -> Card
+pub fn atom_card(text: &[u8], index: &[u32], atom: u8) -> Card
+    requires { ⌜ Indexed (now text) (now index) ⌝ }
     ensures { λ r. ⌜ r ≡ atomCard (framesOf (now (text .entry))) atom ⌝ }
 {
-    card_of(find_six(text, 2, 0x11, atom, 0, 0, 0, 0))
+    card_of(look_up(text, index, 2, 0x11, atom, 0, 0, 0, 0))
 }
 
 fn in_full(c: Card) -> f64
@@ -68,17 +71,19 @@ fn or_card(c: Card, d: Card) -> Card
     }
 }
 
-pub fn base_card(text: &[u8], op: u8, atom: u8) -> f64
+pub fn base_card(text: &[u8], index: &[u32], op: u8, atom: u8) -> f64
+    requires { ⌜ Indexed (now text) (now index) ⌝ }
     ensures { λ r. ⌜ r ≡ baseCardOf (framesOf (now (text .entry))) op atom ⌝ }
 {
-    in_full(or_card(atom_card(text, atom), op_card(text, op)))
+    in_full(or_card(atom_card(text, index, atom), op_card(text, index, op)))
 }
 
 // The denominator of an atom's selectivities.
-pub fn denominator(text: &[u8], op: u8) -> u32
+pub fn denominator(text: &[u8], index: &[u32], op: u8) -> u32
+    requires { ⌜ Indexed (now text) (now index) ⌝ }
     ensures { λ r. ⌜ r ≡ denominatorOf (framesOf (now (text .entry))) op ⌝ }
 {
-    match op_card(text, op) {
+    match op_card(text, index, op) {
         Card::Known(n) => n,
         Card::Unknown => 0,
     }
@@ -94,16 +99,18 @@ fn fan_out_at(line: &[u8], i: usize) -> FanOut
     FanOut::Measured(sqrt::of_bits(long_at(line, i)))
 }
 
-pub fn by_child_pos(text: &[u8], op: u8, position: u8) -> FanOut
+pub fn by_child_pos(text: &[u8], index: &[u32], op: u8, position: u8) -> FanOut
+    requires { ⌜ Indexed (now text) (now index) ⌝ }
     ensures { λ r. ⌜ r ≡ byChildPos (framesOf (now (text .entry))) op position ⌝ }
 {
-    fan_out_at(find_six(text, 3, 0x13, op, position, 0, 0, 0), 3)
+    fan_out_at(look_up(text, index, 3, 0x13, op, position, 0, 0, 0), 3)
 }
 
-pub fn by_contains(text: &[u8], op: u8) -> FanOut
+pub fn by_contains(text: &[u8], index: &[u32], op: u8) -> FanOut
+    requires { ⌜ Indexed (now text) (now index) ⌝ }
     ensures { λ r. ⌜ r ≡ byContains (framesOf (now (text .entry))) op ⌝ }
 {
-    fan_out_at(find_six(text, 2, 0x14, op, 0, 0, 0, 0), 2)
+    fan_out_at(look_up(text, index, 2, 0x14, op, 0, 0, 0, 0), 2)
 }
 
 fn repr_of(line: &[u8]) -> f64
@@ -115,16 +122,18 @@ fn repr_of(line: &[u8]) -> f64
     sqrt::of_bits(long_at(line, 1))
 }
 
-pub fn by_repr(text: &[u8]) -> f64
+pub fn by_repr(text: &[u8], index: &[u32]) -> f64
+    requires { ⌜ Indexed (now text) (now index) ⌝ }
     ensures { λ r. ⌜ r ≡ byRepr (framesOf (now (text .entry))) ⌝ }
 {
-    repr_of(find_six(text, 1, 0x12, 0, 0, 0, 0, 0))
+    repr_of(look_up(text, index, 1, 0x12, 0, 0, 0, 0, 0))
 }
 
-pub fn nodes(text: &[u8]) -> u32
+pub fn nodes(text: &[u8], index: &[u32]) -> u32
+    requires { ⌜ Indexed (now text) (now index) ⌝ }
     ensures { λ r. ⌜ r ≡ nodesOf (framesOf (now (text .entry))) ⌝ }
 {
-    word_at(find_six(text, 1, 0x12, 0, 0, 0, 0, 0), 9)
+    word_at(look_up(text, index, 1, 0x12, 0, 0, 0, 0, 0), 9)
 }
 
 fn wide_short(s: u16) -> usize
@@ -150,8 +159,9 @@ fn sampled_of(line: &[u8]) -> Sampled
 }
 
 // Whether sampling is on, and its settings.
-pub fn settings(text: &[u8]) -> Sampled
+pub fn settings(text: &[u8], index: &[u32]) -> Sampled
+    requires { ⌜ Indexed (now text) (now index) ⌝ }
     ensures { λ r. ⌜ r ≡ settingsOf (framesOf (now (text .entry))) ⌝ }
 {
-    sampled_of(find_six(text, 1, 0x20, 0, 0, 0, 0, 0))
+    sampled_of(look_up(text, index, 1, 0x20, 0, 0, 0, 0, 0))
 }

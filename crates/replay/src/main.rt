@@ -1,12 +1,14 @@
 // Replays cases. A case is a line of standard input: two digits say what it is, and two more stand for each byte of its text. 00 a query, 01 a
 // plan, 02 a table to be read: the answer is `accepted` with lines and those counted, or `refused` with number and line. 03 a query to be
 // planned: the answer is the plan, or the line ff number line(2). 04 a run: allowance(8) room(4) length(4), a plan of that length and a table; the
-// answer is what the program `run` prints, and how many bytes behind the match lines kept their value.
+// answer is what the program `run` prints, how many bytes behind the match lines kept their value, and what the second entry answers as one
+// number, with the line of its match.
 ghost use mathlib.Core.Path.{_≡_};
 ghost use Prim.Native.Nat.{_+_, _≤_};
 ghost use lib.ListN.{length, take};
 ghost use Rattle.hex.specs.Digits.{bytesOf};
 use entries::run::run;
+use exports::some::rimdovek_some_match;
 use frames::first::Reading;
 use frames::first::Text;
 use planner::entry::plan;
@@ -92,10 +94,30 @@ fn run_into(plan: &[u8], table: &[u8], allowance: u64, out: &mut [u8]) {
     io::write_all(1, b"\n");
 }
 
+// A match's line has at most 419 bytes.
+fn match_room() -> [u8; 419]
+    ensures { λ r. ⌜ 419 ≡ length r ⌝ }
+{
+    [0; 419]
+}
+
+fn some_case(plan: &[u8], table: &[u8], allowance: u64) {
+    let mut out = match_room();
+    let answer = rimdovek_some_match(plan, table, allowance, &mut out);
+    io::print_decimal(1, answer);
+    io::write_all(1, b"\n");
+    if answer == 2 {
+        let e = hex::line_end(&out, 0);
+        io::write_all(1, &out[..e]);
+        io::write_all(1, b"\n");
+    }
+}
+
 fn run_texts(plan: &[u8], table: &[u8], allowance: u64, room: usize) {
     let mut out = marked_room();
     if room <= 65536 {
         run_into(plan, table, allowance, &mut out[..room]);
+        some_case(plan, table, allowance);
     }
 }
 

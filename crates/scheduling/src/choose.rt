@@ -6,12 +6,14 @@ ghost use Prim.Native.Nat.{ℕ, _+_, _<_, _≤_};
 ghost use lib.ListN.{length, getD};
 ghost use Rattle.hex.specs.Digits.{bytesOf};
 ghost use Rattle.frames.specs.First.{framesOf};
+ghost use Rattle.reading.specs.Index.{Indexed};
 ghost use Rattle.model.specs.Scheduling.{numbers};
 ghost use Rattle.cost.specs.QueryAtoms.{atomOfFrame};
 ghost use Rattle.cost.specs.Emitters.{decode};
 ghost use Rattle.cost.specs.Memo.{tallyAt};
 ghost use Rattle.lowering.specs.AtomLines.{AtomLine};
 ghost use Rattle.lowering.specs.Eager.{Located, atomsOf};
+ghost use Rattle.pricing.specs.Prices.{Row, Priced};
 ghost use Rattle.pricing.specs.Remembering.{Samples, Remembers};
 ghost use Rattle.scheduling.specs.Choosing.{bidOf, considered, candidates, Chose, betterOf};
 use cost::memo::Tallies;
@@ -61,7 +63,9 @@ fn better(i: u8, c: Costed, b: Best) -> Best
 // Atom number i, by its line, against the best so far.
 fn consider(
     text: &[u8],
+    index: &[u32],
     line: &[u8],
+    row: &[f64],
     i: u8,
     used: &[bool],
     bound: &[bool],
@@ -77,6 +81,8 @@ fn consider(
     requires { ⌜ Samples (framesOf (now text)) how (now draws) ⌝ }
     requires { ⌜ Remembers (framesOf (now text)) how (now keys) (now valued) (now values) (b .tallies) ⌝ }
     requires { ⌜ length (considered (framesOf (now text)) (map decode (now em)) (now used) (now bound) i (atomOfFrame (bytesOf (now line))) (tallyAt (now keys) (b .tallies)) (bidOf (b .found) (b .who) (b .price)) .next .memo) ≤ length (now keys) ⌝ }
+    requires { ⌜ Indexed (now text) (now index) ⌝ }
+    requires { ⌜ Row (framesOf (now text)) (bytesOf (now line)) i (now row) ⌝ }
     ensures { λ r. ⌜ Chose (framesOf (now (text .entry))) how (now (keys .exit)) (now (valued .exit)) (now (values .exit)) r (considered (framesOf (now (text .entry))) (map decode (now (em .entry))) (now (used .entry)) (now (bound .entry)) i (atomOfFrame (bytesOf (now (line .entry)))) (tallyAt (now (keys .entry)) (b .tallies)) (bidOf (b .found) (b .who) (b .price))) ⌝ }
 {
     if is_set(used, i) {
@@ -88,7 +94,9 @@ fn consider(
     let s = b.tallies;
     let c = estimate_cost(
         text,
+        index,
         line,
+        row,
         i,
         bound,
         em,
@@ -112,8 +120,10 @@ fn narrow(i: usize) -> u8
 // The cheapest of the n atoms, of those that are not used and scan.
 pub fn cheapest(
     text: &[u8],
+    index: &[u32],
     from: &[usize],
     n: usize,
+    prices: &[f64],
     used: &[bool],
     bound: &[bool],
     em: &[u32],
@@ -128,6 +138,8 @@ pub fn cheapest(
     requires { ⌜ Samples (framesOf (now text)) how (now draws) ⌝ }
     requires { ⌜ Remembers (framesOf (now text)) how (now keys) (now valued) (now values) s ⌝ }
     requires { ⌜ length (candidates (framesOf (now text)) (map decode (now em)) (atomsOf (now text)) (now used) (now bound) (numbers (atomsOf (now text))) (tallyAt (now keys) s) none .next .memo) ≤ length (now keys) ⌝ }
+    requires { ⌜ Indexed (now text) (now index) ⌝ }
+    requires { ⌜ Priced (now text) (now from) n (now prices) ⌝ }
     ensures { λ r. ⌜ Chose (framesOf (now (text .entry))) how (now (keys .exit)) (now (valued .exit)) (now (values .exit)) r (candidates (framesOf (now (text .entry))) (map decode (now (em .entry))) (atomsOf (now (text .entry))) (now (used .entry)) (now (bound .entry)) (numbers (atomsOf (now (text .entry)))) (tallyAt (now (keys .entry)) s) none) ⌝ }
 {
     let mut b = Best {
@@ -139,9 +151,14 @@ pub fn cheapest(
     let mut i: usize = 0;
     while i < n {
         let line = atom_line(text, from, i);
+        let at = 18 * i;
+        let end = at + 18;
+        let row = &prices[at..end];
         b = consider(
             text,
+            index,
             line,
+            row,
             narrow(i),
             used,
             bound,

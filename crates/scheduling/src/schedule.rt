@@ -7,6 +7,7 @@ ghost use Prim.Native.Nat.{ℕ, _+_, _<_, _≤_};
 ghost use lib.ListN.{length, getD};
 ghost use Rattle.hex.specs.Digits.{bytesOf};
 ghost use Rattle.frames.specs.First.{framesOf};
+ghost use Rattle.reading.specs.Index.{Indexed};
 ghost use Rattle.model.specs.Bound.{has, most};
 ghost use Rattle.model.specs.Scheduling.{scans, numbers, atomOf};
 ghost use Rattle.cost.specs.QueryAtoms.{atomOfFrame};
@@ -15,6 +16,7 @@ ghost use Rattle.cost.specs.Memo.{tallyAt};
 ghost use Rattle.cost.specs.Choice.{remembered};
 ghost use Rattle.lowering.specs.AtomLines.{AtomLine};
 ghost use Rattle.lowering.specs.Eager.{Located, Ready, atomsOf};
+ghost use Rattle.pricing.specs.Prices.{Priced};
 ghost use Rattle.pricing.specs.Remembering.{Samples, Remembers};
 ghost use Rattle.scheduling.specs.Choosing.{candidates};
 ghost use Rattle.scheduling.specs.Rounds.{Takes, Chooses, TakesNext, RoundRoom, Unplanned, Scheduling};
@@ -46,8 +48,10 @@ pub struct Scheduled {
 // An eager round, the emitters of what it lowered, and the choice behind it.
 fn choose_next(
     text: &[u8],
+    index: &[u32],
     from: &[usize],
     n: usize,
+    prices: &[f64],
     used: &mut [bool],
     bound: &mut [bool],
     before: &[bool],
@@ -67,14 +71,18 @@ fn choose_next(
     requires { ⌜ Samples (framesOf (now text)) how (now draws) ⌝ }
     requires { ⌜ Remembers (framesOf (now text)) how (now keys) (now valued) (now values) s ⌝ }
     requires { ⌜ RoundRoom (now text) (now used) (now bound) (now before) (map decode (now em)) (now keys) s ⌝ }
+    requires { ⌜ Indexed (now text) (now index) ⌝ }
+    requires { ⌜ Priced (now text) (now from) n (now prices) ⌝ }
     ensures { λ r. ⌜ Chooses (now (text .entry)) how (now (used .entry)) (now (bound .entry)) (now (before .entry)) (map decode (now (em .entry))) (now (order .entry)) count (now (keys .entry)) s (now (used .exit)) (now (bound .exit)) (map decode (now (em .exit))) (now (order .exit)) (now (keys .exit)) (now (valued .exit)) (now (values .exit)) r ⌝ }
 {
     let c = lower_eager(text, from, n, used, bound, order, count);
     record_emitters(em, text, from, n, before, used);
     let best = cheapest(
         text,
+        index,
         from,
         n,
+        prices,
         used,
         bound,
         em,
@@ -165,8 +173,10 @@ fn ended(count: usize, s: Tallies) -> Scheduled
 // The order in which the atoms are lowered, by an eager round and the cheapest atom in turn, until no atom is left to choose.
 pub fn schedule(
     text: &[u8],
+    index: &[u32],
     from: &[usize],
     n: usize,
+    prices: &[f64],
     used: &mut [bool],
     bound: &mut [bool],
     before: &mut [bool],
@@ -184,6 +194,8 @@ pub fn schedule(
     requires { ⌜ Samples (framesOf (now text)) how (now draws) ⌝ }
     requires { ⌜ (length (now valued) ≡ length (now keys)) × ((length (now values) ≡ length (now keys)) × (length (now keys) ≤ 1024)) ⌝ }
     requires { ⌜ length (remembered (framesOf (now text)) (atomsOf (now text)) .tally .memo) ≤ length (now keys) ⌝ }
+    requires { ⌜ Indexed (now text) (now index) ⌝ }
+    requires { ⌜ Priced (now text) (now from) n (now prices) ⌝ }
     ensures { λ r. ⌜ Scheduling (now (text .entry)) (now (order .exit)) r ⌝ }
 {
     let mut count: usize = 0;
@@ -197,8 +209,10 @@ pub fn schedule(
         left -= 1;
         let r = choose_next(
             text,
+            index,
             from,
             n,
+            prices,
             used,
             bound,
             before,

@@ -1,6 +1,8 @@
 //! The C functions of the crate `exports`, declared and wrapped. Each is proved to meet an equation and asks nothing of its caller
 //! beyond what its Rust type says, so every wrapper is safe.
 
+use std::thread;
+
 mod c {
     unsafe extern "C" {
         pub safe fn rimdovek_sqrt(bits: u64) -> u64;
@@ -162,13 +164,33 @@ pub struct Ran {
     pub matches: u64,
 }
 
+/// A run takes some 2,200 bytes of stack a Join: a plan up to this long stays below 1.5 MB.
+const SHORT_PLAN: usize = 16 << 10;
+
+/// Enough for the longest plan text that is accepted, which takes less than 6 MB.
+const STACK: usize = 8 << 20;
+
+/// A call that runs a plan: on a thread of its own where the plan is long.
+fn with_stack<T: Send>(plan: &[u8], call: impl FnOnce() -> T + Send) -> T {
+    if plan.len() <= SHORT_PLAN {
+        return call();
+    }
+    thread::scope(|scope| {
+        let own = thread::Builder::new().stack_size(STACK).spawn_scoped(scope, call);
+        own.expect("a thread is made").join().expect("the call returns")
+    })
+}
+
 /// Runs a plan over a table with an allowance of tries; the lines of the matches go into the lent output.
 ///
 /// The C function's answer, accepted: the status from bit 32 on, the bytes written below.
+///
+/// # Panics
+/// Where the plan has more than 16 kB and no thread can be made.
 pub fn run(plan: &[u8], table: &[u8], allowance: u64, out: &mut [u8]) -> Result<Ran, Refusal> {
     let (mut tries, mut matches) = (0, 0);
     // SAFETY: the pointers are of references that outlive the call, and the lengths are the slices'.
-    let answer = accepted(unsafe {
+    let answer = accepted(with_stack(plan, || unsafe {
         c::rimdovek_run(
             plan.as_ptr(),
             plan.len(),
@@ -180,7 +202,7 @@ pub fn run(plan: &[u8], table: &[u8], allowance: u64, out: &mut [u8]) -> Result<
             &mut tries,
             &mut matches,
         )
-    })?;
+    }))?;
     let status = match answer >> 32 {
         0 => Status::Done,
         1 => Status::Spent,
@@ -206,9 +228,12 @@ pub enum SomeMatch {
 }
 
 /// Some match of a plan over a table.
+///
+/// # Panics
+/// As `run`.
 pub fn some_match(plan: &[u8], table: &[u8], allowance: u64, out: &mut [u8]) -> Result<SomeMatch, Refusal> {
     // SAFETY: the pointers are of references that outlive the call, and the lengths are the slices'.
-    let answer = accepted(unsafe {
+    let answer = accepted(with_stack(plan, || unsafe {
         c::rimdovek_some_match(
             plan.as_ptr(),
             plan.len(),
@@ -218,7 +243,7 @@ pub fn some_match(plan: &[u8], table: &[u8], allowance: u64, out: &mut [u8]) -> 
             out.as_mut_ptr(),
             out.len(),
         )
-    })?;
+    }))?;
     Ok(match answer {
         0 => SomeMatch::None,
         1 => SomeMatch::Spent,

@@ -92,3 +92,28 @@ fn worked_some_match() {
     assert_eq!(&out[..MATCH.len()], MATCH);
     assert_eq!(some_match(PLAN, TABLE, 6, &mut []), Ok(SomeMatch::Match));
 }
+
+/// A plan of a Join and as many more lines as fit into a text of so many bytes.
+fn long_plan(size: usize, line: &str) -> String {
+    let first = "4000000100010000\n";
+    let more = (size - 21 - first.len()) / line.len();
+    format!("3f010000{:04x}00000000\n{first}{}", more + 1, line.repeat(more))
+}
+
+/// Joins that name their own target, and checks: both texts as long as any, and the longest that runs on the caller's stack of 2 MB.
+#[test]
+fn longest_plans() {
+    for size in [16 << 10, 65_536] {
+        for line in ["400000020001000002000000\n", "430000\n"] {
+            let plan = long_plan(size, line);
+            let mut out = [LENT; 64];
+            let answer = run(plan.as_bytes(), b"3000050100\n", u64::MAX, &mut out).expect("it runs");
+            assert_eq!((answer.status, answer.matches), (Status::Done, 1));
+            assert_eq!(&out[..7], b"500005\n");
+            assert_eq!(
+                some_match(plan.as_bytes(), b"3000050100\n", u64::MAX, &mut out),
+                Ok(SomeMatch::Match)
+            );
+        }
+    }
+}

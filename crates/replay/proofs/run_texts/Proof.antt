@@ -18,6 +18,9 @@ slice-aggregate-run-into c = sym (length-take-le _ _ (omega (arith, c .before .i
 run-into-requires : tie.Need-run-into-requires
 run-into-requires c κs = search needs
 
+some-case-requires : tie.Need-some-case-requires
+some-case-requires c κs = search needs
+
 returns : tie.Need-returns
 returns c = search needs
 
@@ -32,5 +35,6 @@ run-texts-spec =
     array-borrow-prefix-out
     slice-aggregate-run-into
     run-into-requires
+    some-case-requires
     returns
     returns-2)

@@ -8,10 +8,10 @@ use Rattle.cost.proofs.draws.fill_draws.Statement.{statement}
 use Rattle.cost.proofs.draws.fill_draws.Tie as tie
 
 abbrev Inv-loop : tie.InvT-loop
-Inv-loop text line n x draws₀ c₀ i₀ draws c i = Filling (framesOf text) x (bytesOf line) n draws₀ draws c i
+Inv-loop text index line n x draws₀ c₀ i₀ draws c i = Filling (framesOf text) x (bytesOf line) n draws₀ draws c i
 
 abbrev μ-loop : tie.MeasureT-loop
-μ-loop text line n x draws₀ c₀ i₀ draws c i = n - i
+μ-loop text index line n x draws₀ c₀ i₀ draws c i = n - i
 
 loop-holds : tie.Need-loop-holds Inv-loop μ-loop
 loop-holds c = search filling-none
@@ -26,7 +26,7 @@ short-at-requires : tie.Need-short-at-requires Inv-loop μ-loop
 short-at-requires c κs = search needs
 
 add-draw-requires : tie.Need-add-draw-requires Inv-loop μ-loop
-add-draw-requires c κs = search room
+add-draw-requires c κs = (search room, search needs)
 
 add-i : tie.Need-add-i Inv-loop μ-loop
 add-i c = search needs

@@ -1,11 +1,15 @@
 -- `cost::draws::sample_draws` meets its contract: the first k nodes, or all where they are fewer.
+use mathlib.Core.Path.{refl}
 use Rattle.cost.proofs.DrawLaws.{all-drawn, first-drawn}
+use Rattle.frames.specs.Kinds.{kindAt}
+use Rattle.query.proofs.LookupLaws.{proper}
 use borrow.Author.Needs.{needs}
 use Rattle.cost.proofs.draws.sample_draws.Statement.{statement}
 use Rattle.cost.proofs.draws.sample_draws.Tie as tie
 
-find-six-requires : tie.Need-find-six-requires
-find-six-requires c κs = search needs
+look-up-requires : tie.Need-look-up-requires
+unfolding kindAt
+look-up-requires c κs = (search needs, (proper 0x21 _ refl refl, search needs))
 
 byte-at-requires : tie.Need-byte-at-requires
 byte-at-requires c κs = search needs
@@ -14,7 +18,7 @@ wide-requires : tie.Need-wide-requires
 wide-requires c κs = search needs
 
 fill-draws-requires : tie.Need-fill-draws-requires
-fill-draws-requires c κs = search needs
+fill-draws-requires c κs = (search needs, (search needs, search needs))
 
 same-length : tie.Need-same-length
 same-length c = search needs
@@ -35,7 +39,7 @@ pub sample-draws-spec : {M : Type 1} → statement M
 sample-draws-spec =
     tie.close
     (tie.spec
-    find-six-requires
+    look-up-requires
     byte-at-requires
     wide-requires
     fill-draws-requires

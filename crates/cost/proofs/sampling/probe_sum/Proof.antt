@@ -1,3 +1,4 @@
+-- `cost::sampling::probe_sum` meets its contract: the classes left give the rest of the sum.
 use borrow.Author.Needs.{needs}
 use Prim.Native.Nat.{_-_}
 use mathlib.Core.Path.{refl}
@@ -9,10 +10,10 @@ use Rattle.cost.proofs.sampling.probe_sum.Statement.{statement}
 use Rattle.cost.proofs.sampling.probe_sum.Tie as tie
 
 abbrev Inv-loop : tie.InvT-loop
-Inv-loop text line n x sum₀ i₀ sum i = Summed (framesOf text) x (bytesOf line) n sum i
+Inv-loop text index line n x sum₀ i₀ sum i = Summed (framesOf text) x (bytesOf line) n sum i
 
 abbrev μ-loop : tie.MeasureT-loop
-μ-loop text line n x sum₀ i₀ sum i = n - i
+μ-loop text index line n x sum₀ i₀ sum i = n - i
 
 loop-holds : tie.Need-loop-holds Inv-loop μ-loop
 loop-holds c = search summed-none

@@ -1,7 +1,6 @@
 -- `planner::entry::plan_accepted` meets its contract: the places, the order, the plan, in turn.
 use mathlib.Core.Path.{refl}
 use Rattle.planner.specs.Accepted.{frames-few}
-use Rattle.planner.proofs.EntryLaws.{places-located}
 use borrow.Author.Needs.{needs}
 use Rattle.planner.proofs.entry.plan_accepted.Statement.{statement}
 use Rattle.planner.proofs.entry.plan_accepted.Tie as tie
@@ -10,7 +9,7 @@ slice-aggregate-atom-places : tie.Need-slice-aggregate-atom-places
 slice-aggregate-atom-places c = search needs
 
 atom-places-requires : tie.Need-atom-places-requires
-atom-places-requires c κs = frames-few _ _ _ (c .before .before .before .pre .is)
+atom-places-requires c κs = frames-few _ _ _ (c .before .before .before .before .pre .0 .is)
 
 slice-aggregate-find-order : tie.Need-slice-aggregate-find-order
 slice-aggregate-find-order c = search needs
@@ -19,7 +18,7 @@ slice-aggregate-find-order-2 : tie.Need-slice-aggregate-find-order-2
 slice-aggregate-find-order-2 c = search needs
 
 find-order-requires : tie.Need-find-order-requires
-find-order-requires c κs = (c .before .before .before .before .before .before .before .pre, (places-located _ _ _ (c .before .before .before .before .before .before .before .pre) (c .before .before .before .atom-places .ensures), refl))
+find-order-requires c κs = (c .before .before .before .before .before .before .before .before .pre .0, (c .before .before .before .atom-places .ensures, (refl, c .before .before .before .before .before .before .before .before .pre .1)))
 
 slice-aggregate-plan-in-order : tie.Need-slice-aggregate-plan-in-order
 slice-aggregate-plan-in-order c = search needs
@@ -28,7 +27,7 @@ slice-aggregate-plan-in-order-2 : tie.Need-slice-aggregate-plan-in-order-2
 slice-aggregate-plan-in-order-2 c = search needs
 
 plan-in-order-requires : tie.Need-plan-in-order-requires
-plan-in-order-requires c κs = (c .before .before .before .before .before .before .before .before .before .before .before .before .pre, (c .before .before .before .before .before .before .before .before .atom-places .ensures, (c .before .before .before .before .find-order .ensures, c .before .before .before .order2 .given)))
+plan-in-order-requires c κs = (c .before .before .before .before .before .before .before .before .before .before .before .before .before .pre .0, (c .before .before .before .before .before .before .before .before .atom-places .ensures, (c .before .before .before .before .find-order .ensures, c .before .before .before .order2 .given)))
 
 same-length : tie.Need-same-length
 same-length c = search needs

@@ -31,7 +31,7 @@ slice-aggregate-schedule-8 : tie.Need-slice-aggregate-schedule-8
 slice-aggregate-schedule-8 c = search needs
 
 schedule-requires : tie.Need-schedule-requires
-schedule-requires c κs = (c .before .before .before .before .before .before .before .before .before .before .before .before .pre .0, (all-unplanned, (c .before .before .before .before .before .before .before .before .before .before .before .before .pre .1 .0, (samples-nothing _ _ (c .before .before .before .before .before .before .before .before .before .before .before .before .pre .1 .1), ((refl, (refl, omega arith)), remembers-nothing _ (c .before .before .before .before .before .before .before .before .before .before .before .before .pre .1 .1))))))
+schedule-requires c κs = (c .before .before .before .before .before .before .before .before .before .before .before .before .before .before .pre .0, (all-unplanned, (c .before .before .before .before .before .before .before .before .before .before .before .before .before .before .pre .1 .0, (samples-nothing _ _ (c .before .before .before .before .before .before .before .before .before .before .before .before .before .before .pre .1 .1 .0), ((refl, (refl, omega arith)), (remembers-nothing _ (c .before .before .before .before .before .before .before .before .before .before .before .before .before .before .pre .1 .1 .0), (c .before .before .before .before .before .before .before .before .before .before .before .before .before .before .pre .1 .1 .1 .0, c .before .before .before .before .before .before .before .before .before .before .before .before .before .before .pre .1 .1 .1 .1)))))))
 
 same-length : tie.Need-same-length
 same-length c = search needs

@@ -11,19 +11,10 @@ item-probe-requires : tie.Need-item-probe-requires
 item-probe-requires c κs = search needs
 
 sampled-requires : tie.Need-sampled-requires
-sampled-requires c κs = (search needs, (search needs, (search needs, search item-room)))
+sampled-requires c κs = (search needs, (search needs, (search needs, (search item-room, search needs))))
 
-item-fan-requires : tie.Need-item-fan-requires
-item-fan-requires c κs = search needs
-
-or-fan-requires : tie.Need-or-fan-requires
-or-fan-requires c κs = search needs
-
-denominator-requires : tie.Need-denominator-requires
-denominator-requires c κs = search needs
-
-path-selectivity-requires : tie.Need-path-selectivity-requires
-path-selectivity-requires c κs = search needs
+item-selectivity-requires : tie.Need-item-selectivity-requires
+item-selectivity-requires c κs = (c .before .before .before .before .before .before .before .before .before .before .before .before .before .before .before .before .before .before .before .before .before .before .before .before .before .before .before .pre .1 .1 .1 .1 .0, c .before .before .before .before .before .before .before .before .before .before .before .before .before .before .before .before .before .before .before .before .before .before .before .before .before .before .before .pre .1 .1 .1 .1 .1)
 
 same-length : tie.Need-same-length
 same-length c = search needs
@@ -47,10 +38,7 @@ item-cost-spec =
     returns
     item-probe-requires
     sampled-requires
-    item-fan-requires
-    or-fan-requires
-    denominator-requires
-    path-selectivity-requires
+    item-selectivity-requires
     same-length
     same-length-2
     same-length-3

@@ -5,16 +5,17 @@ use Rattle.hex.specs.Digits.{bytesOf}
 use Rattle.frames.specs.First.{framesOf}
 use Rattle.cost.specs.Emitters.{decode}
 use Rattle.pricing.proofs.ItemLaws.{Counting, counting-none, next-samples, next-small, next-at, next-room, counting-again, counting-all}
+use Rattle.pricing.proofs.PriceLaws.{item-priced}
 use borrow.Author.Needs.{needs}
 use Rattle.pricing.proofs.costs.item_costs.Statement.{statement}
 use Rattle.pricing.proofs.costs.item_costs.Tie as tie
 
 abbrev Inv-loop : tie.InvT-loop
-Inv-loop text line bound em how keys₀ valued₀ values₀ draws₀ g n c₀ k₀ keys valued values draws c k =
+Inv-loop text index line row bound em how keys₀ valued₀ values₀ draws₀ g n c₀ k₀ keys valued values draws c k =
     Counting (framesOf text) (map decode em) bound (bytesOf line) g how keys₀ valued₀ values₀ draws₀ c₀ keys valued values draws c k
 
 abbrev μ-loop : tie.MeasureT-loop
-μ-loop text line bound em how keys₀ valued₀ values₀ draws₀ g n c₀ k₀ keys valued values draws c k = n - k
+μ-loop text index line row bound em how keys₀ valued₀ values₀ draws₀ g n c₀ k₀ keys valued values draws c k = n - k
 
 items-at-requires : tie.Need-items-at-requires Inv-loop μ-loop
 items-at-requires c κs = search needs
@@ -26,7 +27,7 @@ item-at-requires : tie.Need-item-at-requires Inv-loop μ-loop
 item-at-requires c κs = next-small _ _ _ _ _ _ _ _ _ _ _ _ _ _ _ _ _ (c .before .loop .inv) (c .before .before .items-at .ensures) (c .loop-test .taken)
 
 item-cost-requires : tie.Need-item-cost-requires Inv-loop μ-loop
-item-cost-requires c κs = (search next-at, (search next-samples, (search needs, next-room _ _ _ _ _ _ _ _ _ _ _ _ _ _ _ _ _ (c .before .before .before .before .before .before .loop .inv) _ (c .before .before .before .before .item-at .ensures) (c .before .before .before .before .before .loop-test .taken) (c .before .before .before .before .before .before .before .before .before .before .before .before .before .before .before .before .pre .1 .1))))
+item-cost-requires c κs = (search next-at, (search next-samples, (search needs, (next-room _ _ _ _ _ _ _ _ _ _ _ _ _ _ _ _ _ (c .before .before .before .before .before .before .loop .inv) _ (c .before .before .before .before .item-at .ensures) (c .before .before .before .before .before .loop-test .taken) (c .before .before .before .before .before .before .before .before .before .before .before .before .before .before .before .before .before .before .pre .1 .1 .0), (c .before .before .before .before .before .before .before .before .before .before .before .before .before .before .before .before .before .before .pre .1 .1 .1 .0, item-priced _ _ _ _ _ _ _ (c .before .before .before .before .before .before .before .items-at .ensures) (c .before .before .before .before .before .before .before .before .before .before .before .before .before .before .before .before .before .before .pre .1 .1 .1 .1) (c .before .before .before .before .item-at .ensures) (c .before .before .before .before .before .loop-test .taken))))))
 
 add-k : tie.Need-add-k Inv-loop μ-loop
 add-k c = search needs

@@ -26,7 +26,7 @@ returns : tie.Need-returns
 returns c = search known-gives
 
 measure-key-requires : tie.Need-measure-key-requires
-measure-key-requires c κs = search draw-room
+measure-key-requires c κs = draw-room _ _ _ _ _ (c .before .before .before .before .before .before .before .before .before .before .before .pre .0) (c .before .before .before .before .before .before .before .before .before .before .before .pre .1 .1 .1)
 
 measured-fan-requires : tie.Need-measured-fan-requires
 measured-fan-requires c κs = search needs

@@ -1,18 +1,22 @@
-use mathlib.Core.Path.{_∙_, ap}
+-- `query::statistics::atom_card` meets its contract: the frame of kind 11, read.
+use mathlib.Core.Path.{refl, _∙_, ap}
 use Rattle.query.specs.Statistics.{atomCard, cardOf}
+use Rattle.frames.specs.Kinds.{kindAt}
+use Rattle.query.proofs.LookupLaws.{proper}
 use borrow.Author.Needs.{needs}
 use Rattle.query.proofs.statistics.atom_card.Statement.{statement}
 use Rattle.query.proofs.statistics.atom_card.Tie as tie
 
-find-six-requires : tie.Need-find-six-requires
-find-six-requires c κs = search needs
+look-up-requires : tie.Need-look-up-requires
+unfolding kindAt
+look-up-requires c κs = (search needs, (proper 0x11 _ refl refl, search needs))
 
 card-of-requires : tie.Need-card-of-requires
 card-of-requires c κs = search needs
 
 returns : tie.Need-returns
 unfolding atomCard
-returns c = c .card-of .ensures ∙ ap cardOf (c .before .find-six .ensures)
+returns c = c .card-of .ensures ∙ ap cardOf (c .before .look-up .ensures)
 
 pub atom-card-spec : {M : Type 1} → statement M
-atom-card-spec = tie.close (tie.spec find-six-requires card-of-requires returns)
+atom-card-spec = tie.close (tie.spec look-up-requires card-of-requires returns)

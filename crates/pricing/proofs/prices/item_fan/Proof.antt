@@ -1,8 +1,8 @@
--- `pricing::costs::item_fan` meets its contract: a child or an element.
-use Rattle.pricing.proofs.LeafLaws.{element-fan, child-fan}
+-- `pricing::prices::item_fan` meets its contract: a child or an element.
+use Rattle.pricing.proofs.PriceLaws.{element-fan, child-fan}
 use borrow.Author.Needs.{needs}
-use Rattle.pricing.proofs.costs.item_fan.Statement.{statement}
-use Rattle.pricing.proofs.costs.item_fan.Tie as tie
+use Rattle.pricing.proofs.prices.item_fan.Statement.{statement}
+use Rattle.pricing.proofs.prices.item_fan.Tie as tie
 
 by-contains-requires : tie.Need-by-contains-requires
 by-contains-requires c κs = search needs

@@ -1,0 +1,85 @@
+// The prices of a query's atoms that no sample changes, in one table: each is found once, before the rounds.
+ghost use mathlib.Core.Path.{_≡_};
+ghost use Prim.Native.Nat.{_+_, _*_, _<_, _≤_};
+ghost use lib.ListN.{length};
+ghost use Rattle.hex.specs.Digits.{bytesOf};
+ghost use Rattle.frames.specs.First.{framesOf};
+ghost use Rattle.frames.specs.Kinds.{itemsOf};
+ghost use Rattle.frames.specs.Frames.{kindOf};
+ghost use Rattle.reading.specs.Index.{Indexed};
+ghost use Rattle.lowering.specs.Eager.{Located};
+ghost use Rattle.pricing.specs.Items.{itemFan, reprSelectivity};
+ghost use Rattle.pricing.specs.Prices.{rowSize, ItemsPriced, Row, FewItems, Priced};
+use super::costs::Items;
+use super::costs::items_at;
+use super::costs::narrow;
+use lowering::eager::atom_line;
+use measure::FanOut;
+use measure::path_selectivity;
+use query::statistics::base_card;
+use query::statistics::by_child_pos;
+use query::statistics::by_contains;
+use query::statistics::by_repr;
+use query::statistics::denominator;
+use query::statistics::nodes;
+
+// The measured fan-out of an item at a position.
+fn item_fan(text: &[u8], index: &[u32], g: Items, position: u8) -> FanOut
+    requires { ⌜ Indexed (now text) (now index) ⌝ }
+    ensures { λ r. ⌜ r ≡ itemFan (framesOf (now (text .entry))) (g .op) (g .elements) position ⌝ }
+{
+    if g.elements {
+        return by_contains(text, index, g.op);
+    }
+    by_child_pos(text, index, g.op, position)
+}
+
+// The selectivities of the items, from the third number of a row on.
+fn fill_items(text: &[u8], index: &[u32], g: Items, row: &mut [f64])
+    requires { ⌜ g .count < 256 ⌝ }
+    requires { ⌜ g .count + 2 ≤ length (now row) ⌝ }
+    requires { ⌜ Indexed (now text) (now index) ⌝ }
+    ensures { λ _. ⌜ ItemsPriced (framesOf (now (text .entry))) g (g .count) (now (row .entry)) (now (row .exit)) ⌝ }
+{
+    let denom = denominator(text, index, g.op);
+    let n = g.count;
+    let mut j: usize = 0;
+    while j < n {
+        let fan = item_fan(text, index, g, narrow(j));
+        row[j + 2] = path_selectivity(fan, denom);
+        j += 1;
+    }
+}
+
+// The row of atom number k, by its line; `repr` is the selectivity of a node that is bound.
+fn fill_row(text: &[u8], index: &[u32], line: &[u8], k: u8, repr: f64, row: &mut [f64])
+    requires { ⌜ repr ≡ reprSelectivity (framesOf (now text)) ⌝ }
+    requires { ⌜ itemsOf (kindOf (bytesOf (now line))) (bytesOf (now line)) + 2 ≤ length (now row) ⌝ }
+    requires { ⌜ Indexed (now text) (now index) ⌝ }
+    ensures { λ _. ⌜ Row (framesOf (now (text .entry))) (bytesOf (now (line .entry))) k (now (row .exit)) ⌝ }
+{
+    let g = items_at(line);
+    let base = base_card(text, index, g.op, k);
+    row[0] = base;
+    row[1] = base * repr;
+    fill_items(text, index, g, row)
+}
+
+// The rows of the n atoms.
+pub fn fill_prices(text: &[u8], index: &[u32], from: &[usize], n: usize, prices: &mut [f64])
+    requires { ⌜ Located (now text) (now from) n ⌝ }
+    requires { ⌜ FewItems (now text) (now from) n ⌝ }
+    requires { ⌜ rowSize * n ≤ length (now prices) ⌝ }
+    requires { ⌜ Indexed (now text) (now index) ⌝ }
+    ensures { λ _. ⌜ Priced (now (text .entry)) (now (from .entry)) n (now (prices .exit)) ⌝ }
+{
+    let repr = path_selectivity(FanOut::Measured(by_repr(text, index)), nodes(text, index));
+    let mut k: usize = 0;
+    while k < n {
+        let line = atom_line(text, from, k);
+        let at = 18 * k;
+        let end = at + 18;
+        fill_row(text, index, line, narrow(k), repr, &mut prices[at..end]);
+        k += 1;
+    }
+}
