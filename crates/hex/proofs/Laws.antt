@@ -1,6 +1,6 @@
 -- The loops' laws. Assumes nothing.
 use Prim.Native.Nat.{ℕ, suc, _+_, _-_, _<_, _≤_}
-use mathlib.Core.Path.{_≡_, refl, sym, _∙_}
+use mathlib.Core.Path.{_≡_, sym, _∙_}
 use mathlib.Core.Bool.{Bool, true, false}
 use mathlib.Core.List.{List, [], _∷_}
 use native.Mathlib.Numerals.{add-one}
@@ -11,7 +11,7 @@ use lib.Dec.{eqb}
 use borrow.Author.Tests.{eq-eqb, ne-eqb}
 use Rattle.base.specs.Choose.{pick}
 use Rattle.hex.specs.declared.Found.{Found}
-use Rattle.hex.specs.declared.Found.the-variants.{At, Nothing}
+use Rattle.hex.specs.declared.Found.the-variants.{Nothing}
 use Rattle.hex.specs.Digits.{digitValue}
 use Rattle.hex.specs.Lines.{hexLineOf, endOf, lineAt}
 use Rattle.hex.specs.Scan.{scan, scan-line, stoppedAt}

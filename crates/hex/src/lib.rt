@@ -1,7 +1,7 @@
 // Lines of hexadecimal digits, each ended by byte 0a. A line in hand is a part of the caller's text; its bytes are read where they stand.
 ghost use mathlib.Core.Path.{_≡_};
-ghost use Prim.Native.Nat.{ℕ, _+_, _*_, _-_, _%_, _<_, _≤_};
-ghost use lib.ListN.{length, getD, take, drop};
+ghost use Prim.Native.Nat.{_+_, _*_, _-_, _%_, _<_, _≤_};
+ghost use lib.ListN.{length, getD, drop};
 ghost use Rattle.hex.specs.Digits.{digitValue, hexDigit, bytesOf, shortAt, wordAt, longAt};
 ghost use Rattle.hex.specs.Lines.{hexLineOf, endOf, lineAt};
 ghost use Rattle.hex.specs.Scan.{stoppedAt};

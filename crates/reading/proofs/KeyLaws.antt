@@ -1,18 +1,18 @@
 -- Keys compared and frames found, a byte and a line at a time. Assumes nothing.
-use Prim.Native.Nat.{ℕ, zero, suc, _+_, _-_, _*_, _/_, _<_, _≤_}
-use mathlib.Core.Path.{_≡_, refl, sym, _∙_, ap}
+use Prim.Native.Nat.{ℕ, _+_, _-_, _/_, _<_, _≤_}
+use mathlib.Core.Path.{_≡_, refl, sym, _∙_}
 use mathlib.Core.Bool.{Bool, true, false}
-use mathlib.Core.List.{List, [], _∷_, map}
+use mathlib.Core.List.{List, [], _∷_}
 use native.Mathlib.Numerals.{add-one}
 use native.Mathlib.Omega.{arith}
-use lib.ListN.{length, getD, take, drop, length-drop, drop-of-length-le}
+use lib.ListN.{length, getD, take, drop, drop-of-length-le}
 use lib.Seq.{drop-cons}
 use lib.Dec.{eqb}
 use borrow.Author.Tests.{eq-eqb, ne-eqb}
 use Rattle.base.specs.Choose.{pick}
 use Rattle.hex.specs.Digits.{bytesOf}
 use Rattle.hex.specs.Bytes.{bytes-length}
-use Rattle.hex.specs.Lines.{split, withLine, endOf}
+use Rattle.hex.specs.Lines.{endOf}
 use Rattle.hex.specs.Cuts.{Line}
 use Rattle.reading.specs.Walk.{walk-line, frames-step, frames-none, frames-end}
 use Rattle.frames.specs.First.{framesOf}
@@ -32,47 +32,44 @@ shorter (k ∷ key) (b ∷ f) h = rw (shorter key f (omega arith)) (pick-false (
 
 -- i bytes agree, and the others decide
 pub record Begun (k l : List ℕ) (i : ℕ) : Type 0 where
-  pub is : begins (bytesOf k) (bytesOf l) ≡ begins (drop i (bytesOf k)) (drop i (bytesOf l))
+  pub is : begins k (bytesOf l) ≡ begins (drop i k) (drop i (bytesOf l))
 
 module _ (k l : List ℕ) where
-  pub begins-short : length l / 2 < length k / 2 → false ≡ begins (bytesOf k) (bytesOf l)
-  begins-short h = sym (shorter (bytesOf k) (bytesOf l) (omega (arith, bytes-length k, bytes-length l)))
+  pub begins-short : length l / 2 < length k → false ≡ begins k (bytesOf l)
+  begins-short h = sym (shorter k (bytesOf l) (omega (arith, bytes-length l)))
 
   module _ (i : ℕ) (q : Begun k l i) where
-    pub begins-all : length k / 2 ≤ i → true ≡ begins (bytesOf k) (bytesOf l)
+    pub begins-all : length k ≤ i → true ≡ begins k (bytesOf l)
     unfolding begins
-    begins-all h = let g : length (bytesOf k) ≤ i = omega (arith, bytes-length k) in sym (q .is ∙ rw (drop-of-length-le (bytesOf k) g))
+    begins-all h = sym (q .is ∙ rw (drop-of-length-le k h))
 
-    module _ (a b : ℕ) (h : i < length k / 2) (g : length k / 2 ≤ length l / 2) (d : a ≡ getD (bytesOf k) i 0) (e : b ≡ getD (bytesOf l) i 0) where
-      in-key : i < length (bytesOf k)
-      in-key = omega (arith, bytes-length k)
-
+    module _ (b : ℕ) (h : i < length k) (g : length k ≤ length l / 2) (e : b ≡ getD (bytesOf l) i 0) where
       in-line : i < length (bytesOf l)
       in-line = omega (arith, bytes-length l)
 
-      pub begins-again : a ≡ b → Begun k l (i + 1)
+      pub begins-again : getD k i 0 ≡ b → Begun k l (i + 1)
       unfolding begins
       begins-again p =
-          record { is = q .is ∙ rw (add-one i, drop-cons (bytesOf k) i 0 in-key, drop-cons (bytesOf l) i 0 in-line, ← d, ← e, eq-eqb _ _ p) }
+          record { is = q .is ∙ rw (add-one i, drop-cons k i 0 h, drop-cons (bytesOf l) i 0 in-line, ← e, eq-eqb _ _ p) }
 
-      pub begins-not : (a ≡ b → ⊥) → false ≡ begins (bytesOf k) (bytesOf l)
+      pub begins-not : (getD k i 0 ≡ b → ⊥) → false ≡ begins k (bytesOf l)
       unfolding begins
-      begins-not p = sym (q .is ∙ rw (drop-cons (bytesOf k) i 0 in-key, drop-cons (bytesOf l) i 0 in-line, ← d, ← e, ne-eqb _ _ p))
+      begins-not p = sym (q .is ∙ rw (drop-cons k i 0 h, drop-cons (bytesOf l) i 0 in-line, ← e, ne-eqb _ _ p))
 
 -- ---- a frame by its key
 
 -- no frame before `at` has the key
 pub record Seeking (x k : List ℕ) (at : ℕ) : Type 0 where
   pub within : at ≤ length x
-  pub is : find (bytesOf k) (framesOf x) ≡ find (bytesOf k) (framesOf (drop at x))
+  pub is : find k (framesOf x) ≡ find k (framesOf (drop at x))
 
 module _ (x k : List ℕ) (at : ℕ) (s : Seeking x k at) where
-  pub not-found : length x ≤ at → [] ≡ find (bytesOf k) (framesOf x)
+  pub not-found : length x ≤ at → [] ≡ find k (framesOf x)
   unfolding find
   not-found h = sym (s .is ∙ rw (frames-end x at h))
 
   module _ (e : ℕ) (p : e ≡ endOf at (drop at x)) where
-    pub no-line-left : e ≡ length x → [] ≡ find (bytesOf k) (framesOf x)
+    pub no-line-left : e ≡ length x → [] ≡ find k (framesOf x)
     unfolding find
     no-line-left n = sym (s .is ∙ rw (frames-none x at e p n))
 
@@ -89,11 +86,11 @@ module _ (x k : List ℕ) (at : ℕ) (s : Seeking x k at) where
       pub line-less : length x - (e + 1) < length x - at
       line-less = omega (arith, line .within, line .from)
 
-      pub is-found : (b : Bool) → b ≡ begins (bytesOf k) (bytesOf (take (e - at) (drop at x))) → b ≡ true → bytesOf (take (e - at) (drop at x)) ≡ find (bytesOf k) (framesOf x)
+      pub is-found : (b : Bool) → b ≡ begins k (bytesOf (take (e - at) (drop at x))) → b ≡ true → bytesOf (take (e - at) (drop at x)) ≡ find k (framesOf x)
       unfolding find
       is-found b q t = sym (s .is ∙ rw (frames-step x at e line, ← q, t))
 
-      pub seek-again : (b : Bool) → b ≡ begins (bytesOf k) (bytesOf (take (e - at) (drop at x))) → b ≡ false → Seeking x k (e + 1)
+      pub seek-again : (b : Bool) → b ≡ begins k (bytesOf (take (e - at) (drop at x))) → b ≡ false → Seeking x k (e + 1)
       unfolding find
       seek-again b q t =
           record { within = omega (arith, line .within); is = s .is ∙ rw (frames-step x at e line, ← q, t) }

@@ -1,13 +1,13 @@
 -- One more line in an index. Assumes nothing.
 use Prim.Native.Nat.{ℕ, zero, suc, _+_, _*_, _<_, _≤_}
-use mathlib.Core.Path.{_≡_, refl, sym, _∙_, ap}
+use mathlib.Core.Path.{_≡_, refl, _∙_}
 use mathlib.Core.Bool.{Bool, true, false}
 use mathlib.Core.List.{List, [], _∷_, _++_}
 use native.Mathlib.Numerals.{add-one}
 use native.Mathlib.Omega.{arith}
 use lib.ListN.{length, getD, take, set, length-set}
-use lib.Seq.{getD-take, getD-set-same, getD-set-other, length-take-le, take-all}
-use lib.Dec.{eqb, leb}
+use lib.Seq.{getD-set-same, getD-set-other}
+use lib.Dec.{eqb}
 use borrow.Author.Tests.{eq-eqb, ne-eqb, eqb-true, eqb-false}
 use Rattle.base.specs.Choose.{pick}
 use Rattle.hex.specs.Digits.{bytesOf}

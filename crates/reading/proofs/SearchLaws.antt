@@ -5,15 +5,15 @@ use mathlib.Core.Bool.{Bool, true, false}
 use mathlib.Core.List.{List, [], _∷_}
 use native.Mathlib.Omega.{arith}
 use lib.ListN.{length, getD, take, List·getD-eq-default}
-use lib.Dec.{eqb, leb, ltb}
+use lib.Dec.{leb, ltb}
 use borrow.Author.Tests.{eq-eqb, ne-eqb, le-leb}
 use Rattle.base.specs.Choose.{pick}
 use Rattle.hex.specs.Digits.{bytesOf}
-use Rattle.hex.specs.Bytes.{bytes-length, bytes-take}
+use Rattle.hex.specs.Bytes.{bytes-length}
 use Rattle.hex.specs.Lines.{lineAt}
 use Rattle.frames.specs.Kinds.{kindAt}
 use Rattle.reading.specs.Keys.{begins, isFound}
-use Rattle.reading.specs.Index.{slots, slotOf, placeOf, olderOf, latest, searched, found, Falling, givenBy}
+use Rattle.reading.specs.Index.{slotOf, placeOf, olderOf, searched, found, Falling, givenBy}
 use Rattle.reading.proofs.SlotLaws.{take-least}
 
 pub number-past : (l : List ℕ) (i : ℕ) → length l ≤ i → (0 ≡ getD l i 0) × (0 < 4294967296)
@@ -77,7 +77,7 @@ module _ (x i l : List ℕ) (b k : ℕ) (p : b ≡ getD (bytesOf l) 0 0) (q : k 
   pub no-key : k ≡ 0 → false ≡ givenBy x i (bytesOf l)
   no-key z = rw (← p, ← q, eq-eqb _ _ z)
 
-  pub key-is : (w m : ℕ) (r : List ℕ) → (k ≡ 0 → ⊥) → w ≡ k → m ≡ pick (ltb w (length l / 2)) w (length l / 2) → bytesOf r ≡ found x i (bytesOf (take (2 * m) l)) → leb 2 (length r) ≡ givenBy x i (bytesOf l)
-  key-is w m r z u v g =
+  pub key-is : (w m : ℕ) (key r : List ℕ) → (k ≡ 0 → ⊥) → w ≡ k → m ≡ pick (ltb w (length l / 2)) w (length l / 2) → take m key ≡ take m (bytesOf l) → bytesOf r ≡ found x i (take m key) → leb 2 (length r) ≡ givenBy x i (bytesOf l)
+  key-is w m key r z u v d g =
       let e : take m (bytesOf l) ≡ take k (bytesOf l) = take-least k m (bytesOf l) (rw (bytes-length l, ← u) v) in
-      rw (← p, ← q, ne-eqb _ _ z) (found-length r ∙ ap isFound g ∙ rw (bytes-take m l, e))
+      rw (← p, ← q, ne-eqb _ _ z) (found-length r ∙ ap isFound g ∙ rw (d, e))

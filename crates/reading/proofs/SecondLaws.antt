@@ -1,11 +1,11 @@
 -- The second reading, a test and a line at a time. Assumes nothing.
-use Prim.Native.Nat.{ℕ, zero, suc, _+_, _-_, _*_, _/_, _<_, _≤_}
+use Prim.Native.Nat.{ℕ, zero, suc, _+_, _-_, _*_, _<_, _≤_}
 use mathlib.Core.Path.{_≡_, refl, sym, _∙_, ap, subst}
 use mathlib.Core.Bool.{Bool, true, false, not}
 use mathlib.Core.List.{List, [], _∷_, _++_, append-nil}
 use native.Mathlib.Numerals.{add-one}
 use native.Mathlib.Omega.{arith}
-use lib.ListN.{length, getD, take, drop, length-drop}
+use lib.ListN.{length, take, drop, length-drop}
 use lib.Seq.{length-take-le}
 use lib.Dec.{eqb}
 use borrow.Author.Tests.{eqb-false, not-true, not-false}
@@ -21,7 +21,7 @@ use Rattle.frames.specs.First.{framesOf, orElse, firstReading}
 use Rattle.frames.specs.declared.fields.Counts.{Counts}
 use Rattle.frames.specs.declared.fields.Test.the-variants.{Range, Reals}
 use Rattle.frames.specs.declared.first.Text.{Text}
-use Rattle.frames.specs.declared.first.Text.the-variants.{Query, Plan, Table}
+use Rattle.frames.specs.declared.first.Text.the-variants.{Query, Plan}
 use Rattle.frames.specs.declared.first.Reading.{Reading}
 use Rattle.frames.specs.declared.first.Reading.the-variants.{Accepted, Refused}
 use Rattle.reading.specs.Keys.{keyGiven}
@@ -29,7 +29,7 @@ use Rattle.reading.specs.Walk.{walk-line, frames-step, frames-none, fram
 use Rattle.reading.specs.Second.{headerCounts, countsOf, faultOf, secondFault, secondFrom, reading}
 use Rattle.reading.specs.Index.{givenBy, noted, entriesWith, Noting, Indexes, Indexed}
 use Rattle.reading.specs.IndexedReading.{indexSize, Blank, Framed, FirstRead, Rereads, ReadIndexed}
-use Rattle.reading.specs.Formed.{First, first-accepted, lines-pass}
+use Rattle.reading.specs.Formed.{first-accepted, lines-pass}
 use Rattle.reading.proofs.SlotLaws.{keyed-long}
 use Rattle.reading.proofs.NoteLaws.{noted-line, noted-length, given-is, blank-indexes}
 

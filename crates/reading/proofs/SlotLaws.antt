@@ -5,8 +5,8 @@ use mathlib.Core.Bool.{Bool, true, false, _&&_}
 use mathlib.Core.List.{List, [], _∷_}
 use native.Mathlib.Numerals.{add-one}
 use native.Mathlib.Omega.{arith}
-use lib.ListN.{length, getD, take, drop, drop-of-length-le}
-use lib.Seq.{drop-cons, getD-take, length-take-le, take-all, take-length}
+use lib.ListN.{length, getD, take, drop, set, length-set, drop-of-length-le}
+use lib.Seq.{drop-cons, getD-take, length-take-le, take-all, take-length, take-nil, take-suc, take-suc-set, take-take}
 use lib.Dec.{T, eqb, leb, ltb, leb→le}
 use borrow.Author.Tests.{eq-eqb, ne-eqb, le-leb, lt-leb, eqb-true, leb-true, leb-false, ltb-false}
 use Rattle.base.specs.Choose.{pick}
@@ -47,30 +47,76 @@ take-least k m f p = rw p (go (ltb k (length f)) refl)
     go false h = take-length f ∙ sym (take-all k f (ltb-false k (length f) h))
 
 -- i bytes of n are mixed
-pub record Mixing (l : List ℕ) (n h i : ℕ) : Type 0 where
+pub record Mixing (f : List ℕ) (n h i : ℕ) : Type 0 where
   pub below : h < slots
-  pub within : n ≤ length (bytesOf l)
-  pub is : slotOf (bytesOf l) ≡ mixed h (drop i (take n (bytesOf l)))
+  pub within : n ≤ length f
+  pub is : slotOf f ≡ mixed h (drop i (take n f))
 
-pub mix-starts : (l : List ℕ) (b w n : ℕ) → b ≡ getD (bytesOf l) 0 0 → w ≡ hashed b → n ≤ length l / 2 → n ≡ pick (ltb w (length l / 2)) w (length l / 2) → Mixing l n 0 0
+pub slot-empty : (f : List ℕ) → length f ≡ 0 → (0 ≡ slotOf f) × (0 < 512)
 unfolding slotOf
-mix-starts l b w n p q h g =
-    let e : take n (bytesOf l) ≡ take w (bytesOf l) = take-least w n (bytesOf l) (rw (bytes-length l) g) in
-    record { below = omega arith; within = omega (arith, bytes-length l); is = rw (← p, ← q, e) }
+slot-empty [] h = (rw (take-nil {A = ℕ} (hashed 0)), omega arith)
+slot-empty (b ∷ f) h = absurd (omega arith)
 
-module _ (l : List ℕ) (n h i : ℕ) (s : Mixing l n h i) where
-  pub mix-again : (b w : ℕ) → i < n → b ≡ getD (bytesOf l) i 0 → w ≡ b → Mixing l n ((h * 31 + w) % 512) (i + 1)
+pub mix-starts : (f : List ℕ) (w n : ℕ) → w ≡ hashed (getD f 0 0) → n ≤ length f → n ≡ pick (ltb w (length f)) w (length f) → Mixing f n 0 0
+unfolding slotOf
+mix-starts f w n q h g =
+    let e : take n f ≡ take w f = take-least w n f g in
+    record { below = omega arith; within = h; is = rw (← q, e) }
+
+module _ (f : List ℕ) (n h i : ℕ) (s : Mixing f n h i) where
+  pub mix-again : (w : ℕ) → i < n → w ≡ getD f i 0 → Mixing f n ((h * 31 + w) % 512) (i + 1)
   unfolding mixed
-  mix-again b w g p q =
-      let e : i < length (take n (bytesOf l)) = rw (length-take-le n (bytesOf l) (s .within)) g in
-      let d : getD (take n (bytesOf l)) i 0 ≡ w = getD-take n (bytesOf l) i 0 g ∙ sym p ∙ sym q in
-      record { below = omega arith; within = s .within; is = s .is ∙ rw (add-one i, drop-cons (take n (bytesOf l)) i 0 e, d) }
+  mix-again w g p =
+      let e : i < length (take n f) = rw (length-take-le n f (s .within)) g in
+      let d : getD (take n f) i 0 ≡ w = getD-take n f i 0 g ∙ sym p in
+      record { below = omega arith; within = s .within; is = s .is ∙ rw (add-one i, drop-cons (take n f) i 0 e, d) }
 
-  pub mix-ends : n ≤ i → h ≡ slotOf (bytesOf l)
+  pub mix-ends : n ≤ i → h ≡ slotOf f
   unfolding mixed
   mix-ends g =
-      let e : length (take n (bytesOf l)) ≤ i = rw (length-take-le n (bytesOf l) (s .within)) g in
-      sym (s .is ∙ rw (drop-of-length-le (take n (bytesOf l)) e))
+      let e : length (take n f) ≤ i = rw (length-take-le n f (s .within)) g in
+      sym (s .is ∙ rw (drop-of-length-le (take n f) e))
+
+-- ---- the slot of a line
+
+-- i bytes are copied
+pub record Decoding (f key₀ key : List ℕ) (n i : ℕ) : Type 0 where
+  pub few : i ≤ n
+  pub within : n ≤ length f
+  pub room : n ≤ length key
+  pub same : length key ≡ length key₀
+  pub is : take i key ≡ take i f
+
+pub decode-starts : (f key : List ℕ) (n : ℕ) → n ≤ length key → n ≤ length f → Decoding f key key n 0
+decode-starts f key n h g = record { few = omega arith; within = g; room = h; same = refl; is = refl }
+
+module _ (f key₀ key : List ℕ) (n i : ℕ) (s : Decoding f key₀ key n i) where
+  pub decode-again : (b : ℕ) → i < n → b ≡ getD f i 0 → Decoding f key₀ (set key i b) n (i + 1)
+  decode-again b h p =
+      let g : i < length key = omega (arith, s .room) in
+      let e : i < length f = omega (arith, s .within) in
+      record { few = omega arith; within = s .within; room = rw (length-set key i b) (s .room); same = length-set key i b ∙ s .same; is = rw (add-one i, take-suc-set key i b g, take-suc f i 0 e, s .is, p) }
+
+  pub decode-ends : n ≤ i → take n key ≡ take n f
+  decode-ends h = let e : i ≡ n = omega (arith, s .few) in rw (← e) (s .is)
+
+-- the bytes that count give the slot
+slot-first : (f : List ℕ) → slotOf (take (hashed (getD f 0 0)) f) ≡ slotOf f
+unfolding slotOf mixed
+slot-first f = go (hashed (getD f 0 0)) refl
+  where
+    go : (h : ℕ) → hashed (getD f 0 0) ≡ h → mixed 0 (take (hashed (getD (take h f) 0 0)) (take h f)) ≡ mixed 0 (take h f)
+    go zero p = rw (take-nil {A = ℕ} (hashed 0))
+    go (suc h) p = let e : getD (take (suc h) f) 0 0 ≡ getD f 0 0 = getD-take (suc h) f 0 0 (omega arith) in rw (e, p, take-take (suc h) (suc h) f (omega arith))
+
+pub line-slot-is : (l : List ℕ) (b w n r : ℕ) (key : List ℕ) → b ≡ getD (bytesOf l) 0 0 → w ≡ hashed b → n ≡ pick (ltb w (length l / 2)) w (length l / 2) → take n key ≡ take n (bytesOf l) → r ≡ slotOf (take n key) → r ≡ slotOf (bytesOf l)
+line-slot-is l b w n r key p q g d e =
+    let t : take n (bytesOf l) ≡ take w (bytesOf l) = take-least w n (bytesOf l) (rw (bytes-length l) g) in
+    let h : w ≡ hashed (getD (bytesOf l) 0 0) = q ∙ ap hashed p in
+    e ∙ ap slotOf (d ∙ t ∙ ap (λ (k : ℕ). take k (bytesOf l)) h) ∙ slot-first (bytesOf l)
+
+pub line-within : (l : List ℕ) (n : ℕ) → n ≤ length l / 2 → n ≤ length (bytesOf l)
+line-within l n h = omega (arith, bytes-length l)
 
 -- ---- a frame that begins with a key
 

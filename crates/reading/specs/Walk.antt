@@ -1,12 +1,12 @@
 -- A walk over a text's frames, line by line: what the search for a line's end says of the frames that are left. Assumes nothing.
-use Prim.Native.Nat.{ℕ, suc, _+_, _-_, _<_, _≤_}
+use Prim.Native.Nat.{ℕ, _+_, _-_, _≤_}
 use mathlib.Core.Path.{_≡_, refl, sym, _∙_, ap}
 use mathlib.Core.List.{List, [], _∷_, _++_, map, map-append}
 use native.Mathlib.Omega.{arith}
 use lib.ListN.{length, take, drop, length-drop, drop-of-length-le, take-append-drop}
 use lib.Seq.{take-add}
 use Rattle.hex.specs.Digits.{bytesOf}
-use Rattle.hex.specs.Lines.{Split, split, withLine, endOf}
+use Rattle.hex.specs.Lines.{Split, split, endOf}
 use Rattle.hex.specs.Cuts.{Line, end-line, end-none, split-append}
 use Rattle.frames.specs.First.{framesOf}
 

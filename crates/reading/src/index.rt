@@ -1,7 +1,7 @@
 // An index of a text's keyed lines: one list of entries a slot, by the first bytes of a line's key.
 ghost use mathlib.Core.Path.{_≡_};
-ghost use Prim.Native.Nat.{ℕ, _+_, _*_, _<_, _≤_};
-ghost use lib.ListN.{length, getD};
+ghost use Prim.Native.Nat.{_+_, _*_, _<_, _≤_};
+ghost use lib.ListN.{length, getD, take};
 ghost use lib.Dec.{ltb};
 ghost use Rattle.base.specs.Choose.{pick};
 ghost use Rattle.hex.specs.Digits.{bytesOf};
@@ -16,7 +16,7 @@ use hex::line_at;
 
 // How many of a key's first bytes count.
 fn hashed(kind: u8) -> usize
-    ensures { λ r. ⌜ r ≡ hashedOf kind ⌝ }
+    ensures { λ r. ⌜ (r ≡ hashedOf kind) × (r ≤ 6) ⌝ }
 {
     let k = wide(key_length(kind));
     if k <= 6 { k } else { 4 }
@@ -24,23 +24,49 @@ fn hashed(kind: u8) -> usize
 
 // How many bytes of a frame are its first k.
 fn at_most(k: usize, length: usize) -> usize
-    ensures { λ r. ⌜ (r ≤ length) × (r ≡ pick (ltb k length) k length) ⌝ }
+    ensures { λ r. ⌜ (r ≤ length) × (r ≡ pick (ltb k length) k length) × (r ≤ k) ⌝ }
 {
     if k < length { k } else { length }
 }
 
-// The slot of a key, or of a line that begins with it.
-fn slot_of(line: &[u8]) -> usize
-    ensures { λ r. ⌜ (r ≡ slotOf (bytesOf (now (line .entry)))) × (r < 512) ⌝ }
+// The first n bytes of a line.
+fn decode(line: &[u8], n: usize, key: &mut [u8])
+    requires { ⌜ n ≤ length (now key) ⌝ }
+    requires { ⌜ n ≤ length (bytesOf (now line)) ⌝ }
+    ensures { λ _. ⌜ take n (now (key .exit)) ≡ take n (bytesOf (now (line .entry))) ⌝ }
 {
-    let n = at_most(hashed(byte_at(line, 0)), line.len() / 2);
+    let mut i: usize = 0;
+    while i < n {
+        key[i] = byte_at(line, i);
+        i += 1;
+    }
+}
+
+// The slot of a key.
+fn slot_of(key: &[u8]) -> usize
+    ensures { λ r. ⌜ (r ≡ slotOf (now (key .entry))) × (r < 512) ⌝ }
+{
+    if key.len() == 0 {
+        return 0;
+    }
+    let n = at_most(hashed(key[0]), key.len());
     let mut h: usize = 0;
     let mut i: usize = 0;
     while i < n {
-        h = (h * 31 + wide(byte_at(line, i))) % 512;
+        h = (h * 31 + wide(key[i])) % 512;
         i += 1;
     }
     h
+}
+
+// The slot of a line, by the bytes that count.
+fn line_slot(line: &[u8]) -> usize
+    ensures { λ r. ⌜ (r ≡ slotOf (bytesOf (now (line .entry)))) × (r < 512) ⌝ }
+{
+    let n = at_most(hashed(byte_at(line, 0)), line.len() / 2);
+    let mut key = [0u8; 6];
+    decode(line, n, &mut key);
+    slot_of(&key[..n])
 }
 
 // The i-th number, and 0 past the end.
@@ -56,7 +82,7 @@ fn number_at(index: &[u32], i: usize) -> usize
 // The latest entered line that begins with the key, and an empty part where there is none.
 fn search<'a, 'b, 'c>(text: &'a [u8], index: &'b [u32], key: &'c [u8]) -> &'a [u8]
     requires { ⌜ Falling (now index) ⌝ }
-    ensures { λ r. ⌜ bytesOf (now r) ≡ found (now (text .entry)) (now (index .entry)) (bytesOf (now (key .entry))) ⌝ }
+    ensures { λ r. ⌜ bytesOf (now r) ≡ found (now (text .entry)) (now (index .entry)) (now (key .entry)) ⌝ }
 {
     let mut e = number_at(index, slot_of(key));
     while e != 0 {
@@ -71,9 +97,9 @@ fn search<'a, 'b, 'c>(text: &'a [u8], index: &'b [u32], key: &'c [u8]) -> &'a [u
 
 // The line with that key, by the text's index.
 pub fn find_by<'a, 'b, 'c>(text: &'a [u8], index: &'b [u32], key: &'c [u8]) -> &'a [u8]
-    requires { ⌜ Proper (bytesOf (now key)) ⌝ }
+    requires { ⌜ Proper (now key) ⌝ }
     requires { ⌜ Indexed (now text) (now index) ⌝ }
-    ensures { λ r. ⌜ bytesOf (now r) ≡ findOf (bytesOf (now (key .entry))) (framesOf (now (text .entry))) ⌝ }
+    ensures { λ r. ⌜ bytesOf (now r) ≡ findOf (now (key .entry)) (framesOf (now (text .entry))) ⌝ }
 {
     search(text, index, key)
 }
@@ -87,8 +113,10 @@ pub fn key_given(text: &[u8], index: &[u32], line: &[u8]) -> bool
     if k == 0 {
         return false;
     }
-    let digits = 2 * at_most(wide(k), line.len() / 2);
-    let key_line = search(text, index, &line[..digits]);
+    let n = at_most(wide(k), line.len() / 2);
+    let mut key = [0u8; 255];
+    decode(line, n, &mut key);
+    let key_line = search(text, index, &key[..n]);
     2 <= key_line.len()
 }
 
@@ -100,7 +128,7 @@ pub fn note(index: &mut [u32], line: &[u8], at: usize, m: usize) -> usize
     if key_length(byte_at(line, 0)) == 0 {
         return m;
     }
-    let s = slot_of(line);
+    let s = line_slot(line);
     let e = m + 1;
     let older = index[s];
     index[512 + 2 * e] = at as u32;

@@ -1,4 +1,4 @@
-// A frame is found by its key. A key is a line of digits too, whole or the first part of one.
+// A frame is found by its key: the bytes that it begins with.
 ghost use mathlib.Core.Path.{_≡_};
 ghost use Rattle.hex.specs.Digits.{bytesOf};
 ghost use Rattle.frames.specs.First.{framesOf};
@@ -8,15 +8,15 @@ use hex::line_end;
 
 // Whether the line begins with the key.
 pub fn begins(key: &[u8], line: &[u8]) -> bool
-    ensures { λ r. ⌜ r ≡ beginsWith (bytesOf (now (key .entry))) (bytesOf (now (line .entry))) ⌝ }
+    ensures { λ r. ⌜ r ≡ beginsWith (now (key .entry)) (bytesOf (now (line .entry))) ⌝ }
 {
-    let n = key.len() / 2;
+    let n = key.len();
     if line.len() / 2 < n {
         return false;
     }
     let mut i: usize = 0;
     while i < n {
-        if byte_at(key, i) != byte_at(line, i) {
+        if key[i] != byte_at(line, i) {
             return false;
         }
         i += 1;
@@ -26,7 +26,7 @@ pub fn begins(key: &[u8], line: &[u8]) -> bool
 
 // The first line of the text that begins with the key, and an empty part where there is none.
 pub fn find<'a, 'b>(text: &'a [u8], key: &'b [u8]) -> &'a [u8]
-    ensures { λ r. ⌜ bytesOf (now r) ≡ findOf (bytesOf (now (key .entry))) (framesOf (now (text .entry))) ⌝ }
+    ensures { λ r. ⌜ bytesOf (now r) ≡ findOf (now (key .entry)) (framesOf (now (text .entry))) ⌝ }
 {
     let mut at: usize = 0;
     while at < text.len() {

@@ -1,6 +1,6 @@
 // The second reading: each line is tested 5, 6, 7 in turn. And the whole reading of a query, a plan or a table.
 ghost use mathlib.Core.Path.{_≡_};
-ghost use Prim.Native.Nat.{ℕ, _≤_};
+ghost use Prim.Native.Nat.{_≤_};
 ghost use lib.ListN.{length};
 ghost use Rattle.hex.specs.Digits.{bytesOf};
 ghost use Rattle.frames.specs.declared.first.Reading.the-variants.{Accepted};

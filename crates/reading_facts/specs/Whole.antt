@@ -5,12 +5,12 @@ use mathlib.Core.Path.{_≡_, refl, sym, _∙_, ap}
 use mathlib.Core.Bool.{Bool, true, false}
 use mathlib.Core.List.{List, [], _∷_, _++_, map, append-assoc, append-nil}
 use native.Mathlib.Omega.{arith}
-use native.Mathlib.Nat.{add-zero, zero-add, add-suc, suc-add}
+use native.Mathlib.Nat.{zero-add}
 use lib.ListN.{length, getD, take, length-map}
 use lib.Seq.{getD-take, length-take-le}
-use lib.Dec.{T, ltb, leb, eqb}
+use lib.Dec.{T, leb, eqb}
 use lib.Pow.{areBytes}
-use borrow.Author.Tests.{lt-ltb, ltb-true, ltb-false, leb-true, eqb-true, eqb-false, eq-eqb, ne-eqb}
+use borrow.Author.Tests.{lt-ltb, leb-true, eqb-true, eq-eqb, ne-eqb}
 use Rattle.base.specs.Choose.{pick}
 use Rattle.hex.specs.Digits.{digitValue, bytesOf}
 use Rattle.hex.specs.Lines.{split, isHex, endOf}
@@ -18,8 +18,8 @@ use Rattle.hex.specs.Cuts.{cut, end-is, all-rest}
 use Rattle.frames.specs.Limits.{textMost, variablesMost, globalsMost, literalsMost, atomsMost, rowsMost}
 use Rattle.frames.specs.Fields.{fieldPasses}
 use Rattle.frames.specs.Kinds.{kindAt, query, plan}
-use Rattle.frames.specs.Frames.{kindOf, frameLength, passAll, framePasses}
-use Rattle.frames.specs.First.{framesOf, isHeader, belongs, isCounted, countedMost, counted, hasRoom, noCounts, frameFault, lineFault, orElse, atEnd, firstLines, firstFrom, firstLine, stepsSay, stepsRight, emptyText, firstReading}
+use Rattle.frames.specs.Frames.{kindOf, passAll, framePasses}
+use Rattle.frames.specs.First.{framesOf, isHeader, belongs, countedMost, noCounts, firstLine, stepsSay, firstReading}
 use Rattle.frames.specs.declared.fields.Counts.{Counts}
 use Rattle.frames.specs.declared.fields.Test.the-variants.{Limits, Range, Reals}
 use Rattle.frames.specs.declared.first.Text.{Text}

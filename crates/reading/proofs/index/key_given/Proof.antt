@@ -2,6 +2,7 @@
 use mathlib.Core.Path.{sym}
 use native.Mathlib.Omega.{arith}
 use lib.Seq.{length-take-le}
+use Rattle.reading.proofs.SlotLaws.{line-within}
 use Rattle.reading.proofs.SearchLaws.{no-key, key-is}
 use borrow.Author.Needs.{needs}
 use Rattle.reading.proofs.index.key_given.Statement.{statement}
@@ -22,17 +23,23 @@ wide-requires c κs = search needs
 at-most-requires : tie.Need-at-most-requires
 at-most-requires c κs = search needs
 
-mul-digits : tie.Need-mul-digits
-mul-digits c = search needs
+slice-aggregate-decode : tie.Need-slice-aggregate-decode
+slice-aggregate-decode c = search needs
+
+decode-requires : tie.Need-decode-requires
+decode-requires c κs = (omega (arith, c .before .at-most .ensures .2, c .before .before .wide .ensures .1), line-within (c .before .before .before .before .before .before .before .before .before .args .line .now) _ (c .before .at-most .ensures .0))
+
+array-share-prefix-key : tie.Need-array-share-prefix-key
+array-share-prefix-key c = omega (arith, c .key2 .given, c .before .before .before .at-most .ensures .2, c .before .before .before .before .wide .ensures .1)
 
 slice-aggregate-search : tie.Need-slice-aggregate-search
-slice-aggregate-search c = sym (length-take-le _ _ (omega arith))
+slice-aggregate-search c = sym (length-take-le _ _ (omega (arith, c .before .key2 .given, c .before .before .before .before .at-most .ensures .2, c .before .before .before .before .before .wide .ensures .1)))
 
 search-requires : tie.Need-search-requires
 search-requires c κs = search needs
 
 returns-2 : tie.Need-returns-2
-returns-2 c = search key-is
+returns-2 c = key-is (c .before .before .before .before .before .before .before .before .before .before .before .before .before .args .text .now) (c .before .before .before .before .before .before .before .before .before .before .before .before .before .args .index .now) (c .before .before .before .before .before .before .before .before .before .before .before .before .before .args .line .now) _ _ (c .before .before .before .before .before .before .before .before .before .byte-at .ensures) (c .before .before .before .before .before .before .before .before .key-length .ensures) _ _ _ (c .search .result .now) (c .before .before .before .before .before .before .before .if1 .left) (c .before .before .before .before .before .before .wide .ensures .0) (c .before .before .before .before .before .at-most .ensures .1) (c .before .before .before .decode .ensures) (c .search .ensures)
 
 pub key-given-spec : {M : Type 1} → statement M
 key-given-spec =
@@ -43,7 +50,9 @@ key-given-spec =
     returns
     wide-requires
     at-most-requires
-    mul-digits
+    slice-aggregate-decode
+    decode-requires
+    array-share-prefix-key
     slice-aggregate-search
     search-requires
     returns-2)

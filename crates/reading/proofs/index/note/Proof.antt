@@ -16,8 +16,8 @@ key-length-requires c κs = search needs
 returns : tie.Need-returns
 returns c = note-none _ (bytesOf (c .before .before .before .before .before .args .line .now)) (c .before .before .before .before .before .args .at) (c .before .before .before .before .before .args .m) _ _ (c .before .before .byte-at .ensures) (c .before .key-length .ensures) (c .if1 .taken)
 
-slot-of-requires : tie.Need-slot-of-requires
-slot-of-requires c κs = search needs
+line-slot-requires : tie.Need-line-slot-requires
+line-slot-requires c κs = search needs
 
 add-e : tie.Need-add-e
 add-e c = search needs
@@ -71,7 +71,7 @@ same-length : tie.Need-same-length
 same-length c = search needs
 
 returns-2 : tie.Need-returns-2
-returns-2 c = note-some _ _ _ _ _ _ (c .before .before .before .before .byte-at .ensures) (c .before .before .before .key-length .ensures) _ (c .before .before .if1 .left) (c .before .slot-of .ensures .0)
+returns-2 c = note-some _ _ _ _ _ _ (c .before .before .before .before .byte-at .ensures) (c .before .before .before .key-length .ensures) _ (c .before .before .if1 .left) (c .before .line-slot .ensures .0)
 
 pub note-spec : {M : Type 1} → statement M
 note-spec =
@@ -80,7 +80,7 @@ note-spec =
     byte-at-requires
     key-length-requires
     returns
-    slot-of-requires
+    line-slot-requires
     add-e
     mul-older
     slice-read-older

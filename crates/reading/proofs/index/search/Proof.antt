@@ -1,12 +1,11 @@
 -- `reading::index::search` meets its contract: the slot's entries, from the latest on.
 use borrow.Author.Needs.{needs}
 use Rattle.reading.proofs.SearchLaws.{Searching, search-starts, search-none, search-hit, search-again, search-less}
-use Rattle.hex.specs.Digits.{bytesOf}
 use Rattle.reading.proofs.index.search.Statement.{statement}
 use Rattle.reading.proofs.index.search.Tie as tie
 
 abbrev Inv-loop : tie.InvT-loop
-Inv-loop text index key e₀ e = Searching text index (bytesOf key) e
+Inv-loop text index key e₀ e = Searching text index key e
 
 abbrev μ-loop : tie.MeasureT-loop
 μ-loop text index key e₀ e = e
