@@ -1,11 +1,11 @@
 -- The first reading, a test and a line at a time. Assumes nothing.
 use Prim.Native.Nat.{ℕ, zero, suc, _+_, _-_, _/_, _<_, _≤_}
-use mathlib.Core.Path.{_≡_, refl, sym, _∙_, ap}
+use mathlib.Core.Path.{_≡_, refl, sym, _∙_}
 use mathlib.Core.Bool.{Bool, true, false, not}
 use mathlib.Core.List.{List, [], _∷_}
 use native.Mathlib.Numerals.{add-one}
 use native.Mathlib.Omega.{arith}
-use lib.ListN.{length, getD, take, drop, length-drop, drop-of-length-le}
+use lib.ListN.{length, getD, take, drop, drop-of-length-le}
 use lib.Seq.{drop-cons}
 use lib.Dec.{eqb}
 use borrow.Author.Tests.{lt-ltb, le-ltb, eq-eqb, ne-eqb, not-true, not-false}
@@ -14,12 +14,10 @@ use mir.Syntax.{w64}
 use Rattle.base.specs.Choose.{pick, pick-elim}
 use Rattle.hex.specs.Digits.{bytesOf}
 use Rattle.hex.specs.Bytes.{bytes-length}
-use Rattle.hex.specs.Lines.{Split, split, isHex, hexLineIn, hexLineOf, lineAt}
-use Rattle.hex.specs.Cuts.{Line, HexLine, hex-found, all-rest, line-found}
+use Rattle.hex.specs.Lines.{split, isHex, hexLineIn, hexLineOf, lineAt}
+use Rattle.hex.specs.Cuts.{HexLine, hex-found, all-rest, line-found}
 use Rattle.hex.specs.declared.Found.{Found}
 use Rattle.hex.specs.declared.Found.the-variants.{At, Nothing}
-use Rattle.frames.specs.declared.fields.Counts.{Counts}
-use Rattle.frames.specs.declared.fields.Test.{Test}
 use Rattle.frames.specs.declared.fields.Test.the-variants.{Limits}
 use Rattle.frames.specs.declared.first.Text.{Text}
 use Rattle.frames.specs.declared.first.Text.the-variants.{Plan}
@@ -28,7 +26,7 @@ use Rattle.frames.specs.declared.first.Reading.the-variants.{Accepted, R
 use Rattle.frames.specs.Fields.{fieldPasses}
 use Rattle.frames.specs.Limits.{textMost}
 use Rattle.frames.specs.Frames.{frameLength, framePasses}
-use Rattle.frames.specs.First.{noCounts, belongs, isCounted, hasRoom, counted, frameFault, lineFault, atEnd, orElse, firstLines, firstFrom, stepsSay, stepsRight, emptyText, firstReading}
+use Rattle.frames.specs.First.{noCounts, belongs, isCounted, hasRoom, counted, frameFault, lineFault, orElse, firstLines, firstFrom, stepsSay, stepsRight, emptyText, firstReading}
 
 -- ---- the tests of one frame
 

@@ -1,8 +1,8 @@
 // The first reading of a text: each line is tested 1 to 4 in turn, then a plan's step count.
 ghost use mathlib.Core.Path.{_≡_};
-ghost use mathlib.Core.Bool.{Bool, true, false};
-ghost use Prim.Native.Nat.{ℕ, _+_, _<_, _≤_};
-ghost use lib.ListN.{length, getD, drop};
+ghost use mathlib.Core.Bool.{true, false};
+ghost use Prim.Native.Nat.{_+_, _<_, _≤_};
+ghost use lib.ListN.{length};
 ghost use Rattle.hex.specs.Digits.{bytesOf};
 ghost use Rattle.frames.specs.First.{textNumber, isHeader, headerFirst, inPlace, belongs as belongsTo, isAtom, isRow, isCounted, countedMost, counted as countedOf, hasRoom, frameFault, firstFrom, stepsSay, stepsRight, emptyText, firstReading};
 use super::fields::Counts;

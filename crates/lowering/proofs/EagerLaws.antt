@@ -1,5 +1,5 @@
 -- An eager pass, atom by atom. Proved by what each try does, and by composition.
-use Prim.Native.Nat.{ℕ, suc, _+_, _-_, _<_, _≤_}
+use Prim.Native.Nat.{ℕ, _+_, _<_, _≤_}
 use mathlib.Core.Path.{_≡_, refl, sym, _∙_, ap, subst}
 use mathlib.Core.Bool.{Bool, true, false, not}
 use mathlib.Core.Option.{Option, none, some}
@@ -11,9 +11,9 @@ use lib.Dec.{T, eqb}
 use borrow.Author.Tests.{eq-eqb, ne-eqb, eqb-true, eqb-false}
 use Rattle.base.specs.Choose.{pick}
 use Rattle.hex.specs.Digits.{bytesOf}
-use lib.ListN.{length, getD, take, drop, set, length-set, length-append}
+use lib.ListN.{length, getD, take, set, length-set, length-append}
 use lib.Seq.{take-suc, take-suc-set, take-length}
-use Rattle.hex.specs.Lines.{endOf, lineAt}
+use Rattle.hex.specs.Lines.{lineAt}
 use Rattle.model.specs.Atoms.{Atom, Step}
 use Rattle.model.specs.Tabulate.{tabulate-at, tabulate-length, mem-tabulate}
 use Rattle.model.specs.Bound.{Bound, has, add, addAll, most}
@@ -129,22 +129,6 @@ module _ (f : List ℕ) (i : ℕ) (U B : Bound) (O : List ℕ) (c : ℕ) (t : Bo
 
 pub has-room : (i : ℕ) (U : Bound) (O : List ℕ) (c : ℕ) (t : Bool) → t ≡ has U i → t ≡ false → (has U i ≡ false → c < length O) → c < length O
 has-room i U O c t is h room = room (sym is ∙ h)
-
--- ---- the line of an atom
-
-pub end-from : (x : List ℕ) (at e : ℕ) → e ≡ endOf at (drop at x) → at ≤ e
-end-from x at e h = rw h (go (drop at x) at)
-  where
-    go : (t : List ℕ) (at : ℕ) → at ≤ endOf at t
-    go [] at = omega arith
-    go (b ∷ t) at = by (eqb b 10) (go t (suc at))
-      where
-        by : (d : Bool) → suc at ≤ endOf (suc at) t → at ≤ pick d at (endOf (suc at) t)
-        by true h = omega arith
-        by false h = omega arith
-
-pub line-is : (x from : List ℕ) (k at e : ℕ) → at ≡ getD from k 0 → e ≡ endOf at (drop at x) → take (e - at) (drop at x) ≡ lineAt x (getD from k 0)
-line-is x from k at e p q = rw (← p, q)
 
 -- ---- a pass
 

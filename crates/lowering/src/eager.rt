@@ -12,7 +12,7 @@ use super::atom::is_free;
 use super::atom::lower_bound;
 use super::sets::is_set;
 use super::sets::set_bound;
-use hex::line_end;
+use hex::reader::line_from;
 
 // Takes atom i, by its line, where it is not lowered yet and an eager pass lowers it; c atoms were taken before. How many now are.
 fn try_at(
@@ -49,9 +49,7 @@ pub fn atom_line<'a, 'b>(text: &'a [u8], from: &'b [usize], k: usize) -> &'a [u8
     requires { ⌜ getD (now from) k 0 ≤ length (now text) ⌝ }
     ensures { λ r. ⌜ now r ≡ lineAt (now (text .entry)) (getD (now (from .entry)) k 0) ⌝ }
 {
-    let at = from[k];
-    let e = line_end(text, at);
-    &text[at..e]
+    line_from(text, from[k])
 }
 
 fn narrow(i: usize) -> u8

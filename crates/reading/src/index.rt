@@ -12,7 +12,7 @@ use super::keys::begins;
 use frames::fields::wide;
 use frames::kinds::key_length;
 use hex::byte_at;
-use hex::line_at;
+use hex::reader::line_from;
 
 // How many of a key's first bytes count.
 fn hashed(kind: u8) -> usize
@@ -86,7 +86,7 @@ fn search<'a, 'b, 'c>(text: &'a [u8], index: &'b [u32], key: &'c [u8]) -> &'a [u
 {
     let mut e = number_at(index, slot_of(key));
     while e != 0 {
-        let line = line_at(text, number_at(index, 512 + 2 * e));
+        let line = line_from(text, number_at(index, 512 + 2 * e));
         if begins(key, line) {
             return line;
         }

@@ -28,14 +28,14 @@ add-number-at c = search needs
 number-at-requires-2 : tie.Need-number-at-requires-2 Inv-loop μ-loop
 number-at-requires-2 c κs = search needs
 
-line-at-requires : tie.Need-line-at-requires Inv-loop μ-loop
-line-at-requires c κs = search needs
+line-from-requires : tie.Need-line-from-requires Inv-loop μ-loop
+line-from-requires c κs = search needs
 
 begins-requires : tie.Need-begins-requires Inv-loop μ-loop
 begins-requires c κs = search needs
 
 returns : tie.Need-returns Inv-loop μ-loop
-returns c = search-hit _ _ _ _ _ _ _ (c .before .before .before .before .before .loop .inv) (c .before .before .before .before .before .before .before .before .before .before .before .pre) (c .before .before .before .before .loop-test .taken) (c .before .before .before .number-at2 .ensures .0) (c .before .before .line-at .ensures) (c .before .begins .ensures) (c .if1 .taken)
+returns c = search-hit _ _ _ _ _ _ _ (c .before .before .before .before .before .loop .inv) (c .before .before .before .before .before .before .before .before .before .before .before .pre) (c .before .before .before .before .loop-test .taken) (c .before .before .before .number-at2 .ensures .0) (c .before .before .line-from .ensures) (c .before .begins .ensures) (c .if1 .taken)
 
 mul-number-at-2 : tie.Need-mul-number-at-2 Inv-loop μ-loop
 mul-number-at-2 c = search needs
@@ -53,7 +53,7 @@ loop-less : tie.Need-loop-less Inv-loop μ-loop
 loop-less c = search-less _ _ _ (c .before .before .before .before .before .before .before .before .before .before .before .before .pre) (c .before .before .before .before .before .loop-test .taken) (c .number-at3 .ensures .0)
 
 loop-again : tie.Need-loop-again Inv-loop μ-loop
-loop-again c = search-again _ _ _ _ _ _ _ (c .before .before .before .before .before .before .loop .inv) (c .before .before .before .before .before .before .before .before .before .before .before .before .pre) (c .before .before .before .before .before .loop-test .taken) (c .before .before .before .before .number-at2 .ensures .0) (c .before .before .before .line-at .ensures) (c .before .before .begins .ensures) _ (c .before .if1 .left) (c .number-at3 .ensures .0) (c .number-at3 .ensures .1)
+loop-again c = search-again _ _ _ _ _ _ _ (c .before .before .before .before .before .before .loop .inv) (c .before .before .before .before .before .before .before .before .before .before .before .before .pre) (c .before .before .before .before .before .loop-test .taken) (c .before .before .before .before .number-at2 .ensures .0) (c .before .before .before .line-from .ensures) (c .before .before .begins .ensures) _ (c .before .if1 .left) (c .number-at3 .ensures .0) (c .number-at3 .ensures .1)
 
 sub-result : tie.Need-sub-result Inv-loop μ-loop
 sub-result c = search needs
@@ -79,7 +79,7 @@ search-spec =
     mul-number-at
     add-number-at
     number-at-requires-2
-    line-at-requires
+    line-from-requires
     begins-requires
     returns
     mul-number-at-2
