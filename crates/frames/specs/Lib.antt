@@ -3,4 +3,5 @@ pub mod Fields
 pub mod Kinds
 pub mod Rows
 pub mod Frames
+pub mod Unread
 pub mod First
