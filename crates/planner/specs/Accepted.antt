@@ -39,7 +39,7 @@ use Rattle.lowering.proofs.AtomLaws.{by-kind}
 use Rattle.lowering.proofs.AcceptedLaws.{atom-line}
 use Rattle.plan_facts.specs.AtomFrames.{Good}
 use Rattle.plan_facts.specs.QueryPlans.{atomsOf, good, atoms-number, query-fits}
-use Rattle.plan_facts.specs.Remembered.{FewOperands, FewKeys, remembered-few}
+use Rattle.plan_facts.specs.Remembered.{FewOperands, FewKeys, rounds-few}
 
 -- ---- the frames of atoms among frames
 
@@ -125,8 +125,8 @@ module _ (x : List ℕ) (n c : ℕ) (ok : reading Query x ≡ Accepted n c) wher
   atom-operands = each-few _ (atomsOf x) (query-fits x n c ok 0 0 (omega arith) (omega arith) .atoms)
 
   -- so the memo and the tallies stay small, whatever the costs
-  pub few-keys : FewKeys (remembered (framesOf x) (atomsOf x) .tally)
-  few-keys = remembered-few (framesOf x) (atomsOf x) (rw (atoms-number x n c ok) (query-within x n c ok .atoms)) atom-operands
+  pub few-keys : (f : ℕ) → FewKeys (memoryLoop (framesOf x) (atomsOf x) f fresh unplanned .tally)
+  few-keys f = rounds-few (framesOf x) (atomsOf x) f (rw (atoms-number x n c ok) (query-within x n c ok .atoms)) atom-operands
 
   pub small-settings : (cfg : SamplerConfig) → settings (framesOf x) ≡ On cfg → Small cfg
   unfolding settings
