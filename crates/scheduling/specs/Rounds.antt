@@ -1,9 +1,9 @@
 -- The rounds of the scheduler over arrays: the atoms that were lowered, in order, and what the costs remember.
-use Prim.Native.Nat.{ℕ, suc, _+_, _<_, _≤_}
+use Prim.Native.Nat.{ℕ, suc, _≤_}
 use mathlib.Core.Path.{_≡_}
 use mathlib.Core.Bool.{Bool}
 use mathlib.Core.Option.{Option, none, some}
-use mathlib.Core.List.{List, _∷_, List·Memᴰ}
+use mathlib.Core.List.{List, List·Memᴰ}
 use lib.ListN.{length, take, replicate}
 use lib.Ieee.{Float}
 use Rattle.base.specs.Choose.{pick}
