@@ -347,22 +347,15 @@ pub fn estimate_cost(
             tallies: s,
         };
     }
+    let cost = row[0];
     if is_literal(byte_at(line, 0)) {
-        return Costed {
-            cost: row[0],
-            tallies: s,
-        };
+        return Costed { cost, tallies: s };
     }
     if is_set(bound, byte_at(line, 1)) {
-        return Costed {
-            cost: row[1],
-            tallies: s,
-        };
+        let cost = row[1];
+        return Costed { cost, tallies: s };
     }
-    let c = Costed {
-        cost: row[0],
-        tallies: s,
-    };
+    let c = Costed { cost, tallies: s };
     item_costs(
         text,
         index,
