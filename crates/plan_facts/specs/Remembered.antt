@@ -21,15 +21,15 @@ use Rattle.query.specs.declared.statistics.Sampled.the-variants.{On, Off}
 use Rattle.model.specs.Atoms.{Operand, local, global, Atom, Plain, Lit, LitBind, Eq, EqGlobal, Pred, Variadic}
 use Rattle.model.specs.Bools.{both, true-false}
 use Rattle.model.specs.Lists.{Pairs, from, into}
-use Rattle.model.specs.Bound.{Bound, has, blank}
+use Rattle.model.specs.Bound.{Bound, has}
 use Rattle.model.specs.Lowering.{pvIsBound}
-use Rattle.model.specs.Scheduling.{State, Chosen, atomOf, numbers, lowerEager, emitAt, unplanned, unlowered}
+use Rattle.model.specs.Scheduling.{State, Chosen, atomOf, numbers, lowerEager, emitAt, unplanned}
 use Rattle.model.specs.Cheapest.{Priced, Bid, Scan, scan, cheapest, better, wants}
 use Rattle.cost.specs.declared.sampling.Key.{Key}
 use Rattle.cost.specs.Emitters.{Emitter, Emitters, emitterOf}
 use Rattle.cost.specs.Sampling.{Tally, sameKey, isKnown, measure, tallyOf, afterEstimate}
 use Rattle.cost.specs.Costs.{Costed, sampled, sampledBy, estimate, childCosts, elementCosts, estimateCost}
-use Rattle.cost.specs.Choice.{Memory, fresh, recorded, cost, emittedBy, byCost, choose, rememberOn, memoryLoop, remembered}
+use Rattle.cost.specs.Choice.{Memory, fresh, recorded, cost, emittedBy, byCost, choose, rememberOn, memoryLoop}
 use Rattle.plans.specs.StepFrames.{Each}
 use Rattle.plan_facts.specs.Emitted.{Keeps, atom-keeps, record-keeps}
 use Rattle.plan_facts.specs.Pigeonhole.{no-longer}
@@ -148,10 +148,6 @@ module _ (fs : List (List ℕ)) (qs : List Atom) (P : Memory → Type 0)
       on none x k q = q
       on (some i) x k q = k x (emitAt (atomOf qs) (numbers qs) i s) q
 
-  pub remembered-keeps : P fresh → P (remembered fs qs)
-  unfolding remembered
-  remembered-keeps p = loop-keeps (suc (unlowered blank (numbers qs))) fresh unplanned p
-
 -- ---- the memo only grows, and stays tame
 
 -- each tally is of a key in the memo
@@ -212,13 +208,12 @@ module _ (fs : List (List ℕ)) where
         same none s x h = h
         same (some i) s x h = h
 
-    pub remembered-tame : Tame (remembered fs qs .tally)
-    unfolding remembered
-    remembered-tame = loop-grows (suc (unlowered blank (numbers qs))) fresh unplanned .tame (record { tallied-few = omega arith; rejected-few = omega arith })
+    pub rounds-tame : (f : ℕ) → Tame (memoryLoop fs qs f fresh unplanned .tally)
+    rounds-tame f = loop-grows f fresh unplanned .tame (record { tallied-few = omega arith; rejected-few = omega arith })
 
     -- where sampling is off nothing is remembered
-    pub nothing-sampled : settings fs ≡ Off → remembered fs qs .tally .memo ≡ []
-    nothing-sampled off = remembered-keeps fs qs (λ m. m .tally .memo ≡ []) (λ m s h. h) (λ m s i h. cost-keeps fs any (λ t. t .memo ≡ []) (λ cfg k t on _ _. never cfg (sym off ∙ on)) (m .emitters) (s .bound) i (atomOf qs i) (m .tally) (λ _ _. tt) h) same refl
+    pub nothing-sampled : (f : ℕ) → settings fs ≡ Off → memoryLoop fs qs f fresh unplanned .tally .memo ≡ []
+    nothing-sampled f off = loop-keeps fs qs (λ m. m .tally .memo ≡ []) (λ m s h. h) (λ m s i h. cost-keeps fs any (λ t. t .memo ≡ []) (λ cfg k t on _ _. never cfg (sym off ∙ on)) (m .emitters) (s .bound) i (atomOf qs i) (m .tally) (λ _ _. tt) h) same f fresh unplanned refl
       where
         never : {A : Type 0} (cfg : SamplerConfig) → Off ≡ On cfg → A
         never cfg e = let z : _≡_ {A = ℕ} 0 1 = cc in absurd (omega arith)
@@ -373,18 +368,19 @@ module _ (fs : List (List ℕ)) (qs : List Atom) where
   asked-emitted none s m a = a
   asked-emitted (some i) s m a = asked-more (m .emitters) _ (m .tally) (atom-keeps (m .emitters) i (atomOf qs i)) a
 
-  all-asked : AllAsked (remembered fs qs)
-  all-asked = remembered-keeps fs qs AllAsked
+  all-asked : (f : ℕ) → AllAsked (memoryLoop fs qs f fresh unplanned)
+  all-asked f = loop-keeps fs qs AllAsked
       (λ m s a. asked-more (m .emitters) _ (m .tally) (record-keeps (m .before) (s .used) 0 qs (m .emitters)) a)
       (λ m s i a. cost-keeps fs (λ k. List·Memᴰ k (keysOf (m .emitters) qs)) (Asked (keysOf (m .emitters) qs)) (λ cfg k t _. asked-after (keysOf (m .emitters) qs) cfg k t) (m .emitters) (s .bound) i (atomOf qs i) (m .tally) (key-of (m .emitters) qs i) a)
-      asked-emitted
+      asked-emitted f fresh unplanned
       (record { apart = tt; among = λ k i. absurd (List·Memᴰ·not-nil i) })
 
-  -- "atoms 64, items 16": whatever the costs
-  pub remembered-few : length qs ≤ atomsMost → Each FewOperands qs → FewKeys (remembered fs qs .tally)
-  remembered-few n h =
-      let a = all-asked in
-      let l = no-longer (remembered fs qs .tally .memo) (keysOf (remembered fs qs .emitters) qs) (a .apart) (a .among) in
-      let b = keys-few (remembered fs qs .emitters) qs h in
-      let t = remembered-tame fs qs in
+  -- "atoms 64, items 16": whatever the costs, after any number of rounds
+  pub rounds-few : (f : ℕ) → length qs ≤ atomsMost → Each FewOperands qs → FewKeys (memoryLoop fs qs f fresh unplanned .tally)
+  rounds-few f n h =
+      let m = memoryLoop fs qs f fresh unplanned in
+      let a = all-asked f in
+      let l = no-longer (m .tally .memo) (keysOf (m .emitters) qs) (a .apart) (a .among) in
+      let b = keys-few (m .emitters) qs h in
+      let t = rounds-tame fs qs f in
       record { memo-few = omega arith; tallied-few = omega arith; rejected-few = omega arith }

@@ -19,8 +19,8 @@ use Rattle.query.specs.Statistics.{settings}
 use Rattle.query.specs.declared.statistics.Sampled.the-variants.{On, Off}
 use Rattle.model.specs.Bound.{most, blank}
 use Rattle.model.specs.Tabulate.{tabulate-mem}
-use Rattle.model.specs.Scheduling.{State, atomOf, numbers}
-use Rattle.cost.specs.Choice.{remembered}
+use Rattle.model.specs.Scheduling.{State, unplanned, atomOf, numbers}
+use Rattle.cost.specs.Choice.{fresh, memoryLoop}
 use Rattle.plans.specs.StepFrames.{frameOf, headerOf}
 use Rattle.plans.specs.PlanText.{textOf, textLength, planText}
 use Rattle.plans.specs.PlanRead.{plan-length}
@@ -38,7 +38,7 @@ use Rattle.writing.proofs.PutLaws.{frames-then}
 use Rattle.planner.specs.Planner.{Result, stepsOf, talliedOf, rejectedOf, planOf, fitted, plan}
 use Rattle.planner.specs.Promised.{read-back}
 use Rattle.planner.specs.Entry.{resultOf, Accepts}
-use Rattle.planner.specs.Accepted.{frames-few, atom-lines, atom-items, few-keys, small-settings}
+use Rattle.planner.specs.Accepted.{frames-few, atom-lines, atom-items, rounds-keys, few-keys, small-settings}
 use Rattle.planner.specs.declared.entry.Planned.the-variants.{Written as Wrote, Refused as TurnsBack}
 
 -- ---- the order
@@ -53,8 +53,8 @@ never cfg e = let z : _≡_ {A = ℕ} 0 1 = cc in absurd (omega arith)
 pub samples-nothing : (fs : List (List ℕ)) (draws : List Float) → settings fs ≡ Off → Samples fs Off draws
 samples-nothing fs draws e = record { set = sym e; nodes = λ cfg h. never cfg h; resamples = λ cfg h. never cfg h; room = λ cfg h. never cfg h }
 
-pub remembers-nothing : (x : List ℕ) → settings (framesOf x) ≡ Off → length (remembered (framesOf x) (atomsOf x) .tally .memo) ≤ 1
-remembers-nothing x e = rw (nothing-sampled (framesOf x) (atomsOf x) e) (omega arith)
+pub remembers-nothing : (x : List ℕ) (f : ℕ) → settings (framesOf x) ≡ Off → length (memoryLoop (framesOf x) (atomsOf x) f fresh unplanned .tally .memo) ≤ 1
+remembers-nothing x f e = rw (nothing-sampled (framesOf x) (atomsOf x) f e) (omega arith)
 
 pub samples-some : (x : List ℕ) (cfg : SamplerConfig) (draws : List Float) → Accepts x → settings (framesOf x) ≡ On cfg → length draws ≡ 64 → Samples (framesOf x) (On cfg) draws
 samples-some x cfg draws a e d = record {
@@ -64,8 +64,8 @@ samples-some x cfg draws a e d = record {
   room = λ c h. rw d (small-settings x (a .lines) (a .atoms) (a .is) c (e ∙ h) .draws);
 }
 
-pub remembers-some : (x : List ℕ) → Accepts x → length (remembered (framesOf x) (atomsOf x) .tally .memo) ≤ 1024
-remembers-some x a = few-keys x (a .lines) (a .atoms) (a .is) .memo-few
+pub remembers-some : (x : List ℕ) (f : ℕ) → Accepts x → length (memoryLoop (framesOf x) (atomsOf x) f fresh unplanned .tally .memo) ≤ 1024
+remembers-some x f a = rounds-keys x (a .lines) (a .atoms) (a .is) f .memo-few
 
 -- ---- the text
 

@@ -29,8 +29,10 @@ use Rattle.measure.specs.declared.SamplerConfig.{SamplerConfig}
 use Rattle.query.specs.Statistics.{sampledOf, settings}
 use Rattle.query.specs.declared.statistics.Sampled.the-variants.{On}
 use Rattle.model.specs.Atoms.{Atom, Plain, Lit, LitBind, Eq, EqGlobal, Pred, Variadic}
+use Rattle.model.specs.Bound.{blank}
+use Rattle.model.specs.Scheduling.{unplanned, unlowered, numbers}
 use Rattle.cost.specs.QueryAtoms.{atomFrames}
-use Rattle.cost.specs.Choice.{remembered}
+use Rattle.cost.specs.Choice.{fresh, memoryLoop, remembered}
 use Rattle.plans.specs.StepFrames.{Each}
 use Rattle.plans.specs.Fitting.{AtomFits}
 use Rattle.lowering.specs.AtomLines.{AtomLine}
@@ -39,7 +41,7 @@ use Rattle.lowering.proofs.AtomLaws.{by-kind}
 use Rattle.lowering.proofs.AcceptedLaws.{atom-line}
 use Rattle.plan_facts.specs.AtomFrames.{Good}
 use Rattle.plan_facts.specs.QueryPlans.{atomsOf, good, atoms-number, query-fits}
-use Rattle.plan_facts.specs.Remembered.{FewOperands, FewKeys, remembered-few}
+use Rattle.plan_facts.specs.Remembered.{FewOperands, FewKeys, rounds-few}
 
 -- ---- the frames of atoms among frames
 
@@ -124,9 +126,13 @@ module _ (x : List ℕ) (n c : ℕ) (ok : reading Query x ≡ Accepted n c) wher
   pub atom-operands : Each FewOperands (atomsOf x)
   atom-operands = each-few _ (atomsOf x) (query-fits x n c ok 0 0 (omega arith) (omega arith) .atoms)
 
-  -- so the memo and the tallies stay small, whatever the costs
+  -- so the memo and the tallies stay small, whatever the costs, after any number of rounds
+  pub rounds-keys : (f : ℕ) → FewKeys (memoryLoop (framesOf x) (atomsOf x) f fresh unplanned .tally)
+  rounds-keys f = rounds-few (framesOf x) (atomsOf x) f (rw (atoms-number x n c ok) (query-within x n c ok .atoms)) atom-operands
+
   pub few-keys : FewKeys (remembered (framesOf x) (atomsOf x) .tally)
-  few-keys = remembered-few (framesOf x) (atomsOf x) (rw (atoms-number x n c ok) (query-within x n c ok .atoms)) atom-operands
+  unfolding remembered memoryLoop
+  few-keys = rounds-keys (suc (unlowered blank (numbers (atomsOf x))))
 
   pub small-settings : (cfg : SamplerConfig) → settings (framesOf x) ≡ On cfg → Small cfg
   unfolding settings

@@ -1,4 +1,5 @@
 pub mod Planner
+pub mod Costs
 pub mod Accepted
 pub mod Entry
 pub mod Promised

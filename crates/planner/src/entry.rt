@@ -74,7 +74,8 @@ fn plan_accepted(text: &[u8], index: &[u32], out: &mut [u8]) -> Planned
     let mut from = [0usize; 64];
     let n = atom_places(text, &mut from);
     let mut order = [0u8; 64];
-    let s = find_order(text, index, &from, n, &mut order);
+    let mut costs = [0.0; 64];
+    let s = find_order(text, index, &from, n, &mut order, n, &mut costs);
     plan_in_order(text, &from, n, &order, s, out)
 }
 

@@ -1,6 +1,5 @@
-// The order in which the atoms of an accepted query are lowered.
+// The order in which the atoms of an accepted query are lowered, in the rounds up to number `last`, and the costs of that one.
 ghost use mathlib.Core.Path.{_≡_};
-ghost use Prim.Native.Nat.{_<_, _≤_};
 ghost use lib.ListN.{length};
 ghost use Rattle.frames.specs.First.{framesOf};
 ghost use Rattle.reading.specs.Index.{Indexed};
@@ -10,7 +9,7 @@ ghost use Rattle.model.specs.Bound.{most};
 ghost use Rattle.lowering.specs.Eager.{Located};
 ghost use Rattle.lowering.specs.Places.{Places};
 ghost use Rattle.pricing.specs.Prices.{Priced};
-ghost use Rattle.scheduling.specs.Rounds.{Scheduling};
+ghost use Rattle.scheduling.specs.Rounds.{Rounded};
 ghost use Rattle.planner.specs.Entry.{Accepts};
 use measure::SamplerConfig;
 use pricing::prices::fill_prices;
@@ -27,13 +26,16 @@ fn order_unsampled(
     n: usize,
     prices: &[f64],
     order: &mut [u8],
+    last: usize,
+    costs: &mut [f64],
 ) -> Scheduled
     requires { ⌜ Located (now text) (now from) n ⌝ }
     requires { ⌜ length (now order) ≡ most ⌝ }
+    requires { ⌜ length (now costs) ≡ most ⌝ }
     requires { ⌜ settingsOf (framesOf (now text)) ≡ Off ⌝ }
     requires { ⌜ Indexed (now text) (now index) ⌝ }
     requires { ⌜ Priced (now text) (now from) n (now prices) ⌝ }
-    ensures { λ r. ⌜ Scheduling (now (text .entry)) (now (order .exit)) r ⌝ }
+    ensures { λ r. ⌜ Rounded (now (text .entry)) (now (order .exit)) last (now (costs .exit)) r ⌝ }
 {
     let mut used = [false; 64];
     let mut bound = [false; 64];
@@ -59,6 +61,8 @@ fn order_unsampled(
         &mut valued,
         &mut values,
         &mut draws,
+        last,
+        costs,
     )
 }
 
@@ -71,14 +75,17 @@ fn order_sampled(
     prices: &[f64],
     cfg: SamplerConfig,
     order: &mut [u8],
+    last: usize,
+    costs: &mut [f64],
 ) -> Scheduled
     requires { ⌜ Accepts (now text) ⌝ }
     requires { ⌜ Located (now text) (now from) n ⌝ }
     requires { ⌜ length (now order) ≡ most ⌝ }
+    requires { ⌜ length (now costs) ≡ most ⌝ }
     requires { ⌜ settingsOf (framesOf (now text)) ≡ On cfg ⌝ }
     requires { ⌜ Indexed (now text) (now index) ⌝ }
     requires { ⌜ Priced (now text) (now from) n (now prices) ⌝ }
-    ensures { λ r. ⌜ Scheduling (now (text .entry)) (now (order .exit)) r ⌝ }
+    ensures { λ r. ⌜ Rounded (now (text .entry)) (now (order .exit)) last (now (costs .exit)) r ⌝ }
 {
     let mut used = [false; 64];
     let mut bound = [false; 64];
@@ -104,6 +111,8 @@ fn order_sampled(
         &mut valued,
         &mut values,
         &mut draws,
+        last,
+        costs,
     )
 }
 
@@ -114,17 +123,20 @@ pub fn find_order(
     from: &[usize],
     n: usize,
     order: &mut [u8],
+    last: usize,
+    costs: &mut [f64],
 ) -> Scheduled
     requires { ⌜ Accepts (now text) ⌝ }
     requires { ⌜ Places (now text) (now from) n ⌝ }
     requires { ⌜ length (now order) ≡ most ⌝ }
+    requires { ⌜ length (now costs) ≡ most ⌝ }
     requires { ⌜ Indexed (now text) (now index) ⌝ }
-    ensures { λ r. ⌜ Scheduling (now (text .entry)) (now (order .exit)) r ⌝ }
+    ensures { λ r. ⌜ Rounded (now (text .entry)) (now (order .exit)) last (now (costs .exit)) r ⌝ }
 {
     let mut prices = [0.0; 1152];
     fill_prices(text, index, from, n, &mut prices);
     match settings(text, index) {
-        Sampled::Off => order_unsampled(text, index, from, n, &prices, order),
-        Sampled::On(cfg) => order_sampled(text, index, from, n, &prices, cfg, order),
+        Sampled::Off => order_unsampled(text, index, from, n, &prices, order, last, costs),
+        Sampled::On(cfg) => order_sampled(text, index, from, n, &prices, cfg, order, last, costs),
     }
 }

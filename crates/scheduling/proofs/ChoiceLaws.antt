@@ -106,6 +106,10 @@ module _ (fs : List (List ℕ)) (em : Emitters) (qs : List Atom) (U B : Bound) w
       let r = candidates-more ks (c .next) (c .best) in
       omega (arith, g .more)
 
+-- number i is the first of the numbers from i on
+pub numbers-drop : (qs : List Atom) (i : ℕ) → i < length qs → drop i (numbers qs) ≡ i ∷ drop (suc i) (numbers qs)
+numbers-drop qs i l = drop-cons (numbers qs) i 0 (rw (tabulate-length (length qs) (λ k. k)) l) ∙ rw (tabulate-at (length qs) (λ k. k) i 0 l)
+
 -- the atoms from number i on, from the best so far, give what all atoms give
 pub record Scanning (x : List ℕ) (em : Emitters) (U B : Bound) (how : Sampled) (n : ℕ) (keys₀ : List ℕ) (draws₀ : List Float) (b₀ : Best) (keys : List ℕ) (valued : List Bool) (values draws : List Float) (b : Best) (i : ℕ) : Type 0 where
   pub few : i ≤ n
@@ -129,11 +133,6 @@ module _ (x from : List ℕ) (em : Emitters) (U B : Bound) (how : Sampled) (n : 
     pub number-small : i < 256
     number-small = omega (arith, z .few)
 
-    numbers-drop : drop i (numbers (atomsOf x)) ≡ i ∷ drop (suc i) (numbers (atomsOf x))
-    numbers-drop =
-        let l : i < length (atomsOf x) = omega (arith, z .count) in
-        drop-cons (numbers (atomsOf x)) i 0 (rw (tabulate-length (length (atomsOf x)) (λ k. k)) l) ∙ rw (tabulate-at (length (atomsOf x)) (λ k. k) i 0 l)
-
     module _ (s : List ℕ) (line : s ≡ lineAt x (getD from i 0)) where
       pub line-ready : AtomLine (bytesOf s)
       line-ready = rw line (z .line i h)
@@ -144,7 +143,7 @@ module _ (x from : List ℕ) (em : Emitters) (U B : Bound) (how : Sampled) (n : 
 
         rest-is : candidates (framesOf x) em (atomsOf x) U B (drop (suc i) (numbers (atomsOf x))) (here .next) (here .best) ≡ candidates (framesOf x) em (atomsOf x) U B (numbers (atomsOf x)) (tallyAt keys₀ (b₀ .tallies)) none
         unfolding candidates
-        rest-is = rw (e, line, ← z .is i h) (rw numbers-drop at (r .is))
+        rest-is = rw (e, line, ← z .is i h) (rw (numbers-drop (atomsOf x) i (omega (arith, z .count))) at (r .is))
 
         pub atom-room : length (candidates (framesOf x) em (atomsOf x) U B (numbers (atomsOf x)) (tallyAt keys₀ (b₀ .tallies)) none .next .memo) ≤ length keys₀ → length (here .next .memo) ≤ length keys
         atom-room l =

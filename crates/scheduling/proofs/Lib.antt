@@ -1,3 +1,4 @@
 pub mod ChoiceLaws
+pub mod OfferLaws
 pub mod RoundLaws
 pub mod LoopLaws

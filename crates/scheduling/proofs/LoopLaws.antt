@@ -1,8 +1,8 @@
 -- The greedy loop: what is left of it gives what the whole gives. Proved round by round; the memo's room from its growth.
-use Prim.Native.Nat.{ℕ, suc, _+_, _-_, _<_, _≤_}
+use Prim.Native.Nat.{ℕ, zero, suc, _+_, _-_, _<_, _≤_}
 use mathlib.Core.Path.{_≡_, refl, sym, _∙_, ap, subst}
 use mathlib.Core.Logic.{_⊎_, inl, inr}
-use mathlib.Core.Bool.{Bool, true, false, not, _&&_}
+use mathlib.Core.Bool.{Bool, true, false, not}
 use mathlib.Core.Option.{Option, none, some}
 use mathlib.Core.List.{List, [], _∷_, _++_, map, List·Memᴰ, List·Memᴰ·not-nil, List·Memᴰ·append-cases}
 use native.Mathlib.Omega.{arith}
@@ -14,14 +14,14 @@ use Rattle.model.specs.Atoms.{Atom, Step}
 use Rattle.model.specs.Bound.{Bound, has, add, most, blank, has-blank}
 use Rattle.model.specs.Tabulate.{tabulate, tabulate-length, tabulate-mem}
 use Rattle.model.specs.Lowering.{Lowered, done}
-use Rattle.model.specs.Scheduling.{State, Chosen, scans, unlowered, lowerEager, emitAt, goOn, roundsUpTo, atomOf, numbers}
+use Rattle.model.specs.Scheduling.{State, unplanned, Chosen, scans, unlowered, lowerEager, emitAt, goOn, roundsUpTo, atomOf, numbers}
 use Rattle.model.specs.Cheapest.{Bid, Scan, scan, bidder, better, wants, cheapest}
 use Rattle.query.specs.declared.statistics.Sampled.{Sampled}
 use Rattle.cost.specs.Emitters.{Emitters, decode, recordAtom, recordEmitters}
 use Rattle.cost.specs.Sampling.{Tally}
 use Rattle.cost.specs.Costs.{Costed, estimateCost}
 use Rattle.cost.specs.Memo.{memoAt, tallyAt}
-use Rattle.cost.specs.Choice.{Memory, recorded, cost, emittedBy, byCost, choose, choose-fair, planned, rememberOn, memoryLoop, remembered}
+use Rattle.cost.specs.Choice.{Memory, fresh, recorded, cost, emittedBy, byCost, choose, choose-fair, planned, rememberOn, memoryLoop, remembered}
 use Rattle.cost.specs.declared.memo.Tallies.{Tallies}
 use Rattle.plan_facts.specs.Remembered.{loop-grows}
 use Rattle.lowering.specs.Eager.{state, Went, Located, Ready, atomsOf}
@@ -29,7 +29,8 @@ use Rattle.lowering.proofs.EagerLaws.{lowered-then}
 use Rattle.pricing.specs.Remembering.{Samples, Remembers}
 use Rattle.scheduling.proofs.ChoiceLaws.{is-true, is-false}
 use Rattle.scheduling.specs.Choosing.{bidOf, orBest, candidates}
-use Rattle.scheduling.specs.Rounds.{Chooses, TakesNext, RoundRoom, Unplanned, Scheduling}
+use Rattle.scheduling.specs.Offers.{offered, roundOffers, offeredOn, roundFrom, roundOf}
+use Rattle.scheduling.specs.Rounds.{Chooses, TakesNext, RoundRoom, Unplanned, Ordering, Scheduling, Rounded}
 use Rattle.scheduling.specs.declared.schedule.Round.{Round}
 use Rattle.scheduling.specs.declared.schedule.Scheduled.{Scheduled}
 
@@ -106,11 +107,12 @@ module _ (x : List ℕ) where
       from k (inl m) = a .known k m
       from k (inr m) = w .known k m
 
-  -- c atoms are lowered, `left` rounds may follow
-  pub record Rounding (how : Sampled) (keys₀ : List ℕ) (draws₀ : List Float) (U B b : Bound) (E : Emitters) (O keys : List ℕ) (valued : List Bool) (values draws : List Float) (c : ℕ) (s : Tallies) (left : ℕ) : Type 0 where
+  -- c atoms are lowered; of the rounds up to number `last` a round and `left` others may follow
+  pub record Rounding (how : Sampled) (keys₀ : List ℕ) (draws₀ : List Float) (last : ℕ) (U B b : Bound) (E : Emitters) (O keys : List ℕ) (valued : List Bool) (values draws : List Float) (c : ℕ) (s : Tallies) (left : ℕ) : Type 0 where
     pub steps : List Step
-    pub plans : planned (framesOf x) (atomsOf x) ≡ roundsUpTo (atomOf (atomsOf x)) (numbers (atomsOf x)) (choose (framesOf x) (atomsOf x)) left (record { emitters = E; before = b; tally = tallyAt keys s }) (state U B steps)
-    pub remembers : remembered (framesOf x) (atomsOf x) ≡ memoryLoop (framesOf x) (atomsOf x) left (record { emitters = E; before = b; tally = tallyAt keys s }) (state U B steps)
+    pub plans : roundsUpTo (atomOf (atomsOf x)) (numbers (atomsOf x)) (choose (framesOf x) (atomsOf x)) (suc last) fresh unplanned ≡ roundsUpTo (atomOf (atomsOf x)) (numbers (atomsOf x)) (choose (framesOf x) (atomsOf x)) (suc left) (record { emitters = E; before = b; tally = tallyAt keys s }) (state U B steps)
+    pub remembers : memoryLoop (framesOf x) (atomsOf x) (suc last) fresh unplanned ≡ memoryLoop (framesOf x) (atomsOf x) (suc left) (record { emitters = E; before = b; tally = tallyAt keys s }) (state U B steps)
+    pub round : roundOf (framesOf x) (atomsOf x) last ≡ roundFrom (framesOf x) (atomsOf x) left (record { emitters = E; before = b; tally = tallyAt keys s }) (state U B steps)
     pub sofar : Sofar steps U B O c
     pub before : length b ≡ most
     pub memo : Remembers (framesOf x) how keys valued values s
@@ -135,24 +137,25 @@ module _ (x : List ℕ) where
     unfolding memoryLoop
     choice-grows n = chosen-grows n (lowerEager (atomOf qs) (numbers qs) st)
 
-  -- the start: as many rounds as atoms, and one
+  -- the start
   module _ (from : List ℕ) (n : ℕ) (z : Located x from n) where
     all-left : (js : List ℕ) → unlowered blank js ≡ length js
     unfolding unlowered
     all-left [] = refl
     all-left (j ∷ js) = rw (has-blank j) (ap suc (all-left js))
 
-    rounds-number : suc (unlowered blank (numbers qs)) ≡ n + 1
-    rounds-number = let e = all-left (numbers qs) in omega (arith, z .count, tabulate-length (length qs) (λ k. k))
+    rounds-number : unlowered blank (numbers qs) ≡ n
+    rounds-number = all-left (numbers qs) ∙ tabulate-length (length qs) (λ k. k) ∙ sym (z .count)
 
-    pub rounding-start : (how : Sampled) (U B b : Bound) (em O keys : List ℕ) (valued : List Bool) (values draws : List Float) (s : Tallies) → Unplanned U B b em → length O ≡ most → Samples (framesOf x) how draws → (length valued ≡ length keys) × ((length values ≡ length keys) × (length keys ≤ 1024)) → s ≡ record { count = 0; tallied = 0; rejected = 0 }
-        → Rounding how keys draws U B b (map decode em) O keys valued values draws 0 s (n + 1)
-    unfolding planned remembered memoryLoop memoAt blank
-    rounding-start how U B b em O keys valued values draws s u o d k e = record {
+    pub rounding-start : (how : Sampled) (last : ℕ) (U B b : Bound) (em O keys : List ℕ) (valued : List Bool) (values draws : List Float) (s : Tallies) → Unplanned U B b em → length O ≡ most → Samples (framesOf x) how draws → (length valued ≡ length keys) × ((length values ≡ length keys) × (length keys ≤ 1024)) → s ≡ record { count = 0; tallied = 0; rejected = 0 }
+        → Rounding how keys draws last U B b (map decode em) O keys valued values draws 0 s last
+    unfolding memoAt blank roundOf
+    rounding-start how last U B b em O keys valued values draws s u o d k e = record {
       steps = [];
-      plans = rw (u .used, u .bound, u .before, u .emitters, e, ← rounds-number);
-      remembers = rw (u .used, u .bound, u .before, u .emitters, e, ← rounds-number);
-      sofar = record { lowered = rw (u .bound) done; known = λ i m. absurd (List·Memᴰ·not-nil m); ready = record { used = ap length (u .used); bound = ap length (u .bound); order = o; room = rw (u .used) (omega (arith, all-left (numbers qs), tabulate-length (length qs) (λ k. k), z .count, z .few)) } };
+      plans = rw (u .used, u .bound, u .before, u .emitters, e);
+      remembers = rw (u .used, u .bound, u .before, u .emitters, e);
+      round = rw (u .used, u .bound, u .before, u .emitters, e);
+      sofar = record { lowered = rw (u .bound) done; known = λ i m. absurd (List·Memᴰ·not-nil m); ready = record { used = ap length (u .used); bound = ap length (u .bound); order = o; room = rw (u .used) (omega (arith, rounds-number, z .few)) } };
       before = ap length (u .before);
       memo = record { fits = rw e (omega arith); small = k .1 .1; flags = k .0; places = k .1 .0; tallied = rw e (omega arith); rejected = rw e (omega arith); is = λ cfg h j l. absurd (let q = rw e at l in omega arith) };
       samples = d;
@@ -160,18 +163,22 @@ module _ (x : List ℕ) where
       draws-size = refl;
     }
 
+    -- as many rounds as atoms, and one, are enough
+    pub rounds-enough : (O : List ℕ) (costs : List Float) (p : Scheduled) → Rounded x O n costs p → Scheduling x O p
+    unfolding planned remembered memoryLoop
+    rounds-enough O costs p h = subst (λ (k : ℕ). Ordering x O (rounds (suc k) fresh unplanned) (memoryLoop fs qs (suc k) fresh unplanned .tally) p) (sym rounds-number) (h .order)
+
   -- one round
-  module _ (from : List ℕ) (n : ℕ) (z : Located x from n) (how : Sampled) (keys₀ : List ℕ) (draws₀ : List Float) (U B b : Bound) (E : Emitters) (O keys : List ℕ) (valued : List Bool) (values draws : List Float) (c : ℕ) (s : Tallies) (left : ℕ) (r : Rounding how keys₀ draws₀ U B b E O keys valued values draws c s left) (more : 0 < left) where
-    one-round : left ≡ suc (left - 1)
-    one-round = omega arith
+  module _ (from : List ℕ) (n : ℕ) (z : Located x from n) (how : Sampled) (keys₀ : List ℕ) (draws₀ : List Float) (last : ℕ) (U B b : Bound) (E : Emitters) (O keys : List ℕ) (valued : List Bool) (values draws : List Float) (c : ℕ) (s : Tallies) (left : ℕ) (r : Rounding how keys₀ draws₀ last U B b E O keys valued values draws c s left) where
+    abbrev before : Memory
+    before = memory E b (tallyAt keys s)
 
-    pub round-room : length (remembered (framesOf x) (atomsOf x) .tally .memo) ≤ length keys₀ → RoundRoom x U B b E keys s
+    pub round-room : length (memoryLoop (framesOf x) (atomsOf x) (suc last) fresh unplanned .tally .memo) ≤ length keys₀ → RoundRoom x U B b E keys s
     round-room l =
-        let g = choice-grows E b (tallyAt keys s) (state U B (r .steps)) (left - 1) in
-        let e : memoryLoop fs qs (suc (left - 1)) (memory E b (tallyAt keys s)) (state U B (r .steps)) ≡ remembered fs qs = rw (← one-round) (sym (r .remembers)) in
-        record { steps = r .steps; room = omega (arith, subst (λ (m : Memory). length (choice fs qs E b (tallyAt keys s) (lowerEager (atomOf qs) (numbers qs) (state U B (r .steps))) .next .memo) ≤ length (m .tally .memo)) e g, r .keys-size) }
+        let g = choice-grows E b (tallyAt keys s) (state U B (r .steps)) left in
+        record { steps = r .steps; room = omega (arith, subst (λ (m : Memory). length (choice fs qs E b (tallyAt keys s) (lowerEager (atomOf qs) (numbers qs) (state U B (r .steps))) .next .memo) ≤ length (m .tally .memo)) (sym (r .remembers)) g, r .keys-size) }
 
-    module _ (U′ C : Bound) (E′ : Emitters) (P keys′ : List ℕ) (valued′ : List Bool) (values′ : List Float) (q : Round) (k : Chooses x how U B b E O c keys s U′ C E′ P keys′ valued′ values′ q) where
+    module _ (U′ C : Bound) (E′ : Emitters) (P keys′ : List ℕ) (valued′ : List Bool) (values′ costs′ : List Float) (q : Round) (k : Chooses x how U B b E O c keys s U′ C E′ P keys′ valued′ values′ costs′ q) where
       abbrev now-steps : List Step
       now-steps = r .steps ++ k .went .steps
 
@@ -181,96 +188,141 @@ module _ (x : List ℕ) where
       abbrev picked : Option ℕ
       picked = bidder (atomOf qs) (numbers qs) (cost fs qs) lt (bidOf (q .best .found) (q .best .who) (q .best .price))
 
+      abbrev now-memory : Memory
+      now-memory = emittedBy fs qs picked now-state (memory E′ U′ (tallyAt keys′ (q .best .tallies)))
+
       now-sofar : Sofar now-steps U′ C P (q .count)
       now-sofar = sofar-then (lowerEager (atomOf qs) (numbers qs)) (r .steps) U B O c U′ C P (q .count) (r .sofar) (k .went)
 
-      chosen-is : choose fs qs (memory E b (tallyAt keys s)) now-state ≡ record { at = picked; next = emittedBy fs qs picked now-state (memory E′ U′ (tallyAt keys′ (q .best .tallies))) }
+      chosen-is : choose fs qs before now-state ≡ record { at = picked; next = now-memory }
       chosen-is = choose-is fs qs E b (tallyAt keys s) now-state ∙ rw (← k .emitters, ← k .chose .best, ← k .chose .next)
 
-      after : (planned fs qs ≡ goOn (atomOf qs) (numbers qs) (rounds (left - 1)) picked (emittedBy fs qs picked now-state (memory E′ U′ (tallyAt keys′ (q .best .tallies)))) now-state)
-          × (remembered fs qs ≡ rememberOn fs qs (memoryLoop fs qs (left - 1)) picked (emittedBy fs qs picked now-state (memory E′ U′ (tallyAt keys′ (q .best .tallies)))) now-state)
-      unfolding roundsUpTo memoryLoop
-      after = (
-        rw one-round at (r .plans) ∙ ap (λ (st : State). let d = choose fs qs (memory E b (tallyAt keys s)) st in goOn (atomOf qs) (numbers qs) (rounds (left - 1)) (d .at) (d .next) st) (k .went .is (r .steps)) ∙ ap (λ (d : Chosen Memory). goOn (atomOf qs) (numbers qs) (rounds (left - 1)) (d .at) (d .next) now-state) chosen-is,
-        rw one-round at (r .remembers) ∙ ap (λ (st : State). let d = choose fs qs (memory E b (tallyAt keys s)) st in rememberOn fs qs (memoryLoop fs qs (left - 1)) (d .at) (d .next) st) (k .went .is (r .steps)) ∙ ap (λ (d : Chosen Memory). rememberOn fs qs (memoryLoop fs qs (left - 1)) (d .at) (d .next) now-state) chosen-is,
-      )
+      -- what goes by the choice in the state behind the eager round
+      by-choice : {A : Type 0} (f : Chosen Memory → State → A) → (let st = lowerEager (atomOf qs) (numbers qs) (state U B (r .steps)) in f (choose fs qs before st) st) ≡ f (record { at = picked; next = now-memory }) now-state
+      by-choice f = ap (λ (st : State). f (choose fs qs before st) st) (k .went .is (r .steps)) ∙ ap (λ (d : Chosen Memory). f d now-state) chosen-is
+
+      planned-after : rounds (suc last) fresh unplanned ≡ goOn (atomOf qs) (numbers qs) (rounds left) picked now-memory now-state
+      unfolding roundsUpTo
+      planned-after = r .plans ∙ by-choice (λ d st. goOn (atomOf qs) (numbers qs) (rounds left) (d .at) (d .next) st)
+
+      remembered-after : memoryLoop fs qs (suc last) fresh unplanned ≡ rememberOn fs qs (memoryLoop fs qs left) picked now-memory now-state
+      unfolding memoryLoop
+      remembered-after = r .remembers ∙ by-choice (λ d st. rememberOn fs qs (memoryLoop fs qs left) (d .at) (d .next) st)
+
+      -- this round is the last, or another follows
+      round-last : left ≡ 0 → roundOf fs qs last ≡ offered (take (length qs) costs′) picked
+      unfolding roundFrom
+      round-last l = rw l at (r .round) ∙ by-choice (λ d st. offered (roundOffers fs qs before st) (d .at)) ∙ rw (← k .emitters, k .costs)
+
+      round-more : (j : ℕ) → left ≡ suc j → roundOf fs qs last ≡ offeredOn fs qs (roundFrom fs qs j) picked now-memory now-state
+      unfolding roundFrom
+      round-more j l = rw l at (r .round) ∙ by-choice (λ d st. offeredOn fs qs (roundFrom fs qs j) (d .at) (d .next) st)
 
       -- none was found: the plan is made
-      pub rounding-ends : (p : Scheduled) → not (q .best .found) ≡ true → p ≡ record { count = q .count; tallied = q .best .tallies .tallied; rejected = q .best .tallies .rejected } → Scheduling x P p
+      pub rounding-ends : (p : Scheduled) → not (q .best .found) ≡ true → p ≡ record { count = q .count; tallied = q .best .tallies .tallied; rejected = q .best .tallies .rejected; found = q .best .found; who = q .best .who } → Rounded x P last costs′ p
       rounding-ends p none-found e = rw e (record {
-        used = U′;
-        bound = C;
-        steps = now-steps;
-        is = rw (is-false (q .best .found) none-found) at (after .0);
-        lowered = now-sofar .lowered;
-        known = now-sofar .known;
-        few = omega (arith, now-sofar .ready .room);
-        tallied = ap (λ (m : Memory). m .tally .tallied) (rw (is-false (q .best .found) none-found) at (after .1));
-        rejected = ap (λ (m : Memory). m .tally .rejected) (rw (is-false (q .best .found) none-found) at (after .1));
+        order = record {
+          used = U′;
+          bound = C;
+          steps = now-steps;
+          is = rw lost at planned-after;
+          lowered = now-sofar .lowered;
+          known = now-sofar .known;
+          few = omega (arith, now-sofar .ready .room);
+          tallied = ap (λ (m : Memory). m .tally .tallied) (rw lost at remembered-after);
+          rejected = ap (λ (m : Memory). m .tally .rejected) (rw lost at remembered-after);
+        };
+        round = rw lost (by left refl);
       })
+        where
+          lost : q .best .found ≡ false
+          lost = is-false (q .best .found) none-found
+
+          by : (j : ℕ) → left ≡ j → roundOf fs qs last ≡ offered (take (length qs) costs′) (pick false (some (q .best .who)) none)
+          by zero l = rw lost at (round-last l)
+          by (suc j) l = rw lost at (round-more j l)
 
       module _ (one-found : not (q .best .found) ≡ false) where
         found : q .best .found ≡ true
         found = is-true (q .best .found) one-found
 
-        at-some : choose fs qs (memory E b (tallyAt keys s)) now-state .at ≡ some (q .best .who)
+        at-some : choose fs qs before now-state .at ≡ some (q .best .who)
         at-some = ap (λ (d : Chosen Memory). d .at) chosen-is ∙ rw found
 
         pub next-below : q .best .who < n
-        next-below = rw (z .count) (mem-below (length qs) (q .best .who) (choose-fair fs qs .known (memory E b (tallyAt keys s)) now-state (q .best .who) at-some))
+        next-below = rw (z .count) (mem-below (length qs) (q .best .who) (choose-fair fs qs .known before now-state (q .best .who) at-some))
 
         pub next-scans : scans (atomOf (atomsOf x) (q .best .who)) ≡ true
-        next-scans = choose-fair fs qs .scanning (memory E b (tallyAt keys s)) now-state (q .best .who) at-some
+        next-scans = choose-fair fs qs .scanning before now-state (q .best .who) at-some
 
         pub next-unused : has U′ (q .best .who) ≡ false
-        next-unused = choose-fair fs qs .unused (memory E b (tallyAt keys s)) now-state (q .best .who) at-some
+        next-unused = choose-fair fs qs .unused before now-state (q .best .who) at-some
 
         pub next-ready : Ready x U′ C P (q .count)
         next-ready = now-sofar .ready
 
         -- one was found, and is lowered
-        pub rounding-again : (U″ D b″ : Bound) (E″ : Emitters) (Q : List ℕ) (draws′ : List Float) (d : ℕ) → TakesNext x (q .best .who) U′ C E′ P (q .count) U″ D b″ E″ Q d → length keys′ ≡ length keys → length draws′ ≡ length draws
-            → Rounding how keys₀ draws₀ U″ D b″ E″ Q keys′ valued′ values′ draws′ d (q .best .tallies) (left - 1)
-        rounding-again U″ D b″ E″ Q draws′ d t p v =
-            let f = sofar-then (emitAt (atomOf qs) (numbers qs) (q .best .who)) now-steps U′ C P (q .count) U″ D Q d now-sofar (t .went) in
-            record {
+        module _ (U″ D b″ : Bound) (E″ : Emitters) (Q : List ℕ) (d : ℕ) (t : TakesNext x (q .best .who) U′ C E′ P (q .count) U″ D b″ E″ Q d) where
+          abbrev next-state : State
+          next-state = state U″ D (now-steps ++ t .went .steps)
+
+          abbrev next-memory : Memory
+          next-memory = memory E″ b″ (tallyAt keys′ (q .best .tallies))
+
+          next-sofar : Sofar (now-steps ++ t .went .steps) U″ D Q d
+          next-sofar = sofar-then (emitAt (atomOf qs) (numbers qs) (q .best .who)) now-steps U′ C P (q .count) U″ D Q d now-sofar (t .went)
+
+          same-memory : memory (recordAtom E′ (q .best .who) (atomOf qs (q .best .who))) (add U′ (q .best .who)) (tallyAt keys′ (q .best .tallies)) ≡ next-memory
+          same-memory = rw (t .emitters, t .before, t .used)
+
+          -- what goes on from the atom chosen
+          by-next : {A : Type 0} (f : Memory → State → A) → f (memory (recordAtom E′ (q .best .who) (atomOf qs (q .best .who))) (add U′ (q .best .who)) (tallyAt keys′ (q .best .tallies))) (emitAt (atomOf qs) (numbers qs) (q .best .who) now-state) ≡ f next-memory next-state
+          by-next f = ap (f _) (t .went .is now-steps) ∙ ap (λ (m : Memory). f m next-state) same-memory
+
+          planned-next : rounds (suc last) fresh unplanned ≡ rounds left next-memory next-state
+          planned-next = rw found at planned-after ∙ by-next (rounds left)
+
+          remembered-next : memoryLoop fs qs (suc last) fresh unplanned ≡ memoryLoop fs qs left next-memory next-state
+          remembered-next = rw found at remembered-after ∙ by-next (memoryLoop fs qs left)
+
+          -- it was the last
+          pub rounding-over : (p : Scheduled) → left ≡ 0 → p ≡ record { count = d; tallied = q .best .tallies .tallied; rejected = q .best .tallies .rejected; found = q .best .found; who = q .best .who } → Rounded x Q last costs′ p
+          unfolding roundsUpTo memoryLoop
+          rounding-over p l e = rw e (record {
+            order = record {
+              used = U″;
+              bound = D;
               steps = now-steps ++ t .went .steps;
-              plans = rw found at (after .0) ∙ ap (rounds (left - 1) next-memory) (t .went .is now-steps) ∙ ap (λ (m : Memory). rounds (left - 1) m (state U″ D (now-steps ++ t .went .steps))) same-memory;
-              remembers = rw found at (after .1) ∙ ap (memoryLoop fs qs (left - 1) next-memory) (t .went .is now-steps) ∙ ap (λ (m : Memory). memoryLoop fs qs (left - 1) m (state U″ D (now-steps ++ t .went .steps))) same-memory;
-              sofar = f;
-              before = ap length (t .before) ∙ f .ready .used;
-              memo = k .chose .memo;
-              samples = record { set = r .samples .set; nodes = r .samples .nodes; resamples = r .samples .resamples; room = λ cfg u. rw v (r .samples .room cfg u) };
-              keys-size = p ∙ r .keys-size;
-              draws-size = v ∙ r .draws-size;
-            }
-          where
-            next-memory : Memory
-            next-memory = memory (recordAtom E′ (q .best .who) (atomOf qs (q .best .who))) (add U′ (q .best .who)) (tallyAt keys′ (q .best .tallies))
+              is = rw l at planned-next;
+              lowered = next-sofar .lowered;
+              known = next-sofar .known;
+              few = omega (arith, next-sofar .ready .room);
+              tallied = ap (λ (m : Memory). m .tally .tallied) (rw l at remembered-next);
+              rejected = ap (λ (m : Memory). m .tally .rejected) (rw l at remembered-next);
+            };
+            round = rw found (rw found at (round-last l));
+          })
 
-            same-memory : next-memory ≡ memory E″ b″ (tallyAt keys′ (q .best .tallies))
-            same-memory = rw (t .emitters, t .before, t .used)
-
-  -- no round is left
-  pub rounding-over : (how : Sampled) (keys₀ : List ℕ) (draws₀ : List Float) (U B b : Bound) (E : Emitters) (O keys : List ℕ) (valued : List Bool) (values draws : List Float) (c : ℕ) (s : Tallies) (left : ℕ) → Rounding how keys₀ draws₀ U B b E O keys valued values draws c s left → left ≤ 0 → (p : Scheduled) → p ≡ record { count = c; tallied = s .tallied; rejected = s .rejected } → Scheduling x O p
-  unfolding roundsUpTo memoryLoop
-  rounding-over how keys₀ draws₀ U B b E O keys valued values draws c s left r h p e =
-      let l : left ≡ 0 = omega arith in
-      rw e (record {
-        used = U;
-        bound = B;
-        steps = r .steps;
-        is = rw l at (r .plans);
-        lowered = r .sofar .lowered;
-        known = r .sofar .known;
-        few = omega (arith, r .sofar .ready .room);
-        tallied = ap (λ (m : Memory). m .tally .tallied) (rw l at (r .remembers));
-        rejected = ap (λ (m : Memory). m .tally .rejected) (rw l at (r .remembers));
-      })
+          -- another follows
+          pub rounding-again : (left ≡ 0 → ⊥) → (draws′ : List Float) → length keys′ ≡ length keys → length draws′ ≡ length draws → Rounding how keys₀ draws₀ last U″ D b″ E″ Q keys′ valued′ values′ draws′ d (q .best .tallies) (left - 1)
+          rounding-again h draws′ p v =
+              let l : left ≡ suc (left - 1) = omega (arith, h) in
+              record {
+                steps = now-steps ++ t .went .steps;
+                plans = planned-next ∙ ap (λ (j : ℕ). rounds j next-memory next-state) l;
+                remembers = remembered-next ∙ ap (λ (j : ℕ). memoryLoop fs qs j next-memory next-state) l;
+                round = rw found at (round-more (left - 1) l) ∙ by-next (roundFrom fs qs (left - 1));
+                sofar = next-sofar;
+                before = ap length (t .before) ∙ next-sofar .ready .used;
+                memo = k .chose .memo;
+                samples = record { set = r .samples .set; nodes = r .samples .nodes; resamples = r .samples .resamples; room = λ cfg u. rw v (r .samples .room cfg u) };
+                keys-size = p ∙ r .keys-size;
+                draws-size = v ∙ r .draws-size;
+              }
 
 -- ---- the arrays keep their lengths
 
-pub record Sizes (U₀ B₀ b₀ : Bound) (e₀ O₀ k₀ : List ℕ) (v₀ : List Bool) (x₀ d₀ : List Float) (U B b : Bound) (e O k : List ℕ) (v : List Bool) (x d : List Float) : Type 0 where
+pub record Sizes (U₀ B₀ b₀ : Bound) (e₀ O₀ k₀ : List ℕ) (v₀ : List Bool) (x₀ d₀ c₀ : List Float) (U B b : Bound) (e O k : List ℕ) (v : List Bool) (x d c : List Float) : Type 0 where
   pub used : length U ≡ length U₀
   pub bound : length B ≡ length B₀
   pub before : length b ≡ length b₀
@@ -280,9 +332,10 @@ pub record Sizes (U₀ B₀ b₀ : Bound) (e₀ O₀ k₀ : List ℕ) (v₀ : Li
   pub valued : length v ≡ length v₀
   pub values : length x ≡ length x₀
   pub draws : length d ≡ length d₀
+  pub costs : length c ≡ length c₀
 
-pub sizes-same : (U B b : Bound) (em O keys : List ℕ) (valued : List Bool) (values draws : List Float) → Sizes U B b em O keys valued values draws U B b em O keys valued values draws
-sizes-same U B b em O keys valued values draws = record { used = refl; bound = refl; before = refl; em = refl; order = refl; keys = refl; valued = refl; values = refl; draws = refl }
+pub sizes-same : (U B b : Bound) (em O keys : List ℕ) (valued : List Bool) (values draws costs : List Float) → Sizes U B b em O keys valued values draws costs U B b em O keys valued values draws costs
+sizes-same U B b em O keys valued values draws costs = record { used = refl; bound = refl; before = refl; em = refl; order = refl; keys = refl; valued = refl; values = refl; draws = refl; costs = refl }
 
 pub em-sized : (U B b : Bound) (em : List ℕ) → Unplanned U B b em → length em ≡ most
 em-sized U B b em u = ap length (u .emitters)

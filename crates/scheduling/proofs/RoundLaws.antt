@@ -1,8 +1,7 @@
 -- A round of the scheduler: an eager round, the choice, and the atom chosen. Proved from what each of them does.
 use Prim.Native.Nat.{ℕ, _+_, _<_, _≤_}
 use mathlib.Core.Path.{_≡_, refl, sym, _∙_, ap, subst}
-use mathlib.Core.Logic.{_⊎_}
-use mathlib.Core.Bool.{Bool, true, false, _&&_}
+use mathlib.Core.Bool.{Bool, true, false}
 use mathlib.Core.Option.{Option, none, some}
 use mathlib.Core.List.{List, [], _∷_, _++_, List·Memᴰ}
 use native.Mathlib.Omega.{arith}
@@ -29,6 +28,7 @@ use Rattle.lowering.specs.AtomLines.{AtomLine, lowers, boundBehind, Lowers}
 use Rattle.lowering.specs.Eager.{Went, LoweredEager, Located, Ready, atomsOf}
 use Rattle.lowering.proofs.EagerLaws.{went-one}
 use Rattle.scheduling.specs.Choosing.{candidates, Chose}
+use Rattle.scheduling.specs.Offers.{offers}
 use Rattle.scheduling.specs.Rounds.{Takes, Chooses, TakesNext, roundTally, RoundRoom}
 use Rattle.scheduling.specs.declared.choose.Best.{Best}
 
@@ -38,9 +38,9 @@ module _ (x : List ℕ) (U B b : Bound) (E : Emitters) (O : List ℕ) (c : ℕ) 
   pub choice-room : RoundRoom x U B b E keys s → length (candidates (framesOf x) E′ (atomsOf x) U′ C (numbers (atomsOf x)) (tallyAt keys s) none .next .memo) ≤ length keys
   choice-room r = rw e (subst (λ (st : State). length (roundTally x st b E keys s .memo) ≤ length keys) (w .is (r .steps)) (r .room))
 
-  pub chooses : (how : Sampled) (keys′ : List ℕ) (valued′ : List Bool) (values′ : List Float) (best : Best) → Chose (framesOf x) how keys′ valued′ values′ best (candidates (framesOf x) E′ (atomsOf x) U′ C (numbers (atomsOf x)) (tallyAt keys s) none)
-      → Chooses x how U B b E O c keys s U′ C E′ P keys′ valued′ values′ (record { count = d; best = best })
-  chooses how keys′ valued′ values′ best k = record { went = w; emitters = e; chose = k }
+  pub chooses : (how : Sampled) (keys′ : List ℕ) (valued′ : List Bool) (values′ costs′ : List Float) (best : Best) (n : ℕ) → n ≡ length (atomsOf x) → Chose (framesOf x) how keys′ valued′ values′ best (candidates (framesOf x) E′ (atomsOf x) U′ C (numbers (atomsOf x)) (tallyAt keys s) none)
+      → take n costs′ ≡ offers (framesOf x) E′ (atomsOf x) U′ C (numbers (atomsOf x)) (tallyAt keys s) → Chooses x how U B b E O c keys s U′ C E′ P keys′ valued′ values′ costs′ (record { count = d; best = best })
+  chooses how keys′ valued′ values′ costs′ best n a k o = record { went = w; emitters = e; chose = k; costs = ap (λ (k : ℕ). take k costs′) (sym a) ∙ o }
 
 -- ---- the atom chosen
 

@@ -2,8 +2,8 @@
 ghost use mathlib.Core.Path.{_≡_};
 ghost use mathlib.Core.Option.{none};
 ghost use mathlib.Core.List.{map};
-ghost use Prim.Native.Nat.{ℕ, _+_, _<_, _≤_};
-ghost use lib.ListN.{length, getD};
+ghost use Prim.Native.Nat.{_+_, _<_, _≤_};
+ghost use lib.ListN.{length, set, take};
 ghost use Rattle.hex.specs.Digits.{bytesOf};
 ghost use Rattle.frames.specs.First.{framesOf};
 ghost use Rattle.reading.specs.Index.{Indexed};
@@ -16,7 +16,9 @@ ghost use Rattle.lowering.specs.Eager.{Located, atomsOf};
 ghost use Rattle.pricing.specs.Prices.{Row, Priced};
 ghost use Rattle.pricing.specs.Remembering.{Samples, Remembers};
 ghost use Rattle.scheduling.specs.Choosing.{bidOf, considered, candidates, Chose, betterOf};
+ghost use Rattle.scheduling.specs.Offers.{offer, offers};
 use cost::memo::Tallies;
+use frames::fields::wide;
 use lowering::atom::scans;
 use lowering::eager::atom_line;
 use lowering::sets::is_set;
@@ -60,7 +62,10 @@ fn better(i: u8, c: Costed, b: Best) -> Best
     }
 }
 
-// Atom number i, by its line, against the best so far.
+// What stands for an atom that is no candidate: a cost is never below 0.
+const NO_CANDIDATE: f64 = -1.0;
+
+// Atom number i, by its line, against the best so far; its cost is written.
 fn consider(
     text: &[u8],
     index: &[u32],
@@ -75,6 +80,7 @@ fn consider(
     valued: &mut [bool],
     values: &mut [f64],
     draws: &mut [f64],
+    costs: &mut [f64],
     b: Best,
 ) -> Best
     requires { ⌜ AtomLine (bytesOf (now line)) ⌝ }
@@ -83,12 +89,17 @@ fn consider(
     requires { ⌜ length (considered (framesOf (now text)) (map decode (now em)) (now used) (now bound) i (atomOfFrame (bytesOf (now line))) (tallyAt (now keys) (b .tallies)) (bidOf (b .found) (b .who) (b .price)) .next .memo) ≤ length (now keys) ⌝ }
     requires { ⌜ Indexed (now text) (now index) ⌝ }
     requires { ⌜ Row (framesOf (now text)) (bytesOf (now line)) i (now row) ⌝ }
+    requires { ⌜ i < length (now costs) ⌝ }
     ensures { λ r. ⌜ Chose (framesOf (now (text .entry))) how (now (keys .exit)) (now (valued .exit)) (now (values .exit)) r (considered (framesOf (now (text .entry))) (map decode (now (em .entry))) (now (used .entry)) (now (bound .entry)) i (atomOfFrame (bytesOf (now (line .entry)))) (tallyAt (now (keys .entry)) (b .tallies)) (bidOf (b .found) (b .who) (b .price))) ⌝ }
+    ensures { λ _. ⌜ now (costs .exit) ≡ set (now (costs .entry)) i (offer (framesOf (now (text .entry))) (map decode (now (em .entry))) (now (used .entry)) (now (bound .entry)) i (atomOfFrame (bytesOf (now (line .entry)))) (tallyAt (now (keys .entry)) (b .tallies))) ⌝ }
 {
+    let at = wide(i);
     if is_set(used, i) {
+        costs[at] = NO_CANDIDATE;
         return b;
     }
     if !scans(line) {
+        costs[at] = NO_CANDIDATE;
         return b;
     }
     let s = b.tallies;
@@ -107,6 +118,7 @@ fn consider(
         draws,
         s,
     );
+    costs[at] = c.cost;
     better(i, c, b)
 }
 
@@ -117,7 +129,7 @@ fn narrow(i: usize) -> u8
     i as u8
 }
 
-// The cheapest of the n atoms, of those that are not used and scan.
+// The cheapest of the n atoms, of those that are not used and scan; the cost of each is written.
 pub fn cheapest(
     text: &[u8],
     index: &[u32],
@@ -132,6 +144,7 @@ pub fn cheapest(
     valued: &mut [bool],
     values: &mut [f64],
     draws: &mut [f64],
+    costs: &mut [f64],
     s: Tallies,
 ) -> Best
     requires { ⌜ Located (now text) (now from) n ⌝ }
@@ -140,7 +153,9 @@ pub fn cheapest(
     requires { ⌜ length (candidates (framesOf (now text)) (map decode (now em)) (atomsOf (now text)) (now used) (now bound) (numbers (atomsOf (now text))) (tallyAt (now keys) s) none .next .memo) ≤ length (now keys) ⌝ }
     requires { ⌜ Indexed (now text) (now index) ⌝ }
     requires { ⌜ Priced (now text) (now from) n (now prices) ⌝ }
+    requires { ⌜ n ≤ length (now costs) ⌝ }
     ensures { λ r. ⌜ Chose (framesOf (now (text .entry))) how (now (keys .exit)) (now (valued .exit)) (now (values .exit)) r (candidates (framesOf (now (text .entry))) (map decode (now (em .entry))) (atomsOf (now (text .entry))) (now (used .entry)) (now (bound .entry)) (numbers (atomsOf (now (text .entry)))) (tallyAt (now (keys .entry)) s) none) ⌝ }
+    ensures { λ _. ⌜ take n (now (costs .exit)) ≡ offers (framesOf (now (text .entry))) (map decode (now (em .entry))) (atomsOf (now (text .entry))) (now (used .entry)) (now (bound .entry)) (numbers (atomsOf (now (text .entry)))) (tallyAt (now (keys .entry)) s) ⌝ }
 {
     let mut b = Best {
         found: false,
@@ -168,6 +183,7 @@ pub fn cheapest(
             valued,
             values,
             draws,
+            costs,
             b,
         );
         i += 1;

@@ -3,23 +3,21 @@ ghost use mathlib.Core.Path.{_≡_};
 ghost use mathlib.Core.Bool.{true, false};
 ghost use mathlib.Core.Option.{none};
 ghost use mathlib.Core.List.{map};
-ghost use Prim.Native.Nat.{ℕ, _+_, _<_, _≤_};
-ghost use lib.ListN.{length, getD};
+ghost use Prim.Native.Nat.{suc, _+_, _<_, _≤_};
+ghost use lib.ListN.{length};
 ghost use Rattle.hex.specs.Digits.{bytesOf};
 ghost use Rattle.frames.specs.First.{framesOf};
 ghost use Rattle.reading.specs.Index.{Indexed};
 ghost use Rattle.model.specs.Bound.{has, most};
-ghost use Rattle.model.specs.Scheduling.{scans, numbers, atomOf};
+ghost use Rattle.model.specs.Scheduling.{scans, atomOf, unplanned};
 ghost use Rattle.cost.specs.QueryAtoms.{atomOfFrame};
-ghost use Rattle.cost.specs.Emitters.{decode, recordEmitters};
-ghost use Rattle.cost.specs.Memo.{tallyAt};
-ghost use Rattle.cost.specs.Choice.{remembered};
+ghost use Rattle.cost.specs.Emitters.{decode};
+ghost use Rattle.cost.specs.Choice.{fresh, memoryLoop};
 ghost use Rattle.lowering.specs.AtomLines.{AtomLine};
 ghost use Rattle.lowering.specs.Eager.{Located, Ready, atomsOf};
 ghost use Rattle.pricing.specs.Prices.{Priced};
 ghost use Rattle.pricing.specs.Remembering.{Samples, Remembers};
-ghost use Rattle.scheduling.specs.Choosing.{candidates};
-ghost use Rattle.scheduling.specs.Rounds.{Takes, Chooses, TakesNext, RoundRoom, Unplanned, Scheduling};
+ghost use Rattle.scheduling.specs.Rounds.{Takes, Chooses, TakesNext, RoundRoom, Unplanned, Rounded};
 use super::choose::Best;
 use super::choose::cheapest;
 use cost::memo::Tallies;
@@ -38,14 +36,16 @@ pub struct Round {
     pub best: Best,
 }
 
-// How many atoms are lowered, and the tallies.
+// How many atoms are lowered, the tallies, and the atom chosen in the last round, if one was found.
 pub struct Scheduled {
     pub count: usize,
     pub tallied: usize,
     pub rejected: usize,
+    pub found: bool,
+    pub who: u8,
 }
 
-// An eager round, the emitters of what it lowered, and the choice behind it.
+// An eager round, the emitters of what it lowered, and the choice behind it with its costs.
 fn choose_next(
     text: &[u8],
     index: &[u32],
@@ -63,6 +63,7 @@ fn choose_next(
     valued: &mut [bool],
     values: &mut [f64],
     draws: &mut [f64],
+    costs: &mut [f64],
     s: Tallies,
 ) -> Round
     requires { ⌜ Located (now text) (now from) n ⌝ }
@@ -73,7 +74,8 @@ fn choose_next(
     requires { ⌜ RoundRoom (now text) (now used) (now bound) (now before) (map decode (now em)) (now keys) s ⌝ }
     requires { ⌜ Indexed (now text) (now index) ⌝ }
     requires { ⌜ Priced (now text) (now from) n (now prices) ⌝ }
-    ensures { λ r. ⌜ Chooses (now (text .entry)) how (now (used .entry)) (now (bound .entry)) (now (before .entry)) (map decode (now (em .entry))) (now (order .entry)) count (now (keys .entry)) s (now (used .exit)) (now (bound .exit)) (map decode (now (em .exit))) (now (order .exit)) (now (keys .exit)) (now (valued .exit)) (now (values .exit)) r ⌝ }
+    requires { ⌜ n ≤ length (now costs) ⌝ }
+    ensures { λ r. ⌜ Chooses (now (text .entry)) how (now (used .entry)) (now (bound .entry)) (now (before .entry)) (map decode (now (em .entry))) (now (order .entry)) count (now (keys .entry)) s (now (used .exit)) (now (bound .exit)) (map decode (now (em .exit))) (now (order .exit)) (now (keys .exit)) (now (valued .exit)) (now (values .exit)) (now (costs .exit)) r ⌝ }
 {
     let c = lower_eager(text, from, n, used, bound, order, count);
     record_emitters(em, text, from, n, before, used);
@@ -91,6 +93,7 @@ fn choose_next(
         valued,
         values,
         draws,
+        costs,
         s,
     );
     Round { count: c, best }
@@ -160,17 +163,21 @@ fn take_next(
     c
 }
 
-fn ended(count: usize, s: Tallies) -> Scheduled
-    ensures { λ r. ⌜ r ≡ record { count = count; tallied = s .tallied; rejected = s .rejected } ⌝ }
+fn ended(count: usize, b: Best) -> Scheduled
+    ensures { λ r. ⌜ r ≡ record { count = count; tallied = b .tallies .tallied; rejected = b .tallies .rejected; found = b .found; who = b .who } ⌝ }
 {
+    let s = b.tallies;
     Scheduled {
         count,
         tallied: s.tallied,
         rejected: s.rejected,
+        found: b.found,
+        who: b.who,
     }
 }
 
-// The order in which the atoms are lowered, by an eager round and the cheapest atom in turn, until no atom is left to choose.
+// The order in which the atoms are lowered, by an eager round and the cheapest atom in turn, until no atom is left to choose, or behind
+// `last` rounds and one more; the costs of the last one.
 pub fn schedule(
     text: &[u8],
     index: &[u32],
@@ -187,16 +194,19 @@ pub fn schedule(
     valued: &mut [bool],
     values: &mut [f64],
     draws: &mut [f64],
+    last: usize,
+    costs: &mut [f64],
 ) -> Scheduled
     requires { ⌜ Located (now text) (now from) n ⌝ }
     requires { ⌜ Unplanned (now used) (now bound) (now before) (now em) ⌝ }
     requires { ⌜ length (now order) ≡ most ⌝ }
     requires { ⌜ Samples (framesOf (now text)) how (now draws) ⌝ }
     requires { ⌜ (length (now valued) ≡ length (now keys)) × ((length (now values) ≡ length (now keys)) × (length (now keys) ≤ 1024)) ⌝ }
-    requires { ⌜ length (remembered (framesOf (now text)) (atomsOf (now text)) .tally .memo) ≤ length (now keys) ⌝ }
+    requires { ⌜ length (memoryLoop (framesOf (now text)) (atomsOf (now text)) (suc last) fresh unplanned .tally .memo) ≤ length (now keys) ⌝ }
     requires { ⌜ Indexed (now text) (now index) ⌝ }
     requires { ⌜ Priced (now text) (now from) n (now prices) ⌝ }
-    ensures { λ r. ⌜ Scheduling (now (text .entry)) (now (order .exit)) r ⌝ }
+    requires { ⌜ length (now costs) ≡ most ⌝ }
+    ensures { λ r. ⌜ Rounded (now (text .entry)) (now (order .exit)) last (now (costs .exit)) r ⌝ }
 {
     let mut count: usize = 0;
     let mut s = Tallies {
@@ -204,9 +214,8 @@ pub fn schedule(
         tallied: 0,
         rejected: 0,
     };
-    let mut left = n + 1;
-    while 0 < left {
-        left -= 1;
+    let mut left = last;
+    loop {
         let r = choose_next(
             text,
             index,
@@ -224,15 +233,19 @@ pub fn schedule(
             valued,
             values,
             draws,
+            costs,
             s,
         );
         count = r.count;
         let b = r.best;
         s = b.tallies;
         if !b.found {
-            return ended(count, s);
+            return ended(count, b);
         }
         count = take_next(text, from, n, b.who, used, bound, before, em, order, count);
+        if left == 0 {
+            return ended(count, b);
+        }
+        left -= 1;
     }
-    ended(count, s)
 }

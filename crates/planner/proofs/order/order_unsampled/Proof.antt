@@ -31,10 +31,13 @@ slice-aggregate-schedule-8 : tie.Need-slice-aggregate-schedule-8
 slice-aggregate-schedule-8 c = search needs
 
 schedule-requires : tie.Need-schedule-requires
-schedule-requires c κs = (c .before .before .before .before .before .before .before .before .before .before .before .before .before .before .pre .0, (all-unplanned, (c .before .before .before .before .before .before .before .before .before .before .before .before .before .before .pre .1 .0, (samples-nothing _ _ (c .before .before .before .before .before .before .before .before .before .before .before .before .before .before .pre .1 .1 .0), ((refl, (refl, omega arith)), (remembers-nothing _ (c .before .before .before .before .before .before .before .before .before .before .before .before .before .before .pre .1 .1 .0), (c .before .before .before .before .before .before .before .before .before .before .before .before .before .before .pre .1 .1 .1 .0, c .before .before .before .before .before .before .before .before .before .before .before .before .before .before .pre .1 .1 .1 .1)))))))
+schedule-requires c κs = (c .before .before .before .before .before .before .before .before .before .before .before .before .before .before .before .before .pre .0, (all-unplanned, (c .before .before .before .before .before .before .before .before .before .before .before .before .before .before .before .before .pre .1 .0, (samples-nothing _ _ (c .before .before .before .before .before .before .before .before .before .before .before .before .before .before .before .before .pre .1 .1 .1 .0), ((refl, (refl, omega arith)), (remembers-nothing _ _ (c .before .before .before .before .before .before .before .before .before .before .before .before .before .before .before .before .pre .1 .1 .1 .0), (c .before .before .before .before .before .before .before .before .before .before .before .before .before .before .before .before .pre .1 .1 .1 .1 .0, (c .before .before .before .before .before .before .before .before .before .before .before .before .before .before .before .before .pre .1 .1 .1 .1 .1, c .before .before .before .before .before .before .before .before .before .before .before .before .before .before .before .before .pre .1 .1 .0))))))))
 
 same-length : tie.Need-same-length
 same-length c = search needs
+
+same-length-2 : tie.Need-same-length-2
+same-length-2 c = search needs
 
 returns : tie.Need-returns
 returns c = search needs
@@ -53,4 +56,5 @@ order-unsampled-spec =
     slice-aggregate-schedule-8
     schedule-requires
     same-length
+    same-length-2
     returns)

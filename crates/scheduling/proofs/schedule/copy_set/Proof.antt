@@ -2,7 +2,7 @@
 use borrow.Author.Needs.{needs}
 use Prim.Native.Nat.{_-_}
 use lib.ListN.{length}
-use Rattle.scheduling.proofs.RoundLaws.{Copying, copying-none, copy-room, copying-again, copied}
+use Rattle.scheduling.proofs.RoundLaws.{Copying, copying-none, copying-again, copied}
 use Rattle.scheduling.proofs.schedule.copy_set.Statement.{statement}
 use Rattle.scheduling.proofs.schedule.copy_set.Tie as tie
 

@@ -1,0 +1,89 @@
+// The costs of a round, for whoever asks how the order came about.
+ghost use mathlib.Core.Path.{_≡_};
+ghost use mathlib.Core.List.{map};
+ghost use Prim.Native.Nat.{_≤_};
+ghost use lib.ListN.{length, getD, take};
+ghost use Rattle.frames.specs.First.{framesOf};
+ghost use Rattle.reading.specs.Index.{Indexed};
+ghost use Rattle.lowering.specs.Eager.{atomsOf};
+ghost use Rattle.scheduling.specs.Offers.{roundOf};
+ghost use Rattle.planner.specs.Entry.{Accepts};
+ghost use Rattle.planner.specs.Costs.{noBits, costBits, bitsIn, told, resultOf, roundCosts};
+use super::order::find_order;
+use frames::first::Reading;
+use frames::first::Text;
+use lowering::places::atom_places;
+use reading::second::read_indexed;
+use sqrt::bits_of;
+
+pub enum RoundCosts {
+    // the atom chosen
+    Chosen(u8),
+    // no atom is a candidate
+    Ended,
+    // number and line; the text is the query
+    Refused(u8, usize),
+}
+
+const NO_BITS: u64 = 0xffff_ffff_ffff_ffff;
+
+fn cost_bits(cost: f64) -> u64
+    ensures { λ r. ⌜ r ≡ costBits cost ⌝ }
+{
+    if cost < 0.0 {
+        return NO_BITS;
+    }
+    bits_of(cost)
+}
+
+// The bits of number i of the first n costs.
+fn bits_at(costs: &[f64], n: usize, i: usize) -> u64
+    requires { ⌜ n ≤ length (now costs) ⌝ }
+    ensures { λ r. ⌜ r ≡ getD (map costBits (take n (now (costs .entry)))) i noBits ⌝ }
+{
+    if n <= i {
+        return NO_BITS;
+    }
+    cost_bits(costs[i])
+}
+
+// The bits of the first n costs, as far as the array is long.
+fn put_costs(costs: &[f64], n: usize, out: &mut [u64])
+    requires { ⌜ n ≤ length (now costs) ⌝ }
+    ensures { λ _. ⌜ now (out .exit) ≡ bitsIn (take n (now (costs .entry))) (length (now (out .entry))) ⌝ }
+{
+    let mut i: usize = 0;
+    while i < out.len() {
+        out[i] = bits_at(costs, n, i);
+        i += 1;
+    }
+}
+
+fn costs_accepted(text: &[u8], index: &[u32], round: usize, out: &mut [u64]) -> RoundCosts
+    requires { ⌜ Accepts (now text) ⌝ }
+    requires { ⌜ Indexed (now text) (now index) ⌝ }
+    ensures { λ r. ⌜ resultOf r (now (out .exit)) ≡ told (roundOf (framesOf (now (text .entry))) (atomsOf (now (text .entry))) round) (now (out .entry)) ⌝ }
+{
+    let mut from = [0usize; 64];
+    let n = atom_places(text, &mut from);
+    let mut order = [0u8; 64];
+    let mut costs = [0.0; 64];
+    let s = find_order(text, index, &from, n, &mut order, round, &mut costs);
+    if !s.found {
+        put_costs(&costs, 0, out);
+        return RoundCosts::Ended;
+    }
+    put_costs(&costs, n, out);
+    RoundCosts::Chosen(s.who)
+}
+
+// The costs of round number `round` of a query, as bits: all ones for an atom that is no candidate, and past the atoms.
+pub fn round_costs(text: &[u8], round: usize, costs: &mut [u64]) -> RoundCosts
+    ensures { λ r. ⌜ resultOf r (now (costs .exit)) ≡ roundCosts (now (text .entry)) round (now (costs .entry)) ⌝ }
+{
+    let mut index = [0u32; 19240];
+    match read_indexed(Text::Query, text, &mut index) {
+        Reading::Refused(k, line) => RoundCosts::Refused(k, line),
+        Reading::Accepted(_, _) => costs_accepted(text, &index, round, costs),
+    }
+}
