@@ -1,0 +1,38 @@
+// Explains the plan text on standard input, each step in words. A query text is planned first, and for each round the candidates are shown with
+// their costs. A refused text is explained by its number and line.
+ghost use mathlib.Core.Path.{_≡_};
+ghost use lib.ListN.{length};
+
+mod accepted;
+mod costs;
+mod planned;
+mod refusals;
+mod steps;
+mod words;
+
+use accepted::explain_plan;
+use hex::byte_at;
+use hex::reader::line_from;
+use planned::explain_query;
+
+// One byte more than a text may have, so that a longer text is seen to be too long.
+fn text_room() -> [u8; 65537]
+    ensures { λ r. ⌜ 65537 ≡ length r ⌝ }
+{
+    [0; 65537]
+}
+
+// A text is taken for a plan by its first byte.
+fn explain(text: &[u8]) {
+    if byte_at(line_from(text, 0), 0) == 0x3f {
+        explain_plan(text);
+        return;
+    }
+    explain_query(text);
+}
+
+fn main() {
+    let mut text = text_room();
+    let n = io::read_full(0, &mut text);
+    explain(&text[..n]);
+}

@@ -1,0 +1,84 @@
+// A query text, planned, in words: its rounds, then its plan.
+ghost use mathlib.Core.Path.{_≡_};
+ghost use lib.ListN.{length};
+use super::accepted::say_lines;
+use super::costs::say_cost;
+use super::refusals::say_refusal;
+use super::words::say;
+use super::words::say_number;
+use frames::fields::wide;
+use planner::entry::Planned;
+use planner::entry::plan;
+use planner::rounds::RoundCosts;
+use planner::rounds::round_costs;
+
+// The longest plan has 20,565 bytes.
+fn plan_room() -> [u8; 20565]
+    ensures { λ r. ⌜ 20565 ≡ length r ⌝ }
+{
+    [0; 20565]
+}
+
+// A candidate; all ones stand for an atom that is none.
+fn say_candidate(atom: usize, bits: u64) {
+    if bits == 0xffff_ffff_ffff_ffff {
+        return;
+    }
+    say(b"  atom ");
+    say_number(atom);
+    say(b" costs ");
+    say_cost(bits);
+    say(b"\n");
+}
+
+fn say_candidates(costs: &[u64]) {
+    let mut i: usize = 0;
+    while i < costs.len() {
+        say_candidate(i, costs[i]);
+        i += 1;
+    }
+}
+
+// A round of the text: its candidates with their costs, and the atom chosen. Whether there is such a round.
+fn say_round(text: &[u8], round: usize) -> bool {
+    let mut costs = [0u64; 64];
+    match round_costs(text, round, &mut costs) {
+        RoundCosts::Refused(_, _) => false,
+        RoundCosts::Ended => false,
+        RoundCosts::Chosen(atom) => {
+            say(b"round ");
+            say_number(round);
+            say(b" takes atom ");
+            say_number(wide(atom));
+            say(b" of\n");
+            say_candidates(&costs);
+            true
+        }
+    }
+}
+
+// The rounds of a text: at most one an atom.
+fn say_rounds(text: &[u8]) {
+    let mut round: usize = 0;
+    while round < 64 {
+        if !say_round(text, round) {
+            return;
+        }
+        round += 1;
+    }
+}
+
+fn say_plan(text: &[u8], out: &[u8], n: usize) {
+    if n <= out.len() {
+        say_rounds(text);
+        say_lines(&out[..n]);
+    }
+}
+
+pub fn explain_query(text: &[u8]) {
+    let mut out = plan_room();
+    match plan(text, &mut out) {
+        Planned::Refused(number, line) => say_refusal(number, line, b"query"),
+        Planned::Written(n, _, _, _) => say_plan(text, &out, n),
+    }
+}
