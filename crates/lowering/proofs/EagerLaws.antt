@@ -22,7 +22,7 @@ use Rattle.model.specs.Scheduling.{State, isFree, unlowered, tryAt, eagerPass, 
 use Rattle.model.specs.Scheduled.{unlowered-lt, lower-eager-is}
 use Rattle.cost.specs.QueryAtoms.{atomOfFrame}
 use Rattle.lowering.specs.AtomLines.{AtomLine, lowers, boundBehind, Lowers}
-use Rattle.lowering.specs.Eager.{state, Went, Tries, atomsOf, Located, Ready, Passed, LoweredEager}
+use Rattle.lowering.specs.Eager.{state, Went, Tries, atomsOf, Lined, Located, Ready, Passed, LoweredEager}
 use Rattle.lowering.proofs.SetLaws.{add-size}
 use Rattle.lowering.proofs.OperandLaws.{is-true, is-false}
 
@@ -180,10 +180,10 @@ module _ (x from : List ℕ) (n : ℕ) (U₀ B₀ : Bound) (O₀ : List ℕ) (c�
     one-more : take (i + 1) (numbers (atomsOf x)) ≡ take i (numbers (atomsOf x)) ++ i ∷ []
     one-more = rw (add-one i, take-suc (numbers (atomsOf x)) i 0 within, number)
 
-    pub place-sized : i < length from
+    pub place-sized : i + most < length from
     place-sized = omega (arith, z .size)
 
-    pub place-within : getD from i 0 ≤ length x
+    pub place-within : Lined x from i
     place-within = z .within i h
 
     module _ (l : List ℕ) (v : ℕ) (line : l ≡ lineAt x (getD from i 0)) (narrow : v ≡ i) where

@@ -1,4 +1,6 @@
--- `lowering::eager::atom_line` meets its contract: the search for the line's end.
+-- `lowering::eager::atom_line` meets its contract: from its beginning to its end.
+use denote.Ref.{now}
+use mathlib.Core.Path.{refl}
 use Rattle.lowering.proofs.EagerLaws.{end-from, line-is}
 use borrow.Author.Needs.{needs}
 use Rattle.lowering.proofs.eager.atom_line.Statement.{statement}
@@ -10,20 +12,26 @@ mul-at c = search needs
 shared-slice-read-at : tie.Need-shared-slice-read-at
 shared-slice-read-at c = search needs
 
-line-end-requires : tie.Need-line-end-requires
-line-end-requires c κs = search needs
+add-end : tie.Need-add-end
+add-end c = search needs
+
+mul-end : tie.Need-mul-end
+mul-end c = search needs
+
+shared-slice-read-end : tie.Need-shared-slice-read-end
+shared-slice-read-end c = search needs
 
 sub-result : tie.Need-sub-result
-sub-result c = search end-from
+sub-result c = end-from _ _ _ (c .before .before .pre .1 .ends)
 
 part-result-start : tie.Need-part-result-start
-part-result-start c = search end-from
+part-result-start c = end-from _ _ _ (c .before .before .pre .1 .ends)
 
 part-result-end : tie.Need-part-result-end
-part-result-end c = search needs
+part-result-end c = c .before .before .pre .1 .within
 
 returns : tie.Need-returns
-returns c = search line-is
+returns c = line-is (now (c .before .before .before .args .text)) (now (c .before .before .before .args .from)) (c .before .before .before .args .k) _ _ refl (c .before .before .before .pre .1 .ends)
 
 pub atom-line-spec : {M : Type 1} → statement M
 atom-line-spec =
@@ -31,7 +39,9 @@ atom-line-spec =
     (tie.spec
     mul-at
     shared-slice-read-at
-    line-end-requires
+    add-end
+    mul-end
+    shared-slice-read-end
     sub-result
     part-result-start
     part-result-end
