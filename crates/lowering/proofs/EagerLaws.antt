@@ -1,5 +1,5 @@
 -- An eager pass, atom by atom. Proved by what each try does, and by composition.
-use Prim.Native.Nat.{ℕ, _+_, _<_, _≤_}
+use Prim.Native.Nat.{ℕ, _+_, _-_, _<_, _≤_}
 use mathlib.Core.Path.{_≡_, refl, sym, _∙_, ap, subst}
 use mathlib.Core.Bool.{Bool, true, false, not}
 use mathlib.Core.Option.{Option, none, some}
@@ -11,9 +11,9 @@ use lib.Dec.{T, eqb}
 use borrow.Author.Tests.{eq-eqb, ne-eqb, eqb-true, eqb-false}
 use Rattle.base.specs.Choose.{pick}
 use Rattle.hex.specs.Digits.{bytesOf}
-use lib.ListN.{length, getD, take, set, length-set, length-append}
+use lib.ListN.{length, getD, take, drop, set, length-set, length-append}
 use lib.Seq.{take-suc, take-suc-set, take-length}
-use Rattle.hex.specs.Lines.{lineAt}
+use Rattle.hex.specs.Lines.{endOf, lineAt}
 use Rattle.model.specs.Atoms.{Atom, Step}
 use Rattle.model.specs.Tabulate.{tabulate-at, tabulate-length, mem-tabulate}
 use Rattle.model.specs.Bound.{Bound, has, add, addAll, most}
@@ -22,7 +22,7 @@ use Rattle.model.specs.Scheduling.{State, isFree, unlowered, tryAt, eagerPass, 
 use Rattle.model.specs.Scheduled.{unlowered-lt, lower-eager-is}
 use Rattle.cost.specs.QueryAtoms.{atomOfFrame}
 use Rattle.lowering.specs.AtomLines.{AtomLine, lowers, boundBehind, Lowers}
-use Rattle.lowering.specs.Eager.{state, Went, Tries, atomsOf, Located, Ready, Passed, LoweredEager}
+use Rattle.lowering.specs.Eager.{state, Went, Tries, atomsOf, Lined, Located, Ready, Passed, LoweredEager}
 use Rattle.lowering.proofs.SetLaws.{add-size}
 use Rattle.lowering.proofs.OperandLaws.{is-true, is-false}
 
@@ -130,6 +130,11 @@ module _ (f : List ℕ) (i : ℕ) (U B : Bound) (O : List ℕ) (c : ℕ) (t : Bo
 pub has-room : (i : ℕ) (U : Bound) (O : List ℕ) (c : ℕ) (t : Bool) → t ≡ has U i → t ≡ false → (has U i ≡ false → c < length O) → c < length O
 has-room i U O c t is h room = room (sym is ∙ h)
 
+-- ---- the line of an atom
+
+pub line-is : (x from : List ℕ) (k at e : ℕ) → at ≡ getD from k 0 → e ≡ endOf at (drop at x) → take (e - at) (drop at x) ≡ lineAt x (getD from k 0)
+line-is x from k at e p q = rw (← p, q)
+
 -- ---- a pass
 
 -- i atoms are tried
@@ -164,10 +169,10 @@ module _ (x from : List ℕ) (n : ℕ) (U₀ B₀ : Bound) (O₀ : List ℕ) (c�
     one-more : take (i + 1) (numbers (atomsOf x)) ≡ take i (numbers (atomsOf x)) ++ i ∷ []
     one-more = rw (add-one i, take-suc (numbers (atomsOf x)) i 0 within, number)
 
-    pub place-sized : i < length from
+    pub place-sized : i + most < length from
     place-sized = omega (arith, z .size)
 
-    pub place-within : getD from i 0 ≤ length x
+    pub place-within : Lined x from i
     place-within = z .within i h
 
     module _ (l : List ℕ) (v : ℕ) (line : l ≡ lineAt x (getD from i 0)) (narrow : v ≡ i) where

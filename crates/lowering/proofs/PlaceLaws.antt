@@ -15,25 +15,27 @@ use Rattle.hex.specs.Lines.{endOf, lineAt}
 use Rattle.hex.specs.Cuts.{Line}
 use Rattle.frames.specs.First.{framesOf, isAtom}
 use Rattle.reading.specs.Walk.{walk-line, frames-step, frames-none, frames-end}
+use Rattle.model.specs.Bound.{most}
 use Rattle.cost.specs.QueryAtoms.{atomFrames}
+use Rattle.lowering.specs.Eager.{Lined}
 use Rattle.lowering.specs.Places.{Places, Noted}
 
 -- ---- one line
 
-module _ (f : List ℕ) (at : ℕ) (F : List ℕ) (n k : ℕ) (is : k ≡ getD f 0 0) where
-  pub noted-header : k ≡ 0 → Noted f at F n F n
+module _ (f : List ℕ) (at end : ℕ) (F : List ℕ) (n k : ℕ) (is : k ≡ getD f 0 0) where
+  pub noted-header : k ≡ 0 → Noted f at end F n F n
   noted-header h = record { places = rw (← is, h); count = rw (← is, h) }
 
-  pub noted-other : 14 < k → Noted f at F n F n
+  pub noted-other : 14 < k → Noted f at end F n F n
   noted-other h = let a : 1 ≤ k = omega arith in record { places = rw (← is, le-leb 1 k a, lt-leb k 14 h); count = rw (← is, le-leb 1 k a, lt-leb k 14 h) }
 
   is-atom : (k ≡ 0 → ⊥) → k ≤ 14 → isAtom (getD f 0 0) ≡ true
   is-atom z h = let a : 1 ≤ k = omega arith in rw (← is, le-leb 1 k a, le-leb k 14 h)
 
-  pub noted-atom : (k ≡ 0 → ⊥) → k ≤ 14 → Noted f at F n (set F n at) (n + 1)
+  pub noted-atom : (k ≡ 0 → ⊥) → k ≤ 14 → Noted f at end F n (set (set F n at) (n + most) end) (n + 1)
   noted-atom z h = record { places = rw (is-atom z h); count = rw (is-atom z h) }
 
-  pub noted-room : (k ≡ 0 → ⊥) → k ≤ 14 → (isAtom (getD f 0 0) ≡ true → n < length F) → n < length F
+  pub noted-room : (k ≡ 0 → ⊥) → k ≤ 14 → (isAtom (getD f 0 0) ≡ true → n + most < length F) → n + most < length F
   noted-room z h r = r (is-atom z h)
 
 -- ---- the lines in turn
@@ -50,13 +52,13 @@ pub record Placing (x F₀ F : List ℕ) (at n : ℕ) : Type 0 where
   pub few : n ≤ length (atomFrames (framesOf x))
   pub size : length F ≡ length F₀
   pub rest : drop n (atomFrames (framesOf x)) ≡ atomFrames (framesOf (drop at x))
-  pub within : (k : ℕ) → k < n → getD F k 0 ≤ length x
+  pub within : (k : ℕ) → k < n → Lined x F k
   pub is : (k : ℕ) → k < n → bytesOf (lineAt x (getD F k 0)) ≡ getD (atomFrames (framesOf x)) k []
 
 pub placing-none : (x F : List ℕ) → Placing x F F 0 0
 placing-none x F = record { from = omega arith; few = omega arith; size = refl; rest = refl; within = λ k h. absurd (omega arith); is = λ k h. absurd (omega arith) }
 
-module _ (x F₀ F : List ℕ) (at n : ℕ) (p : Placing x F₀ F at n) (room : length (atomFrames (framesOf x)) ≤ length F₀) where
+module _ (x F₀ F : List ℕ) (at n : ℕ) (p : Placing x F₀ F at n) (atoms : length (atomFrames (framesOf x)) ≤ most) (room : length F₀ ≡ most + most) where
   ended : framesOf (drop at x) ≡ [] → Places x F n
   unfolding atomFrames
   ended e =
@@ -91,20 +93,20 @@ module _ (x F₀ F : List ℕ) (at n : ℕ) (p : Placing x F₀ F at n) (room : 
       unfolding atomFrames
       ahead = p .rest ∙ rw (frames-step x at e line)
 
-      pub place-room : (isAtom (getD (bytesOf (take (e - at) (drop at x))) 0 0) ≡ true → n < length F)
+      pub place-room : (isAtom (getD (bytesOf (take (e - at) (drop at x))) 0 0) ≡ true → n + most < length F)
       place-room t =
           let l : length (drop n (atomFrames (framesOf x))) ≡ suc (length (atomFrames (framesOf (drop (e + 1) x)))) = ap length (rw t at ahead) in
           omega (arith, length-drop n (atomFrames (framesOf x)), p .size)
 
-      pub placing-again : (G : List ℕ) (m : ℕ) → Noted (bytesOf (take (e - at) (drop at x))) at F n G m → Placing x F₀ G (e + 1) m
+      pub placing-again : (G : List ℕ) (m : ℕ) → Noted (bytesOf (take (e - at) (drop at x))) at e F n G m → Placing x F₀ G (e + 1) m
       placing-again G m w = by (isAtom (getD frame 0 0)) refl (w .places) (w .count) ahead
         where
-          by : (t : Bool) → isAtom (getD frame 0 0) ≡ t → G ≡ pick t (set F n at) F → m ≡ pick t (n + 1) n → drop n (atomFrames (framesOf x)) ≡ pick t (frame ∷ atomFrames (framesOf (drop (e + 1) x))) (atomFrames (framesOf (drop (e + 1) x))) → Placing x F₀ G (e + 1) m
+          by : (t : Bool) → isAtom (getD frame 0 0) ≡ t → G ≡ pick t (set (set F n at) (n + most) e) F → m ≡ pick t (n + 1) n → drop n (atomFrames (framesOf x)) ≡ pick t (frame ∷ atomFrames (framesOf (drop (e + 1) x))) (atomFrames (framesOf (drop (e + 1) x))) → Placing x F₀ G (e + 1) m
           by false t g c d = rw (g, c) (record { from = omega (arith, line .within); few = p .few; size = p .size; rest = d; within = p .within; is = p .is })
           by true t g c d = rw (g, c) (record {
             from = omega (arith, line .within);
             few = omega (arith, below);
-            size = length-set F n at ∙ p .size;
+            size = length-set (set F n at) (n + most) e ∙ length-set F n at ∙ p .size;
             rest = rw (add-one n) tail;
             within = λ k l. within-at k l (ℕ-discrete k n);
             is = λ k l. is-at k l (ℕ-discrete k n);
@@ -122,13 +124,27 @@ module _ (x F₀ F : List ℕ) (at n : ℕ) (p : Placing x F₀ F at n) (room : 
               tail : drop (suc n) (atomFrames (framesOf x)) ≡ atomFrames (framesOf (drop (e + 1) x))
               tail = tails cons
 
-              at-n : getD (set F n at) n 0 ≡ at
-              at-n = getD-set-same F n at 0 (place-room t)
+              begins : (k : ℕ) → k < n + 1 → getD (set (set F n at) (n + most) e) k 0 ≡ getD (set F n at) k 0
+              begins k l = getD-set-other (set F n at) (n + most) k e 0 (λ i. omega arith)
 
-              within-at : (k : ℕ) → k < n + 1 → Dec (k ≡ n) → getD (set F n at) k 0 ≤ length x
-              within-at k l (yes i) = rw (i, at-n) (p .from)
-              within-at k l (no i) = rw (getD-set-other F n k at 0 i) (p .within k (omega arith))
+              at-n : getD (set (set F n at) (n + most) e) n 0 ≡ at
+              at-n = begins n (omega arith) ∙ getD-set-same F n at 0 (omega (arith, place-room t))
 
-              is-at : (k : ℕ) → k < n + 1 → Dec (k ≡ n) → bytesOf (lineAt x (getD (set F n at) k 0)) ≡ getD (atomFrames (framesOf x)) k []
+              at-other : (k : ℕ) → k < n + 1 → (k ≡ n → ⊥) → getD (set (set F n at) (n + most) e) k 0 ≡ getD F k 0
+              at-other k l i = begins k l ∙ getD-set-other F n k at 0 i
+
+              end-n : getD (set (set F n at) (n + most) e) (n + most) 0 ≡ e
+              end-n = getD-set-same (set F n at) (n + most) e 0 (omega (arith, place-room t, length-set F n at))
+
+              end-other : (k : ℕ) → k < n + 1 → (k ≡ n → ⊥) → getD (set (set F n at) (n + most) e) (k + most) 0 ≡ getD F (k + most) 0
+              end-other k l i = getD-set-other (set F n at) (n + most) (k + most) e 0 (λ j. i (omega arith)) ∙ getD-set-other F n (k + most) at 0 (λ j. omega (arith, below, atoms))
+
+              within-at : (k : ℕ) → k < n + 1 → Dec (k ≡ n) → Lined x (set (set F n at) (n + most) e) k
+              within-at k l (yes i) = rw i (record { within = rw end-n line-within; ends = rw (end-n, at-n) q })
+              within-at k l (no i) =
+                  let w = p .within k (omega arith) in
+                  record { within = rw (end-other k l i) (w .within); ends = rw (end-other k l i, at-other k l i) (w .ends) }
+
+              is-at : (k : ℕ) → k < n + 1 → Dec (k ≡ n) → bytesOf (lineAt x (getD (set (set F n at) (n + most) e) k 0)) ≡ getD (atomFrames (framesOf x)) k []
               is-at k l (yes i) = rw (i, at-n, ← q) (sym head)
-              is-at k l (no i) = rw (getD-set-other F n k at 0 i) (p .is k (omega arith))
+              is-at k l (no i) = rw (at-other k l i) (p .is k (omega arith))

@@ -2,9 +2,9 @@
 use Prim.Native.Nat.{ℕ, _+_, _-_, _<_, _≤_}
 use mathlib.Core.Path.{_≡_}
 use mathlib.Core.List.{List, [], _∷_, _++_, List·Memᴰ}
-use lib.ListN.{length, getD, take}
+use lib.ListN.{length, getD, take, drop}
 use Rattle.hex.specs.Digits.{bytesOf}
-use Rattle.hex.specs.Lines.{lineAt}
+use Rattle.hex.specs.Lines.{endOf, lineAt}
 use Rattle.frames.specs.First.{framesOf}
 use Rattle.model.specs.Atoms.{Atom, Step}
 use Rattle.model.specs.Bound.{Bound, addAll, most}
@@ -40,12 +40,17 @@ pub record Tries (f : List ℕ) (i : ℕ) (U B : Bound) (O : List ℕ) (c : ℕ)
 abbrev pub atomsOf : List ℕ → List Atom
 atomsOf x = atomsIn (framesOf x)
 
+-- `from` has the place where the line of atom k begins, and 64 places behind it the one where it ends
+pub record Lined (x from : List ℕ) (k : ℕ) : Type 0 where
+  pub within : getD from (k + most) 0 ≤ length x
+  pub ends : getD from (k + most) 0 ≡ endOf (getD from k 0) (drop (getD from k 0) x)
+
 -- the first n of `from` are where the atoms' lines begin
 pub record Located (x from : List ℕ) (n : ℕ) : Type 0 where
   pub count : n ≡ length (atomsOf x)
   pub few : n ≤ most
-  pub size : n ≤ length from
-  pub within : (k : ℕ) → k < n → getD from k 0 ≤ length x
+  pub size : n + most ≤ length from
+  pub within : (k : ℕ) → k < n → Lined x from k
   pub is : (k : ℕ) → k < n → atomOf (atomsOf x) k ≡ atomOfFrame (bytesOf (lineAt x (getD from k 0)))
   pub line : (k : ℕ) → k < n → AtomLine (bytesOf (lineAt x (getD from k 0)))
 

@@ -13,18 +13,18 @@ use Rattle.model.specs.Bound.{most}
 use Rattle.model.specs.Scheduling.{atomOf}
 use Rattle.cost.specs.QueryAtoms.{atomOfFrame, atomFrames, atomsIn}
 use Rattle.lowering.specs.AtomLines.{AtomLine}
-use Rattle.lowering.specs.Eager.{Located}
+use Rattle.lowering.specs.Eager.{Lined, Located}
 
 -- "Atoms are numbered from 0 by arrival": the first n of `from` are where their lines begin
 pub record Places (x from : List ℕ) (n : ℕ) : Type 0 where
   pub count : n ≡ length (atomFrames (framesOf x))
-  pub size : n ≤ length from
-  pub within : (k : ℕ) → k < n → getD from k 0 ≤ length x
+  pub size : n + most ≤ length from
+  pub within : (k : ℕ) → k < n → Lined x from k
   pub is : (k : ℕ) → k < n → bytesOf (lineAt x (getD from k 0)) ≡ getD (atomFrames (framesOf x)) k []
 
--- the n-th place is `at` where the line f is an atom's; else nothing changes
-pub record Noted (f : List ℕ) (at : ℕ) (from : List ℕ) (n : ℕ) (into : List ℕ) (m : ℕ) : Type 0 where
-  pub places : into ≡ pick (isAtom (getD f 0 0)) (set from n at) from
+-- the n-th place is `at`, and the n-th end is `end`, where the line f is an atom's; else nothing changes
+pub record Noted (f : List ℕ) (at end : ℕ) (from : List ℕ) (n : ℕ) (into : List ℕ) (m : ℕ) : Type 0 where
+  pub places : into ≡ pick (isAtom (getD f 0 0)) (set (set from n at) (n + most) end) from
   pub count : m ≡ pick (isAtom (getD f 0 0)) (n + 1) n
 
 -- as many frames as atoms, in the same order

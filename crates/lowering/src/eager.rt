@@ -1,18 +1,17 @@
 // Eager passes over the atoms of a text, each found by the place of its line.
 ghost use mathlib.Core.Path.{_≡_};
 ghost use mathlib.Core.Bool.{false};
-ghost use Prim.Native.Nat.{_+_, _<_, _≤_};
+ghost use Prim.Native.Nat.{_+_, _<_};
 ghost use lib.ListN.{length, getD};
 ghost use Rattle.hex.specs.Digits.{bytesOf};
 ghost use Rattle.hex.specs.Lines.{lineAt};
 ghost use Rattle.model.specs.Bound.{has, most};
 ghost use Rattle.lowering.specs.AtomLines.{AtomLine};
-ghost use Rattle.lowering.specs.Eager.{Tries, Located, Ready, Passed, LoweredEager};
+ghost use Rattle.lowering.specs.Eager.{Tries, Lined, Located, Ready, Passed, LoweredEager};
 use super::atom::is_free;
 use super::atom::lower_bound;
 use super::sets::is_set;
 use super::sets::set_bound;
-use hex::reader::line_from;
 
 // Takes atom i, by its line, where it is not lowered yet and an eager pass lowers it; c atoms were taken before. How many now are.
 fn try_at(
@@ -45,11 +44,13 @@ fn try_at(
 
 // The line of the k-th atom.
 pub fn atom_line<'a, 'b>(text: &'a [u8], from: &'b [usize], k: usize) -> &'a [u8]
-    requires { ⌜ k < length (now from) ⌝ }
-    requires { ⌜ getD (now from) k 0 ≤ length (now text) ⌝ }
+    requires { ⌜ k + most < length (now from) ⌝ }
+    requires { ⌜ Lined (now text) (now from) k ⌝ }
     ensures { λ r. ⌜ now r ≡ lineAt (now (text .entry)) (getD (now (from .entry)) k 0) ⌝ }
 {
-    line_from(text, from[k])
+    let at = from[k];
+    let end = from[k + 64];
+    &text[at..end]
 }
 
 fn narrow(i: usize) -> u8

@@ -71,7 +71,7 @@ fn plan_accepted(text: &[u8], index: &[u32], out: &mut [u8]) -> Planned
     requires { ⌜ Indexed (now text) (now index) ⌝ }
     ensures { λ r. ⌜ resultOf r (now (out .exit)) ≡ fitted (planOf (now (text .entry))) (now (out .entry)) ⌝ }
 {
-    let mut from = [0usize; 64];
+    let mut from = [0usize; 128];
     let n = atom_places(text, &mut from);
     let mut order = [0u8; 64];
     let mut costs = [0.0; 64];

@@ -64,7 +64,7 @@ fn costs_accepted(text: &[u8], index: &[u32], round: usize, out: &mut [u64]) -> 
     requires { ⌜ Indexed (now text) (now index) ⌝ }
     ensures { λ r. ⌜ resultOf r (now (out .exit)) ≡ told (roundOf (framesOf (now (text .entry))) (atomsOf (now (text .entry))) round) (now (out .entry)) ⌝ }
 {
-    let mut from = [0usize; 64];
+    let mut from = [0usize; 128];
     let n = atom_places(text, &mut from);
     let mut order = [0u8; 64];
     let mut costs = [0.0; 64];

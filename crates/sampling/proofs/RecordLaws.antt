@@ -22,7 +22,7 @@ use Rattle.model.specs.Scheduling.{atomOf}
 use Rattle.cost.specs.QueryAtoms.{operandsFrom, atomOfFrame}
 use Rattle.cost.specs.Emitters.{Emitters, decode, from, emitterOf, setEmitter, setElements, copyEmitter, recordAtom, recordEmitters}
 use Rattle.lowering.specs.AtomLines.{AtomLine, itemOperands, scansKind}
-use Rattle.lowering.specs.Eager.{atomsOf, Located}
+use Rattle.lowering.specs.Eager.{atomsOf, Lined, Located}
 use Rattle.lowering.proofs.AtomLaws.{by-kind, items-kind, node-kind}
 use Rattle.sampling.specs.Items.{setItems, recordIfNew}
 use Rattle.sampling.proofs.ItemLaws.{children-are, elements-are}
@@ -118,10 +118,10 @@ atoms-drop qs i h = drop-cons qs i (Eq 0 0) h
 
 module _ (x from : List ℕ) (n : ℕ) (B U : Bound) (l₀ l : List ℕ) (i : ℕ) (r : Recording x n B U l₀ l i) (z : Located x from n) where
   module _ (h : i < n) where
-    pub place-sized : i < length from
+    pub place-sized : i + most < length from
     place-sized = omega (arith, z .size)
 
-    pub place-within : getD from i 0 ≤ length x
+    pub place-within : Lined x from i
     place-within = z .within i h
 
     pub number-small : i < 256

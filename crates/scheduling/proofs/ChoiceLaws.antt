@@ -14,7 +14,7 @@ use Rattle.hex.specs.Digits.{bytesOf}
 use Rattle.hex.specs.Lines.{lineAt}
 use Rattle.frames.specs.First.{framesOf}
 use Rattle.model.specs.Atoms.{Atom}
-use Rattle.model.specs.Bound.{Bound, has}
+use Rattle.model.specs.Bound.{Bound, has, most}
 use Rattle.model.specs.Scheduling.{scans, atomOf, numbers}
 use Rattle.model.specs.Tabulate.{tabulate-at, tabulate-length}
 use Rattle.model.specs.Cheapest.{Bid, Scan}
@@ -25,7 +25,7 @@ use Rattle.cost.specs.Sampling.{Tally}
 use Rattle.cost.specs.Costs.{Costed, estimateCost}
 use Rattle.cost.specs.Memo.{tallyAt}
 use Rattle.plan_facts.specs.Remembered.{Grows, grows-self, cost-grows}
-use Rattle.lowering.specs.Eager.{Located, atomsOf}
+use Rattle.lowering.specs.Eager.{Lined, Located, atomsOf}
 use Rattle.lowering.specs.AtomLines.{AtomLine}
 use Rattle.pricing.specs.Remembering.{Samples, Remembers, Stands}
 use Rattle.pricing.specs.declared.costs.Costed.{Costed as CostedAs}
@@ -124,10 +124,10 @@ scanning-none x em U B how n keys valued values draws b h m d = record { few = o
 
 module _ (x from : List ℕ) (em : Emitters) (U B : Bound) (how : Sampled) (n : ℕ) (keys₀ : List ℕ) (draws₀ : List Float) (b₀ : Best) (keys : List ℕ) (valued : List Bool) (values draws : List Float) (b : Best) (i : ℕ) (r : Scanning x em U B how n keys₀ draws₀ b₀ keys valued values draws b i) (z : Located x from n) where
   module _ (h : i < n) where
-    pub place-sized : i < length from
+    pub place-sized : i + most < length from
     place-sized = omega (arith, z .size)
 
-    pub place-within : getD from i 0 ≤ length x
+    pub place-within : Lined x from i
     place-within = z .within i h
 
     pub number-small : i < 256

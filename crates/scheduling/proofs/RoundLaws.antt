@@ -25,7 +25,7 @@ use Rattle.cost.specs.Emitters.{Emitters, recordAtom, recordEmitters}
 use Rattle.cost.specs.Memo.{tallyAt}
 use Rattle.cost.specs.declared.memo.Tallies.{Tallies}
 use Rattle.lowering.specs.AtomLines.{AtomLine, lowers, boundBehind, Lowers}
-use Rattle.lowering.specs.Eager.{Went, LoweredEager, Located, Ready, atomsOf}
+use Rattle.lowering.specs.Eager.{Went, LoweredEager, Lined, Located, Ready, atomsOf}
 use Rattle.lowering.proofs.EagerLaws.{went-one}
 use Rattle.scheduling.specs.Choosing.{candidates, Chose}
 use Rattle.scheduling.specs.Offers.{offers}
@@ -92,10 +92,10 @@ module _ (from to : List Bool) (i : ℕ) (c : Copying from to i) where
 -- ---- the atom chosen, by its number
 
 module _ (x from : List ℕ) (n i : ℕ) (U B : Bound) (O : List ℕ) (c : ℕ) (z : Located x from n) (h : i < n) (scan : scans (atomOf (atomsOf x) i) ≡ true) (new : has U i ≡ false) (y : Ready x U B O c) where
-  pub next-sized : (k : ℕ) → k ≡ i → k < length from
+  pub next-sized : (k : ℕ) → k ≡ i → k + most < length from
   next-sized k q = omega (arith, z .size)
 
-  pub next-within : (k : ℕ) → k ≡ i → getD from k 0 ≤ length x
+  pub next-within : (k : ℕ) → k ≡ i → Lined x from k
   next-within k q = rw q (z .within i h)
 
   mem : List·Memᴰ i (numbers (atomsOf x))
