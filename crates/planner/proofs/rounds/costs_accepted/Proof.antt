@@ -12,7 +12,7 @@ slice-aggregate-atom-places : tie.Need-slice-aggregate-atom-places
 slice-aggregate-atom-places c = search needs
 
 atom-places-requires : tie.Need-atom-places-requires
-atom-places-requires c κs = frames-few _ _ _ (c .before .before .before .before .pre .0 .is)
+atom-places-requires c κs = (frames-few _ _ _ (c .before .before .before .before .pre .0 .is), refl)
 
 slice-aggregate-find-order : tie.Need-slice-aggregate-find-order
 slice-aggregate-find-order c = search needs
