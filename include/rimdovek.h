@@ -38,6 +38,11 @@ uint8_t rimdovek_estimate_draws(const double *draws, size_t draws_len, size_t k,
    rejected in 0 to 15. */
 uint64_t rimdovek_plan(const uint8_t *query, size_t query_len, uint8_t *out, size_t out_len);
 
+/* The costs of round number `round` of a query, from 0: the bits of the first atoms' costs, as far as the array is long, and all ones for an
+   atom that is no candidate and past the atoms. Accepted: the atom chosen in bits 0 to 7, or RIMDOVEK_ENDED where no atom is a candidate. */
+#define RIMDOVEK_ENDED UINT64_C(0x100)
+uint64_t rimdovek_round_costs(const uint8_t *query, size_t query_len, size_t round, uint64_t *costs, size_t costs_len);
+
 /* Runs a plan over a table with an allowance of tries, a line for each match. Accepted: 0 done, 1 spent or 2 full in bits 32 and 33, the bytes
    written below. Tries and matches are set; a refusal sets 0. The run takes some 2,200 bytes of stack for a Join and 100,000 besides: 250,000 for a
    plan of the planner, which has at most 64 Joins, and less than 6,000,000 for the longest plan text that is accepted. */

@@ -2,3 +2,4 @@ pub mod Answers
 pub mod Plans
 pub mod Runs
 pub mod Replied
+pub mod Rounds

@@ -9,6 +9,7 @@ use measure::FanOut;
 use measure::SamplerConfig;
 
 pub mod planning;
+pub mod rounds;
 pub mod runs;
 pub mod some;
 

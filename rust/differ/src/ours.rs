@@ -1,17 +1,20 @@
 //! The proved planner against a run of the Rust.
 use crate::shrink::shrink;
 use oracle::{Query, Run, to_text};
-use rimdovek_sys::{Planned, Refusal, plan};
+use rimdovek_sys::{NO_COST, Planned, Refusal, plan, round_costs};
 
 /// Bytes past the plan must keep this value.
 const LENT: u8 = 0xa5;
 /// Above the longest plan.
 const ROOM: usize = 20_600;
+/// The most atoms, and one place that no atom has.
+const ATOMS: usize = 65;
 
 pub fn compare(seed: u64, text: &[u8], run: &Run) -> Result<(), String> {
     let mut out = [LENT; ROOM];
     let room = if seed % 8 == 0 { run.answer.text.len() } else { ROOM };
     same(&mut out[..room], text, run)?;
+    costs(text, run)?;
     if seed % 8 == 1 {
         short(&mut [LENT; ROOM][..run.answer.text.len() - 1], text)?;
     }
@@ -45,6 +48,30 @@ fn same(out: &mut [u8], text: &[u8], run: &Run) -> Result<(), String> {
     }
     if rest.iter().any(|byte| *byte != LENT) {
         return Err("bytes past the plan are changed, for".to_string());
+    }
+    Ok(())
+}
+
+/// Every round's candidates and their costs, bit for bit, and the round behind the last.
+fn costs(text: &[u8], run: &Run) -> Result<(), String> {
+    let trace = &run.trace;
+    for (number, round) in trace.rounds.iter().enumerate() {
+        let mut says = [NO_COST; ATOMS];
+        for (atom, cost) in round {
+            says[*atom] = cost.to_bits();
+        }
+        round_is(text, number, says, Some(trace.chosen[number] as u8))?;
+    }
+    round_is(text, trace.rounds.len(), [NO_COST; ATOMS], None)
+}
+
+fn round_is(text: &[u8], number: usize, says: [u64; ATOMS], chosen: Option<u8>) -> Result<(), String> {
+    let mut costs = [0; ATOMS];
+    let answer = round_costs(text, number, &mut costs);
+    if answer != Ok(chosen) || costs != says {
+        return Err(format!(
+            "round {number} of the Rust chooses {chosen:?} by {says:x?}, ours {answer:?} by {costs:x?}, for"
+        ));
     }
     Ok(())
 }

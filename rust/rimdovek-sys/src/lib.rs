@@ -12,6 +12,7 @@ mod c {
         // A slice is a pointer and then a length.
         pub fn rimdovek_estimate_draws(draws: *const f64, draws_len: usize, k: usize, bootstrap: usize, cv: u64, mean: *mut u64) -> u8;
         pub fn rimdovek_plan(query: *const u8, query_len: usize, out: *mut u8, out_len: usize) -> u64;
+        pub fn rimdovek_round_costs(query: *const u8, query_len: usize, round: usize, costs: *mut u64, costs_len: usize) -> u64;
         pub fn rimdovek_run(
             plan: *const u8,
             plan_len: usize,
@@ -143,6 +144,19 @@ pub fn plan(query: &[u8], out: &mut [u8]) -> Result<Planned, Refusal> {
         tallied: word(1),
         rejected: word(0),
     })
+}
+
+/// The bits that stand for no cost.
+pub const NO_COST: u64 = u64::MAX;
+
+/// The costs of round number `round` of a query text, from 0, as bits in the lent array: as far as it is long, and [`NO_COST`] for an atom that
+/// is no candidate and past the atoms. The atom chosen, or none where no atom is a candidate.
+///
+/// The C function's answer, accepted: the atom chosen, or 256.
+pub fn round_costs(query: &[u8], round: usize, costs: &mut [u64]) -> Result<Option<u8>, Refusal> {
+    // SAFETY: both pointers are of references that outlive the call, and the lengths are the slices'.
+    let answer = accepted(unsafe { c::rimdovek_round_costs(query.as_ptr(), query.len(), round, costs.as_mut_ptr(), costs.len()) })?;
+    Ok(u8::try_from(answer).ok())
 }
 
 /// How a run ended.

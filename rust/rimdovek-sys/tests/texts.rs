@@ -1,5 +1,5 @@
 //! The document's examples, through the wrappers.
-use rimdovek_sys::{Planned, Ran, Refusal, SomeMatch, Status, plan, run, some_match};
+use rimdovek_sys::{NO_COST, Planned, Ran, Refusal, SomeMatch, Status, plan, round_costs, run, some_match};
 
 const QUERY: &[u8] = b"00040000\n0100010200010002\n010202010003\n10010000000a\n100200000064\n";
 const PLAN: &[u8] = b"3f040000000500000000\n4000000100010000\n41010000\n41020001\n400201020202000000020000\n41030200\n";
@@ -41,6 +41,36 @@ fn empty_query_fits_21_bytes() {
     assert_eq!(out, [LENT; 21]);
     assert_eq!(plan(b"00000000\n", &mut out), Ok(whole));
     assert_eq!(&out, b"3f000000000000000000\n");
+}
+
+/// Round 0 chooses atom 0 at 10 before atom 1 at 100; then the eager round lowers atom 1, whose node is bound, and no atom is left.
+#[test]
+fn worked_costs() {
+    let mut costs = [0; 3];
+    assert_eq!(round_costs(QUERY, 0, &mut costs), Ok(Some(0)));
+    assert_eq!(costs, [10f64.to_bits(), 100f64.to_bits(), NO_COST]);
+    assert_eq!(round_costs(QUERY, 1, &mut costs), Ok(None));
+    assert_eq!(costs, [NO_COST; 3]);
+    assert_eq!(round_costs(QUERY, usize::MAX, &mut costs[..1]), Ok(None));
+}
+
+/// Without the first atom's child 2 as the second's node, the second is chosen in round 1, at its operator's cardinality times 0.5.
+#[test]
+fn costs_of_a_bound_child() {
+    const APART: &[u8] = b"00040000\n0100010200010002\n010302010002\n10010000000a\n100200000064\n";
+    let mut costs = [0; 2];
+    assert_eq!(round_costs(APART, 0, &mut costs), Ok(Some(0)));
+    assert_eq!(costs, [10f64.to_bits(), 100f64.to_bits()]);
+    assert_eq!(round_costs(APART, 1, &mut costs), Ok(Some(1)));
+    assert_eq!(costs, [NO_COST, 50f64.to_bits()]);
+    assert_eq!(round_costs(APART, 2, &mut costs), Ok(None));
+}
+
+#[test]
+fn refused_query_has_no_costs() {
+    let mut costs = [7; 2];
+    assert_eq!(round_costs(b"000", 0, &mut costs), refusal(1, 0, 1));
+    assert_eq!(costs, [7; 2]);
 }
 
 /// The run with an allowance: its status, tries, and whether it has the match.

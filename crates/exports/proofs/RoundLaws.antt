@@ -1,0 +1,18 @@
+-- The answer of a round's costs as one number. Proved by what the answer is.
+use Prim.Native.Nat.{ℕ}
+use mathlib.Core.Path.{_≡_, ap, _∙_, sym}
+use mathlib.Core.List.{List}
+use Rattle.planner.specs.Costs.{Result, answerOf, resultOf, roundCosts}
+use Rattle.planner.specs.declared.rounds.RoundCosts.{RoundCosts}
+use Rattle.exports.specs.Rounds.{packedRound}
+
+-- the number of the case that was found
+pub packed-case : (p q : RoundCosts) (n : ℕ) → p ≡ q → n ≡ packedRound (answerOf q) → n ≡ packedRound (answerOf p)
+packed-case p q n e h = h ∙ ap (λ (r : RoundCosts). packedRound (answerOf r)) (sym e)
+
+module _ (x : List ℕ) (round : ℕ) (o p : List ℕ) (r : RoundCosts) (e : resultOf r p ≡ roundCosts x round o) where
+  pub round-number : (n : ℕ) → n ≡ packedRound (answerOf r) → n ≡ packedRound (roundCosts x round o .answer)
+  round-number n h = h ∙ ap (λ (q : Result). packedRound (q .answer)) e
+
+  pub round-output : p ≡ roundCosts x round o .output
+  round-output = ap (λ (q : Result). q .output) e

@@ -1,0 +1,27 @@
+// The costs of a round for programs outside the prover.
+ghost use mathlib.Core.Path.{_≡_};
+ghost use Rattle.planner.specs.Costs.{answerOf, roundCosts};
+ghost use Rattle.exports.specs.Rounds.{packedRound};
+use super::runs::refusal;
+use planner::rounds::RoundCosts;
+use planner::rounds::round_costs;
+
+// The answer as one number.
+fn packed(r: RoundCosts) -> u64
+    ensures { λ n. ⌜ n ≡ packedRound (answerOf r) ⌝ }
+{
+    match r {
+        RoundCosts::Chosen(i) => i as u64,
+        RoundCosts::Ended => 0x100,
+        RoundCosts::Refused(number, line) => refusal(number, 0, line),
+    }
+}
+
+// The costs of round number `round` of a query, from 0, as bits in a lent array.
+#[no_mangle]
+pub extern "C" fn rimdovek_round_costs(query: &[u8], round: usize, costs: &mut [u64]) -> u64
+    ensures answer { λ r. ⌜ r ≡ packedRound (roundCosts (now (query .entry)) round (now (costs .entry)) .answer) ⌝ }
+    ensures output { λ r. ⌜ now (costs .exit) ≡ roundCosts (now (query .entry)) round (now (costs .entry)) .output ⌝ }
+{
+    packed(round_costs(query, round, costs))
+}
