@@ -70,8 +70,9 @@ fn say_rounds(text: &[u8]) {
 
 fn say_plan(text: &[u8], out: &[u8], n: usize) {
     if n <= out.len() {
+        let lines = &out[..n];
         say_rounds(text);
-        say_lines(&out[..n]);
+        say_lines(lines);
     }
 }
 

@@ -1,47 +1,41 @@
+-- `explain::accepted::say_lines` meets its contract: the lines in turn, each within the text.
+use Prim.Native.Nat.{_+_, _-_, _≤_}
+use native.Mathlib.Omega.{arith}
+use lib.ListN.{length}
+use Rattle.explain.proofs.Walks.{line-fits}
+use borrow.Author.Needs.{needs}
 use Rattle.explain.proofs.accepted.say_lines.Statement.{statement}
 use Rattle.explain.proofs.accepted.say_lines.Tie as tie
-use Rattle.explain.proofs.accepted.say_lines.Reads as reads
-use Rattle.explain.proofs.accepted.say_lines.Lts as lts
-use Rattle.explain.proofs.steps.say_step.Reads as say-step-reads
-use Rattle.hex.proofs.reader.line_from.Reads as line-from-reads
 
 abbrev Inv-loop : tie.InvT-loop
-Inv-loop plan at₀ at = ?
+Inv-loop plan at₀ at = at ≤ length plan + 1
 
 abbrev μ-loop : tie.MeasureT-loop
-μ-loop plan at₀ at = ?
+μ-loop plan at₀ at = length plan - at
 
--- src/accepted.rt:12:5
 loop-holds : tie.Need-loop-holds Inv-loop μ-loop
-loop-holds c = ?
+loop-holds c = search needs
 
--- src/accepted.rt:13:13
 line-from-requires : tie.Need-line-from-requires Inv-loop μ-loop
-line-from-requires c κs = ?
+line-from-requires c κs = search needs
 
--- src/accepted.rt:14:9
 say-step-requires : tie.Need-say-step-requires Inv-loop μ-loop
-say-step-requires c κs = ?
+say-step-requires c κs = search needs
 
--- src/accepted.rt:15:15
 add-at : tie.Need-add-at Inv-loop μ-loop
-add-at c = ?
+add-at c = search needs
 
--- src/accepted.rt:15:9
 add-at-2 : tie.Need-add-at-2 Inv-loop μ-loop
-add-at-2 c = ?
+add-at-2 c = search needs
 
--- src/accepted.rt:12:5
 loop-less : tie.Need-loop-less Inv-loop μ-loop
-loop-less c = ?
+loop-less c = search needs
 
--- src/accepted.rt:12:5
 loop-again : tie.Need-loop-again Inv-loop μ-loop
-loop-again c = ?
+loop-again c = omega (arith, line-fits _ _ _ (c .before .line-from .ensures) (c .before .before .loop-test .taken))
 
--- src/accepted.rt:10:1
 returns : tie.Need-returns Inv-loop μ-loop
-returns c = ?
+returns c = search needs
 
 pub say-lines-spec : {M : Type 1} → statement M
 say-lines-spec =
