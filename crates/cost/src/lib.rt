@@ -1,4 +1,4 @@
-// What the scheduler goes by: emitters, draws, the memo. The costs and the choice are definitions in specs/ yet.
+// What the scheduler goes by: emitters, draws, the keys of the memo. specs/ defines the costs and the choice, which `pricing` and `scheduling` compute.
 pub mod draws;
 pub mod emitters;
 pub mod memo;

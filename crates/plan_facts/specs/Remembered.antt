@@ -9,7 +9,7 @@ use mathlib.Core.List.{List, [], _∷_, _++_, flatMap, List·Memᴰ, List·Mem�
 use native.Mathlib.Omega.{arith}
 use lib.ListN.{length, length-append}
 use borrow.Author.Tests.{eq-eqb}
-use lib.Ieee.{Float, lt}
+use lib.Ieee.{lt}
 use Rattle.base.specs.Choose.{pick, pick-elim}
 use Rattle.frames.specs.Limits.{itemsMost, atomsMost}
 use Rattle.measure.specs.declared.SamplerConfig.{SamplerConfig}
@@ -176,12 +176,6 @@ module _ (fs : List (List ℕ)) where
   abbrev any : Key → Type 0
   any k = Unit {0}
 
-  pub after-grows : (cfg : SamplerConfig) (k : Key) (t : Tally) → Grows t (afterEstimate fs cfg k t)
-  after-grows cfg k t = grows-after cfg k t t (grows-self t)
-
-  pub sampled-grows : (em : Emitters) (x : Operand) (o path place : ℕ) (t : Tally) → Grows t (sampled fs em x o path place t .tally)
-  sampled-grows em x o path place t = sampled-keeps fs any (Grows t) (λ cfg k u _ _. grows-after cfg k t u) em x o path place t (λ _ _. tt) (grows-self t)
-
   pub children-grow : (em : Emitters) (B : Bound) (o p : ℕ) (xs : List Operand) (c : Costed) → Grows (c .tally) (childCosts fs em B o p xs c .tally)
   children-grow em B o p xs c = children-keep fs any (Grows (c .tally)) (λ cfg k u _ _. grows-after cfg k (c .tally) u) em B o p xs c (λ _ _. tt) (grows-self (c .tally))
 
@@ -195,11 +189,6 @@ module _ (fs : List (List ℕ)) where
   cost-grows em B i a t = cost-grows-from em B i a t t (grows-self t)
 
   module _ (qs : List Atom) where
-    -- the scan by cost, from whatever bid
-    pub scan-grows : (js ks : List ℕ) (s : State) (m : Memory) (b : Option (Bid Float)) → Grows (m .tally) (scan (atomOf qs) js (cost fs qs) lt ks s m b .next .tally)
-    scan-grows js ks s m b =
-        scan-keeps (atomOf qs) (cost fs qs) lt (λ x. Grows (m .tally) (x .tally)) (λ x s i. cost-grows-from (x .emitters) (s .bound) i (atomOf qs i) (m .tally) (x .tally)) js ks s m b (grows-self (m .tally))
-
     pub loop-grows : (n : ℕ) (m : Memory) (st : State) → Grows (m .tally) (memoryLoop fs qs n m st .tally)
     loop-grows n m st =
         loop-keeps fs qs (λ x. Grows (m .tally) (x .tally)) (λ x s h. h) (λ x s i. cost-grows-from (x .emitters) (s .bound) i (atomOf qs i) (m .tally) (x .tally)) same n m st (grows-self (m .tally))
