@@ -4,6 +4,7 @@
 ghost use mathlib.Core.Path.{_≡_};
 ghost use Prim.Native.Nat.{_≤_};
 ghost use lib.ListN.{length};
+ghost use Rattle.run.specs.Decimal.{decimalOf};
 use entries::run::run;
 use printing::print_run;
 
@@ -15,7 +16,9 @@ fn text_room() -> [u8; 65537]
 }
 
 // The number that decimal digits give, 0 where another byte is among them; it stays below 2^64.
-fn decimal(word: &[u8]) -> u64 {
+fn decimal(word: &[u8]) -> u64
+    ensures { λ r. ⌜ r ≡ decimalOf (now (word .entry)) ⌝ }
+{
     let mut value: u64 = 0;
     let mut i: usize = 0;
     while i < word.len() {
