@@ -16,7 +16,6 @@ use Rattle.frames.specs.declared.fields.Test.{Test}
 use Rattle.frames.specs.Fields.{width, fieldPasses}
 use Rattle.frames.specs.Kinds.{Kind, none, kindAt, fixedLength, itemsOf}
 use Rattle.frames.specs.Frames.{kindOf, itemFields, passAll, framePasses}
-use Rattle.frames.specs.Unread.{Unread}
 
 -- how many items
 module _ (f : List ℕ) (k v : ℕ) (p : k ≡ getD f 0 0) (q : v ≡ width (kindAt k .item)) where
@@ -80,14 +79,3 @@ module _ (P : Field → List ℕ → ℕ → Bool) (f : List ℕ) (a : Bool) (p 
 
   pub frame-stops : a ≡ false → false ≡ framePasses P f
   frame-stops t = rw (← p, t)
-
--- ---- a test that looks at no field of a kind
-
--- items that pass whatever they hold
-pub items-unread : (P : Field → List ℕ → ℕ → Bool) (x : Field) → ((f : List ℕ) (i : ℕ) → P x f i ≡ true) → (m : ℕ) (f : List ℕ) (i : ℕ) → passAll P (replicate m x) f i ≡ true
-unfolding passAll
-items-unread P x h ℕ.zero f i = refl
-items-unread P x h (suc m) f i = rw (h f i) (items-unread P x h m f (i + width x))
-
-pub frame-unread : (t : Test) (n : Counts) (l : List ℕ) (b : ℕ) (u : Bool) → b ≡ getD (bytesOf l) 0 0 → (u ≡ true → Unread t b) → u ≡ true → true ≡ framePasses (fieldPasses t n) (bytesOf l)
-frame-unread t n l b u e h k = sym (h k .passes n (bytesOf l) e)

@@ -1,5 +1,5 @@
 -- Laws of the table by kind. Assumes nothing.
-use Prim.Native.Nat.{ℕ, suc, _+_, _-_, _*_, _/_, _%_, _≤_, _<_}
+use Prim.Native.Nat.{ℕ, suc, _+_, _-_, _*_, _/_, _%_, _^_, _≤_, _<_}
 use mathlib.Core.Path.{_≡_, refl, sym, _∙_, ap}
 use mathlib.Core.List.{List, [], _∷_, _++_, map}
 use mathlib.Core.Bool.{Bool, true, false, _&&_}
@@ -7,13 +7,13 @@ use native.Mathlib.Nat.{add-zero, zero-add, add-suc, suc-add}
 use lib.Dec.{T, leb, ltb, eqb, leb→le, ltb→lt, eqb→eq}
 use lib.Pow.{areBytes}
 use Rattle.base.specs.Choose.{pick}
-use lib.Seq.{getD-take}
+use lib.Seq.{getD-take, getD-drop}
 use Rattle.base.specs.Table.{both-left, both-right, all}
 use native.Mathlib.Omega.{arith}
-use lib.ListN.{getD, length, take, replicate, getD-replicate, List·getD-map}
+use lib.ListN.{getD, length, take, drop, replicate, getD-replicate, List·getD-map}
 use Rattle.frames.specs.declared.fields.Field.{Field}
 use Rattle.frames.specs.Kinds.{Kind, none, kinds, kindAt, noKind}
-use Rattle.frames.specs.Rows.{code, decode, rowOf, sixFields, sixAt, wordsOf, byteOf, field-decoded}
+use Rattle.frames.specs.Rows.{code, decode, rowOf, sixFields, packed, wordsOf, byteOf, field-decoded}
 use Rattle.frames.specs.declared.kinds.KindRow.{KindRow}
 
 -- what a test says of every kind of the table
@@ -31,7 +31,7 @@ pub count-most : (b v w : ℕ) → v ≡ getD (rowOf (kindAt b)) 4 0 → w ≡ v
 count-most b v w p q = six-most b w (q ∙ p)
 
 -- a field's code in a row gives the field
-pub item-is : (b v : ℕ) (x : Field) → v ≡ getD (rowOf (kindAt b)) 5 0 → x ≡ decode v → x ≡ kindAt b .item
+pub item-is : (b v : ℕ) (x : Field) → v ≡ getD (rowOf (kindAt b)) 6 0 → x ≡ decode v → x ≡ kindAt b .item
 item-is b v x p q = q ∙ ap decode p ∙ field-decoded b 0
 
 filled : (fs : List Field) (n j : ℕ) → j < n → getD (take n (fs ++ replicate n none)) j none ≡ getD fs j none
@@ -42,11 +42,11 @@ filled fs n j h = getD-take n (fs ++ replicate n none) j none h ∙ go fs j h
     go (x ∷ fs) ℕ.zero h = refl
     go (x ∷ fs) (suc j) h = go fs j (omega arith)
 
-pub field-at-is : (b j v : ℕ) (x : Field) → v ≡ getD (rowOf (kindAt b)) (j + 6) 0 → x ≡ decode v → j < 6 → x ≡ getD (kindAt b .fields) j none
+pub field-at-is : (b j v : ℕ) (x : Field) → v ≡ getD (rowOf (kindAt b)) (j + 7) 0 → x ≡ decode v → j < 6 → x ≡ getD (kindAt b .fields) j none
 field-at-is b j v x p q h = q ∙ ap decode (p ∙ place) ∙ field-decoded b (suc j) ∙ filled (kindAt b .fields) 6 j h
   where
-    place : getD (rowOf (kindAt b)) (j + 6) 0 ≡ getD (map code (sixFields (kindAt b))) j 0
-    place = let e : j + 6 ≡ suc (suc (suc (suc (suc (suc j))))) = omega arith in rw e
+    place : getD (rowOf (kindAt b)) (j + 7) 0 ≡ getD (map code (sixFields (kindAt b))) j 0
+    place = let e : j + 7 ≡ suc (suc (suc (suc (suc (suc (suc j)))))) = omega arith in rw e
 
 -- ---- bytes that are no kind
 
@@ -85,51 +85,48 @@ pub other-row : (b : ℕ) → listed b kindNumbers ≡ false → wordsOf (rowOf 
 unfolding kinds listed covers
 other-row b e =
     rw (
-      ← other (λ (r : Kind). sixAt (rowOf r) 0) b tt e,
-      ← other (λ (r : Kind). sixAt (rowOf r) 6) b tt e,
+      ← other (λ (r : Kind). packed (take 6 (rowOf r))) b tt e,
+      ← other (λ (r : Kind). packed (drop 6 (rowOf r))) b tt e,
     )
 
 -- ---- a byte of a row
 
-small : (l : List ℕ) (k : ℕ) → T (areBytes l) → getD l k 0 < 256
-small [] k t = omega arith
-small (x ∷ l) ℕ.zero t = ltb→lt x 256 (both-left (ltb x 256) (areBytes l) t)
-small (x ∷ l) (suc k) t = small l k (both-right (ltb x 256) (areBytes l) t)
+no-byte : (j : ℕ) → byteOf 0 j ≡ 0
+no-byte ℕ.zero = refl
+no-byte (suc j) = no-byte j
 
-row-small : (b k : ℕ) → getD (rowOf (kindAt b)) k 0 < 256
+packed-byte : (l : List ℕ) (j : ℕ) → T (areBytes l) → byteOf (packed l) j ≡ getD l j 0
+packed-byte [] j t = no-byte j
+packed-byte (x ∷ l) ℕ.zero t = let h = ltb→lt x 256 (both-left (ltb x 256) (areBytes l) t) in omega arith
+packed-byte (x ∷ l) (suc j) t =
+    let h = ltb→lt x 256 (both-left (ltb x 256) (areBytes l) t) in
+    let e : (x + 256 * packed l) / 256 ≡ packed l = omega arith in
+    rw e (packed-byte l j (both-right (ltb x 256) (areBytes l) t))
+
+-- by a shift
+pub shifted : (n j : ℕ) → j < 7 → n / 2 ^ (8 * j) % 256 ≡ byteOf n j
+shifted n ℕ.zero h = omega arith
+shifted n (suc ℕ.zero) h = omega arith
+shifted n (suc (suc ℕ.zero)) h = omega arith
+shifted n (suc (suc (suc ℕ.zero))) h = omega arith
+shifted n (suc (suc (suc (suc ℕ.zero)))) h = omega arith
+shifted n (suc (suc (suc (suc (suc ℕ.zero))))) h = omega arith
+shifted n (suc (suc (suc (suc (suc (suc ℕ.zero)))))) h = omega arith
+shifted n (suc (suc (suc (suc (suc (suc (suc j))))))) h = absurd (omega arith)
+
+measures-bytes : (b : ℕ) → T (areBytes (take 6 (rowOf (kindAt b))))
 unfolding kindAt kinds all
-row-small b k = small (rowOf (kindAt b)) k (held (λ (r : Kind). areBytes (rowOf r)) kinds b tt tt)
+measures-bytes b = held (λ (r : Kind). areBytes (take 6 (rowOf r))) kinds b tt tt
 
-six-byte : (a b c d e f j : ℕ) (l : List ℕ) → a < 256 → b < 256 → c < 256 → d < 256 → e < 256 → f < 256 → l ≡ a ∷ b ∷ c ∷ d ∷ e ∷ f ∷ [] → j < 6 → byteOf (a + 256 * (b + 256 * (c + 256 * (d + 256 * (e + 256 * f))))) j ≡ getD l j 0
-six-byte a b c d e f ℕ.zero l g h i k m n p q = rw p (omega arith)
-six-byte a b c d e f (suc ℕ.zero) l g h i k m n p q = rw p (omega arith)
-six-byte a b c d e f (suc (suc ℕ.zero)) l g h i k m n p q = rw p (omega arith)
-six-byte a b c d e f (suc (suc (suc ℕ.zero))) l g h i k m n p q = rw p (omega arith)
-six-byte a b c d e f (suc (suc (suc (suc ℕ.zero)))) l g h i k m n p q = rw p (omega arith)
-six-byte a b c d e f (suc (suc (suc (suc (suc ℕ.zero))))) l g h i k m n p q = rw p (omega arith)
-six-byte a b c d e f (suc (suc (suc (suc (suc (suc j)))))) l g h i k m n p q = absurd (omega arith)
-
--- the j-th of six numbers of a list that begin at i
-nth : (l : List ℕ) (i j : ℕ) → j < 6 → getD (getD l i 0 ∷ getD l (i + 1) 0 ∷ getD l (i + 2) 0 ∷ getD l (i + 3) 0 ∷ getD l (i + 4) 0 ∷ getD l (i + 5) 0 ∷ []) j 0 ≡ getD l (i + j) 0
-nth l i ℕ.zero h = rw (add-zero i)
-nth l i (suc ℕ.zero) h = refl
-nth l i (suc (suc ℕ.zero)) h = refl
-nth l i (suc (suc (suc ℕ.zero))) h = refl
-nth l i (suc (suc (suc (suc ℕ.zero)))) h = refl
-nth l i (suc (suc (suc (suc (suc ℕ.zero))))) h = refl
-nth l i (suc (suc (suc (suc (suc (suc j)))))) h = absurd (omega arith)
-
-row-byte : (b i j : ℕ) → j < 6 → byteOf (sixAt (rowOf (kindAt b)) i) j ≡ getD (rowOf (kindAt b)) (i + j) 0
-row-byte b i j h =
-    let l = rowOf (kindAt b) in
-    six-byte (getD l i 0) (getD l (i + 1) 0) (getD l (i + 2) 0) (getD l (i + 3) 0) (getD l (i + 4) 0) (getD l (i + 5) 0) j _ (row-small b i) (row-small b (i + 1)) (row-small b (i + 2)) (row-small b (i + 3)) (row-small b (i + 4)) (row-small b (i + 5)) refl h
-    ∙ nth l i j h
+layout-bytes : (b : ℕ) → T (areBytes (drop 6 (rowOf (kindAt b))))
+unfolding kindAt kinds all
+layout-bytes b = held (λ (r : Kind). areBytes (drop 6 (rowOf r))) kinds b tt tt
 
 module _ (b j r : ℕ) (w : KindRow) (p : w ≡ wordsOf (rowOf (kindAt b))) where
   pub low-column : j < 6 → r ≡ byteOf (w .measures) j → r ≡ getD (rowOf (kindAt b)) j 0
-  low-column h q = q ∙ rw p (row-byte b 0 j h ∙ rw (zero-add j))
+  low-column h q = q ∙ rw p (packed-byte (take 6 (rowOf (kindAt b))) j (measures-bytes b) ∙ getD-take 6 (rowOf (kindAt b)) j 0 h)
 
-  pub high-column : 6 ≤ j → j < 12 → r ≡ byteOf (w .layout) (j - 6) → r ≡ getD (rowOf (kindAt b)) j 0
-  high-column g h q =
+  pub high-column : 6 ≤ j → r ≡ byteOf (w .layout) (j - 6) → r ≡ getD (rowOf (kindAt b)) j 0
+  high-column g q =
       let e : 6 + (j - 6) ≡ j = omega arith in
-      q ∙ rw p (row-byte b 6 (j - 6) (omega arith) ∙ rw e)
+      q ∙ rw p (packed-byte (drop 6 (rowOf (kindAt b))) (j - 6) (layout-bytes b) ∙ getD-drop 6 (rowOf (kindAt b)) (j - 6) 0 ∙ rw e)

@@ -1,3 +1,4 @@
 pub mod KindLaws
 pub mod FrameLaws
+pub mod UnreadLaws
 pub mod FirstLaws

@@ -1,13 +1,14 @@
--- The table by kind as the program keeps it: one row of twelve bytes a kind, a field by its code. Each row is made from the table of
+-- The table by kind as the program keeps it: one row of thirteen bytes a kind, a field by its code. Each row is made from the table of
 -- Kinds, and a field is had back from its code.
 use Prim.Native.Nat.{ℕ, zero, suc, _+_, _-_, _*_, _/_, _%_, _<_}
 use mathlib.Core.Path.{_≡_, refl, sym, _∙_, ap}
 use mathlib.Core.List.{List, [], _∷_, _++_, map}
-use lib.ListN.{getD, length, take, replicate, List·getD-map}
+use lib.ListN.{getD, length, take, drop, replicate, List·getD-map}
 use lib.Dec.{ltb, eqb}
 use Rattle.base.specs.Choose.{pick}
 use Rattle.frames.specs.Fields.{width}
 use Rattle.frames.specs.Kinds.{Kind, none, kinds, kindAt, noKind, fixedLength}
+use Rattle.frames.specs.Unread.{looked}
 use Rattle.frames.specs.declared.kinds.KindRow.{KindRow}
 use Rattle.frames.specs.declared.fields.Field.{Field}
 use Rattle.frames.specs.declared.fields.Field.the-variants.{Free, Most, Variable, Global, Literal, Atom, Bootstrap, Real, Class, Operand, Element, KeySite, ProbePath, Ends, Rest, Lookup}
@@ -54,16 +55,16 @@ sixFields r = take 6 (r .fields ++ replicate 6 none)
 
 -- a kind's row
 abbrev pub rowOf : Kind → List ℕ
-rowOf r = r .text ∷ r .key ∷ fixedLength r ∷ width (r .item) ∷ length (r .fields) ∷ map code (r .item ∷ sixFields r)
+rowOf r = r .text ∷ r .key ∷ fixedLength r ∷ width (r .item) ∷ length (r .fields) ∷ looked r ∷ map code (r .item ∷ sixFields r)
 
--- six numbers of a list as the bytes of one number, the first lowest; and the j-th of them
-abbrev pub sixAt : List ℕ → ℕ → ℕ
-sixAt l i =
-    getD l i 0
-    + 256 * (getD l (i + 1) 0 + 256 * (getD l (i + 2) 0 + 256 * (getD l (i + 3) 0 + 256 * (getD l (i + 4) 0 + 256 * getD l (i + 5) 0))))
+-- numbers as the bytes of one number, the first lowest; and the j-th of them
+abbrev pub packed : List ℕ → ℕ
+packed [] = 0
+packed (x ∷ l) = x + 256 * packed l
 
+-- a row as two numbers: six measures; the codes of the item and of the fields
 abbrev pub wordsOf : List ℕ → KindRow
-wordsOf l = record { measures = sixAt l 0; layout = sixAt l 6 }
+wordsOf l = record { measures = packed (take 6 l); layout = packed (drop 6 l) }
 
 abbrev pub byteOf : ℕ → ℕ → ℕ
 byteOf n zero = n % 256

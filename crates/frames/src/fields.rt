@@ -43,10 +43,24 @@ pub struct Counts {
     pub atoms: usize,
 }
 
+// Small numbers as lengths and places, and back.
 pub fn wide(b: u8) -> usize
     ensures { λ r. ⌜ (r ≡ b) × (r < 256) ⌝ }
 {
     b as usize
+}
+
+pub fn wide_short(s: u16) -> usize
+    ensures { λ r. ⌜ (r ≡ s) × (r < 65536) ⌝ }
+{
+    s as usize
+}
+
+pub fn narrow(i: usize) -> u8
+    requires { ⌜ i < 256 ⌝ }
+    ensures { λ r. ⌜ r ≡ i ⌝ }
+{
+    i as u8
 }
 
 pub fn width(x: Field) -> usize

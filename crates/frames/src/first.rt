@@ -7,6 +7,7 @@ ghost use Rattle.hex.specs.Digits.{bytesOf};
 ghost use Rattle.frames.specs.First.{textNumber, isHeader, headerFirst, inPlace, belongs as belongsTo, isAtom, isRow, isCounted, countedMost, counted as countedOf, hasRoom, frameFault, firstFrom, stepsSay, stepsRight, emptyText, firstReading};
 use super::fields::Counts;
 use super::fields::Test;
+use super::fields::wide_short;
 use super::frame::frame_length;
 use super::frame::frame_passes;
 use super::kinds::text_of;
@@ -170,18 +171,12 @@ fn first_lines(t: Text, text: &[u8]) -> Reading
     Reading::Accepted(n, c)
 }
 
-fn wide(s: u16) -> usize
-    ensures { λ r. ⌜ (r ≡ s) × (r < 65536) ⌝ }
-{
-    s as usize
-}
-
 // The steps that a plan's header gives.
 fn steps_say(text: &[u8]) -> usize
     ensures { λ r. ⌜ (r ≡ stepsSay (now (text .entry))) × (r < 65536) ⌝ }
 {
     let e = line_end(text, 0);
-    wide(short_at(&text[..e], 4))
+    wide_short(short_at(&text[..e], 4))
 }
 
 fn steps_right(t: Text, text: &[u8], found: Reading) -> Reading

@@ -7,7 +7,6 @@ ghost use Rattle.hex.specs.Digits.{bytesOf};
 ghost use Rattle.frames.specs.Fields.{fieldPasses};
 ghost use Rattle.frames.specs.Kinds.{kindAt, fixedLength, itemsOf};
 ghost use Rattle.frames.specs.Unread.{Unread};
-ghost use Rattle.frames.specs.declared.fields.Test.the-variants.{Limits, Range, Reals};
 ghost use Rattle.frames.specs.Frames.{kindOf, frameLength, itemFields, passAll, framePasses};
 use super::fields::Counts;
 use super::fields::Field;
@@ -20,6 +19,7 @@ use super::kinds::field_count;
 use super::kinds::fixed_length;
 use super::kinds::item_of;
 use super::kinds::item_width;
+use super::kinds::looked;
 use hex::byte_at;
 
 // How many items a frame says it has.
@@ -84,67 +84,15 @@ fn items_pass(t: Test, n: Counts, line: &[u8]) -> bool
     true
 }
 
-// Whether test 4 looks at no field of a kind: the statistics have none.
-fn unread_limits(kind: u8) -> bool
-    ensures { λ r. ⌜ (r ≡ true → Unread Limits kind) ⌝ }
-{
-    match kind {
-        0x10 => true,
-        0x11 => true,
-        0x12 => true,
-        0x13 => true,
-        0x14 => true,
-        _ => false,
-    }
-}
-
-// Whether test 5 looks at none.
-fn unread_range(kind: u8) -> bool
-    ensures { λ r. ⌜ (r ≡ true → Unread Range kind) ⌝ }
-{
-    match kind {
-        0x10 => true,
-        0x12 => true,
-        0x13 => true,
-        0x14 => true,
-        0x22 => true,
-        0x23 => true,
-        0x30 => true,
-        _ => false,
-    }
-}
-
-// Whether test 6 looks at none, for the kinds that are met most.
-fn unread_reals(kind: u8) -> bool
-    ensures { λ r. ⌜ (r ≡ true → Unread Reals kind) ⌝ }
-{
-    match kind {
-        0x01 => true,
-        0x02 => true,
-        0x03 => true,
-        0x04 => true,
-        0x05 => true,
-        0x10 => true,
-        0x11 => true,
-        0x22 => true,
-        0x23 => true,
-        0x30 => true,
-        0x31 => true,
-        0x40 => true,
-        0x41 => true,
-        0x42 => true,
-        _ => false,
-    }
-}
-
-// Whether a test need not read a frame of that kind.
+// Whether a test looks at no field and no item of a kind: then its frames need not be read for it.
 fn unread(t: Test, kind: u8) -> bool
     ensures { λ r. ⌜ (r ≡ true → Unread t kind) ⌝ }
 {
+    let tests = looked(kind);
     match t {
-        Test::Limits => unread_limits(kind),
-        Test::Range => unread_range(kind),
-        Test::Reals => unread_reals(kind),
+        Test::Limits => tests % 2 == 0,
+        Test::Range => tests / 2 % 2 == 0,
+        Test::Reals => tests / 4 == 0,
     }
 }
 

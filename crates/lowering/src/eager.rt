@@ -12,6 +12,7 @@ use super::atom::is_free;
 use super::atom::lower_bound;
 use super::sets::is_set;
 use super::sets::set_bound;
+use frames::fields::narrow;
 
 // Takes atom i, by its line, where it is not lowered yet and an eager pass lowers it; c atoms were taken before. How many now are.
 fn try_at(
@@ -51,13 +52,6 @@ pub fn atom_line<'a, 'b>(text: &'a [u8], from: &'b [usize], k: usize) -> &'a [u8
     let at = from[k];
     let end = from[k + 64];
     &text[at..end]
-}
-
-fn narrow(i: usize) -> u8
-    requires { ⌜ i < 256 ⌝ }
-    ensures { λ r. ⌜ r ≡ i ⌝ }
-{
-    i as u8
 }
 
 // One pass over the n atoms, from atom 0 on.

@@ -21,6 +21,7 @@ use super::memo::Sample;
 use super::memo::estimate;
 use cost::memo::Tallies;
 use cost::sampling::Key;
+use frames::fields::narrow;
 use frames::fields::wide;
 use frames::frame::items_of;
 use frames::kinds::fixed_length;
@@ -63,13 +64,6 @@ pub struct Item {
     pub op: u8,
     pub element: bool,
     pub bound: bool,
-}
-
-pub fn narrow(i: usize) -> u8
-    requires { ⌜ i < 256 ⌝ }
-    ensures { λ r. ⌜ r ≡ i ⌝ }
-{
-    i as u8
 }
 
 fn narrow_word(n: u32) -> u8

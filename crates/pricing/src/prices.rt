@@ -12,7 +12,7 @@ ghost use Rattle.pricing.specs.Items.{itemFan, reprSelectivity};
 ghost use Rattle.pricing.specs.Prices.{rowSize, ItemsPriced, Row, FewItems, Priced};
 use super::costs::Items;
 use super::costs::items_at;
-use super::costs::narrow;
+use frames::fields::narrow;
 use lowering::eager::atom_line;
 use measure::FanOut;
 use measure::path_selectivity;

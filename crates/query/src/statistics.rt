@@ -9,6 +9,7 @@ ghost use Rattle.reading.specs.Index.{Indexed};
 ghost use Rattle.query.specs.Statistics.{cardOf, opCard, atomCard, inFull, orCard, baseCard as baseCardOf, orZero, denominator as denominatorOf, fanOutAt, byChildPos, byContains, reprOf, byRepr, nodes as nodesOf, sampledOf, settings as settingsOf, probeLen};
 use super::lookup::look_up;
 use frames::fields::wide;
+use frames::fields::wide_short;
 use hex::byte_at;
 use hex::long_at;
 use hex::short_at;
@@ -134,12 +135,6 @@ pub fn nodes(text: &[u8], index: &[u32]) -> u32
     ensures { λ r. ⌜ r ≡ nodesOf (framesOf (now (text .entry))) ⌝ }
 {
     word_at(look_up(text, index, 1, 0x12, 0, 0, 0, 0, 0), 9)
-}
-
-fn wide_short(s: u16) -> usize
-    ensures { λ r. ⌜ r ≡ s ⌝ }
-{
-    s as usize
 }
 
 fn sampled_of(line: &[u8]) -> Sampled

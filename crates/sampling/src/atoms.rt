@@ -18,19 +18,13 @@ use cost::emitters::copy_emitter;
 use cost::emitters::packed;
 use cost::emitters::set_emitter;
 use cost::emitters::set_operand;
+use frames::fields::narrow;
 use frames::frame::items_of;
 use frames::kinds::fixed_length;
 use frames::kinds::item_width;
 use hex::byte_at;
 use lowering::eager::atom_line;
 use lowering::sets::is_set;
-
-fn narrow(i: usize) -> u8
-    requires { ⌜ i < 256 ⌝ }
-    ensures { λ r. ⌜ r ≡ i ⌝ }
-{
-    i as u8
-}
 
 // The number of the emitter of item p: an element, or the child at position p.
 fn item_emitter(atom: u8, elements: bool, p: u8) -> u32

@@ -18,6 +18,7 @@ ghost use Rattle.pricing.specs.Remembering.{Samples, Remembers};
 ghost use Rattle.scheduling.specs.Choosing.{bidOf, considered, candidates, Chose, betterOf};
 ghost use Rattle.scheduling.specs.Offers.{offer, offers};
 use cost::memo::Tallies;
+use frames::fields::narrow;
 use frames::fields::wide;
 use lowering::atom::scans;
 use lowering::eager::atom_line;
@@ -120,13 +121,6 @@ fn consider(
     );
     costs[at] = c.cost;
     better(i, c, b)
-}
-
-fn narrow(i: usize) -> u8
-    requires { ⌜ i < 256 ⌝ }
-    ensures { λ r. ⌜ r ≡ i ⌝ }
-{
-    i as u8
 }
 
 // The cheapest of the n atoms, of those that are not used and scan; the cost of each is written.

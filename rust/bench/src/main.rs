@@ -1,10 +1,11 @@
-//! Times planning: the Rust's alone, from a query in its own types to its steps, and, with the feature `ours`, the proved planner's from
-//! text to text, on the same queries. Then running, in `running`.
+//! Times planning: the Rust's alone, from a query in its own types to its steps; the Rust's from text to text, with the plain reader and writer of
+//! `oracle`, which tests no limits; and, with the feature `ours`, the proved planner's from text to text, on the same queries. Then running, in
+//! `running`.
 mod interpreter;
 mod running;
 
 use oracle::generate::{largest, sampled, typical};
-use oracle::{Prepared, Query, parse};
+use oracle::{Prepared, Query, parse, plan_text, to_text};
 use std::hint::black_box;
 use std::time::{Duration, Instant};
 
@@ -14,7 +15,10 @@ const RUNS: usize = 5;
 const RUN: Duration = Duration::from_millis(200);
 
 fn main() {
-    println!("{:>10}  {:>10}  {:>6}  ns a plan", "the Rust", "ours", "ratio");
+    println!(
+        "{:>10}  {:>10}  {:>10}  ns a plan, and ours by each",
+        "the Rust", "from text", "ours"
+    );
     line("worked example", &[parse(WORKED).expect("the document's example")]);
     for atoms in 3..=8 {
         let queries: Vec<Query> = (0..32).map(|seed| typical(seed, atoms)).collect();
@@ -32,10 +36,15 @@ fn main() {
 }
 
 fn line(name: &str, queries: &[Query]) {
-    let rust = rust(queries);
-    match ours(queries) {
-        Some(ours) => println!("{rust:>10.0}  {ours:>10.0}  {:>6.2}  {name}", ours / rust),
-        None => println!("{rust:>10.0}  {:>10}  {:>6}  {name}", "-", "-"),
+    let texts: Vec<String> = queries.iter().map(to_text).collect();
+    let (rust, texted) = (rust(queries), from_text(&texts));
+    match ours(&texts) {
+        Some(ours) => println!(
+            "{rust:>10.0}  {texted:>10.0}  {ours:>10.0}  {:>6.2}  {:>6.2}  {name}",
+            ours / rust,
+            ours / texted
+        ),
+        None => println!("{rust:>10.0}  {texted:>10.0}  {:>10}  {:>6}  {:>6}  {name}", "-", "-", "-"),
     }
 }
 
@@ -48,18 +57,23 @@ fn rust(queries: &[Query]) -> f64 {
     })
 }
 
+/// The same from query text to plan text.
+fn from_text(texts: &[String]) -> f64 {
+    let plan = |text: &String| drop(black_box(plan_text(&parse(black_box(text.as_bytes())).expect("an accepted text"))));
+    best(texts.len(), || texts.iter().for_each(plan))
+}
+
 #[cfg(feature = "ours")]
-fn ours(queries: &[Query]) -> Option<f64> {
-    let texts: Vec<String> = queries.iter().map(oracle::to_text).collect();
+fn ours(texts: &[String]) -> Option<f64> {
     let mut out = [0; 20_600];
     let mut plan = |text: &String| {
         _ = black_box(rimdovek_sys::plan(black_box(text.as_bytes()), &mut out));
     };
-    Some(best(queries.len(), || texts.iter().for_each(&mut plan)))
+    Some(best(texts.len(), || texts.iter().for_each(&mut plan)))
 }
 
 #[cfg(not(feature = "ours"))]
-fn ours(_: &[Query]) -> Option<f64> {
+fn ours(_: &[String]) -> Option<f64> {
     None
 }
 

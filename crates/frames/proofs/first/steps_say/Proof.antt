@@ -13,8 +13,8 @@ slice-aggregate-short-at c = sym (length-take-le _ _ (c .before .line-end .ensur
 short-at-requires : tie.Need-short-at-requires
 short-at-requires c κs = search needs
 
-wide-requires : tie.Need-wide-requires
-wide-requires c κs = search needs
+wide-short-requires : tie.Need-wide-short-requires
+wide-short-requires c κs = search needs
 
 returns : tie.Need-returns
 returns c = (cc, search needs)
@@ -22,4 +22,4 @@ returns c = (cc, search needs)
 pub steps-say-spec : {M : Type 1} → statement M
 steps-say-spec =
     tie.close
-    (tie.spec line-end-requires slice-aggregate-short-at short-at-requires wide-requires returns)
+    (tie.spec line-end-requires slice-aggregate-short-at short-at-requires wide-short-requires returns)

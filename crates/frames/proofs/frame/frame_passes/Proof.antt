@@ -1,5 +1,6 @@
 -- `frames::frame::frame_passes` meets its contract: unread, or the fields and then the items.
-use Rattle.frames.proofs.FrameLaws.{frame-unread, frame-goes, frame-stops}
+use Rattle.frames.proofs.FrameLaws.{frame-goes, frame-stops}
+use Rattle.frames.proofs.UnreadLaws.{frame-unread}
 use borrow.Author.Needs.{needs}
 use Rattle.frames.proofs.frame.frame_passes.Statement.{statement}
 use Rattle.frames.proofs.frame.frame_passes.Tie as tie
