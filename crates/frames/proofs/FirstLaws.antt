@@ -12,7 +12,7 @@ use borrow.Author.Tests.{lt-ltb, le-ltb, eq-eqb, ne-eqb, not-true, not-false}
 use mir.Val.{Fits}
 use mir.Syntax.{w64}
 use Rattle.base.specs.Choose.{pick, pick-elim}
-use Rattle.hex.specs.Digits.{bytesOf}
+use Rattle.hex.specs.Digits.{bytesOf, shortAt}
 use Rattle.hex.specs.Bytes.{bytes-length}
 use Rattle.hex.specs.Lines.{split, isHex, hexLineIn, hexLineOf, lineAt}
 use Rattle.hex.specs.Cuts.{HexLine, hex-found, all-rest, line-found}
@@ -26,7 +26,7 @@ use Rattle.frames.specs.declared.first.Reading.the-variants.{Accepted, R
 use Rattle.frames.specs.Fields.{fieldPasses}
 use Rattle.frames.specs.Limits.{textMost}
 use Rattle.frames.specs.Frames.{frameLength, framePasses}
-use Rattle.frames.specs.First.{noCounts, belongs, isCounted, hasRoom, counted, frameFault, lineFault, orElse, firstLines, firstFrom, stepsSay, stepsRight, emptyText, firstReading}
+use Rattle.frames.specs.First.{noCounts, belongs, isCounted, hasRoom, counted, frameFault, lineFault, orElse, firstLines, firstFrom, stepsSay, first-line, stepsRight, emptyText, firstReading}
 
 -- ---- the tests of one frame
 
@@ -146,3 +146,8 @@ module _ (t : Text) (x : List ℕ) where
     pub is-read : (a b : Reading) → (length x ≡ 0 → ⊥) → a ≡ firstFrom t 0 0 x → b ≡ stepsRight t x a → b ≡ firstReading t x
     unfolding firstReading
     is-read a b e p q = rw (le-ltb _ _ h, ne-eqb _ _ e, ← p) q
+
+-- ---- the header of a plan
+
+pub header-steps : (x l : List ℕ) (s r : ℕ) → l ≡ lineAt x 0 → s ≡ shortAt (bytesOf l) 4 → r ≡ s → r ≡ stepsSay x
+header-steps x l s r p q e = e ∙ q ∙ rw (p, first-line x)

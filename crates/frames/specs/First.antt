@@ -1,12 +1,14 @@
 -- "Each line is tested 1 to 4 in turn; after the last line comes a plan's step count": the first reading of a query, a plan or a table.
 use Prim.Native.Nat.{ℕ, zero, suc, _+_, _-_}
 use mathlib.Core.List.{List, [], _∷_, map}
+use mathlib.Core.Path.{_≡_}
 use mathlib.Core.Bool.{Bool, true, false, not}
+use native.Mathlib.Omega.{arith}
 use lib.ListN.{length, getD, take}
 use lib.Dec.{ltb, leb, eqb}
 use Rattle.base.specs.Choose.{pick}
 use Rattle.hex.specs.Digits.{bytesOf, shortAt}
-use Rattle.hex.specs.Lines.{Split, split, isHex, endOf}
+use Rattle.hex.specs.Lines.{Split, split, isHex, endOf, lineAt}
 use Rattle.frames.specs.Limits.{textMost, atomsMost, rowsMost}
 use Rattle.frames.specs.Fields.{fieldPasses}
 use Rattle.frames.specs.declared.fields.Counts.{Counts}
@@ -118,6 +120,9 @@ firstFrom t n c x = firstLines t n c (split x .ended) (split x .rest)
 -- a text's first line, and the steps that it gives as a plan's header, at its bytes 4 and 5: they are the lines after it
 abbrev pub firstLine : List ℕ → List ℕ
 firstLine x = take (endOf 0 x) x
+
+pub first-line : (x : List ℕ) → lineAt x 0 ≡ firstLine x
+first-line x = let e : endOf 0 x - 0 ≡ endOf 0 x = omega arith in rw e
 
 abbrev pub stepsSay : List ℕ → ℕ
 stepsSay x = shortAt (bytesOf (firstLine x)) 4

@@ -14,7 +14,6 @@ use super::kinds::text_of;
 use hex::Found;
 use hex::byte_at;
 use hex::hex_line;
-use hex::line_end;
 use hex::reader::line_from;
 use hex::short_at;
 
@@ -175,8 +174,7 @@ fn first_lines(t: Text, text: &[u8]) -> Reading
 fn steps_say(text: &[u8]) -> usize
     ensures { λ r. ⌜ (r ≡ stepsSay (now (text .entry))) × (r < 65536) ⌝ }
 {
-    let e = line_end(text, 0);
-    wide_short(short_at(&text[..e], 4))
+    wide_short(short_at(line_from(text, 0), 4))
 }
 
 fn steps_right(t: Text, text: &[u8], found: Reading) -> Reading

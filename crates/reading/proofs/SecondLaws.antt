@@ -17,7 +17,7 @@ use Rattle.base.specs.Choose.{pick}
 use Rattle.frames.specs.Limits.{textMost, atomsMost}
 use Rattle.frames.specs.Fields.{fieldPasses}
 use Rattle.frames.specs.Frames.{kindOf, frameLength, framePasses}
-use Rattle.frames.specs.First.{framesOf, orElse, firstReading}
+use Rattle.frames.specs.First.{framesOf, orElse, first-line, firstReading}
 use Rattle.frames.specs.declared.fields.Counts.{Counts}
 use Rattle.frames.specs.declared.fields.Test.the-variants.{Range, Reals}
 use Rattle.frames.specs.declared.first.Text.{Text}
@@ -35,12 +35,12 @@ use Rattle.reading.proofs.NoteLaws.{noted-line, noted-length, given-is,
 
 -- ---- what there is to name
 
-module _ (t : Text) (x : List ℕ) (c e : ℕ) (r : Counts) (p : e ≡ endOf 0 x) where
-  pub query-counts : t ≡ Query → r ≡ headerCounts (bytesOf (take e x)) c → r ≡ countsOf t x c
-  query-counts q g = rw (q, ← p) g
+module _ (t : Text) (x l : List ℕ) (c : ℕ) (r : Counts) (p : l ≡ lineAt x 0) where
+  pub query-counts : t ≡ Query → r ≡ headerCounts (bytesOf l) c → r ≡ countsOf t x c
+  query-counts q g = g ∙ rw (q, p, first-line x)
 
-  pub plan-counts : t ≡ Plan → r ≡ headerCounts (bytesOf (take e x)) atomsMost → r ≡ countsOf t x c
-  plan-counts q g = rw (q, ← p) g
+  pub plan-counts : t ≡ Plan → r ≡ headerCounts (bytesOf l) atomsMost → r ≡ countsOf t x c
+  plan-counts q g = g ∙ rw (q, p, first-line x)
 
 -- ---- the tests of one line
 

@@ -16,7 +16,6 @@ use frames::first::Text;
 use frames::first::first_reading;
 use frames::frame::frame_passes;
 use hex::byte_at;
-use hex::line_end;
 use hex::reader::line_from;
 
 // What a header says, with that many atoms.
@@ -38,10 +37,10 @@ fn header_counts(line: &[u8], atoms: usize) -> Counts
 pub fn counts_of(t: Text, text: &[u8], c: usize) -> Counts
     ensures { λ r. ⌜ r ≡ countsOf t (now (text .entry)) c ⌝ }
 {
-    let e = line_end(text, 0);
+    let header = line_from(text, 0);
     match t {
-        Text::Query => header_counts(&text[..e], c),
-        Text::Plan => header_counts(&text[..e], 64),
+        Text::Query => header_counts(header, c),
+        Text::Plan => header_counts(header, 64),
         Text::Table => Counts {
             variables: 0,
             globals: 16,

@@ -1,14 +1,11 @@
-use mathlib.Core.Path.{sym}
-use lib.Seq.{length-take-le}
+-- `frames::first::steps_say` meets its contract: the header is the line at the text's beginning.
+use Rattle.frames.proofs.FirstLaws.{header-steps}
 use borrow.Author.Needs.{needs}
 use Rattle.frames.proofs.first.steps_say.Statement.{statement}
 use Rattle.frames.proofs.first.steps_say.Tie as tie
 
-line-end-requires : tie.Need-line-end-requires
-line-end-requires c κs = search needs
-
-slice-aggregate-short-at : tie.Need-slice-aggregate-short-at
-slice-aggregate-short-at c = sym (length-take-le _ _ (c .before .line-end .ensures .1))
+line-from-requires : tie.Need-line-from-requires
+line-from-requires c κs = search needs
 
 short-at-requires : tie.Need-short-at-requires
 short-at-requires c κs = search needs
@@ -17,9 +14,7 @@ wide-short-requires : tie.Need-wide-short-requires
 wide-short-requires c κs = search needs
 
 returns : tie.Need-returns
-returns c = (cc, search needs)
+returns c = (search header-steps, search needs)
 
 pub steps-say-spec : {M : Type 1} → statement M
-steps-say-spec =
-    tie.close
-    (tie.spec line-end-requires slice-aggregate-short-at short-at-requires wide-short-requires returns)
+steps-say-spec = tie.close (tie.spec line-from-requires short-at-requires wide-short-requires returns)
