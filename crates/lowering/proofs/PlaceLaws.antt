@@ -12,7 +12,7 @@ use borrow.Author.Tests.{le-leb, lt-leb}
 use Rattle.base.specs.Choose.{pick}
 use Rattle.hex.specs.Digits.{bytesOf}
 use Rattle.hex.specs.Lines.{endOf, lineAt}
-use Rattle.hex.specs.Cuts.{Line}
+use Rattle.hex.specs.Cuts.{Line, line-within, line-ends, line-found}
 use Rattle.frames.specs.First.{framesOf, isAtom}
 use Rattle.reading.specs.Walk.{walk-line, frames-step, frames-none, frames-end}
 use Rattle.model.specs.Bound.{most}
@@ -69,36 +69,41 @@ module _ (x F₀ F : List ℕ) (at n : ℕ) (p : Placing x F₀ F at n) (atoms :
   pub places-end : length x ≤ at → Places x F n
   places-end h = ended (frames-end x at h)
 
-  module _ (e : ℕ) (q : e ≡ endOf at (drop at x)) where
-    pub places-none : e ≡ length x → Places x F n
+  module _ (l : List ℕ) (o : l ≡ lineAt x at) where
+    abbrev e : ℕ
+    e = at + length l
+
+    q : e ≡ endOf at (drop at x)
+    q = line-ends x l at (p .from) o
+
+    pub end-fits : at + length l ≤ length x
+    end-fits = rw o (line-within x at (p .from))
+
+    pub places-none : at + length l ≡ length x → Places x F n
     places-none h = ended (frames-none x at e q h)
 
-    module _ (h : e ≡ length x → ⊥) where
+    module _ (h : at + length l ≡ length x → ⊥) where
       line : Line x at e
       line = walk-line x at e (p .from) q h
 
-      pub line-from : at ≤ e
-      line-from = line .from
-
-      pub line-within : e ≤ length x
-      line-within = omega (arith, line .within)
-
-      pub line-less : length x - (e + 1) < length x - at
+      pub line-less : length x - (at + length l + 1) < length x - at
       line-less = omega (arith, line .within, line .from)
 
       abbrev frame : List ℕ
-      frame = bytesOf (take (e - at) (drop at x))
+      frame = bytesOf l
 
       ahead : drop n (atomFrames (framesOf x)) ≡ pick (isAtom (getD frame 0 0)) (frame ∷ atomFrames (framesOf (drop (e + 1) x))) (atomFrames (framesOf (drop (e + 1) x)))
       unfolding atomFrames
-      ahead = p .rest ∙ rw (frames-step x at e line)
+      ahead =
+          let f : l ≡ take (e - at) (drop at x) = o ∙ line-found x at e line in
+          p .rest ∙ rw (frames-step x at e line, ← f)
 
-      pub place-room : (isAtom (getD (bytesOf (take (e - at) (drop at x))) 0 0) ≡ true → n + most < length F)
+      pub place-room : (isAtom (getD (bytesOf l) 0 0) ≡ true → n + most < length F)
       place-room t =
-          let l : length (drop n (atomFrames (framesOf x))) ≡ suc (length (atomFrames (framesOf (drop (e + 1) x)))) = ap length (rw t at ahead) in
+          let g : length (drop n (atomFrames (framesOf x))) ≡ suc (length (atomFrames (framesOf (drop (e + 1) x)))) = ap length (rw t at ahead) in
           omega (arith, length-drop n (atomFrames (framesOf x)), p .size)
 
-      pub placing-again : (G : List ℕ) (m : ℕ) → Noted (bytesOf (take (e - at) (drop at x))) at e F n G m → Placing x F₀ G (e + 1) m
+      pub placing-again : (G : List ℕ) (m : ℕ) → Noted (bytesOf l) at (at + length l) F n G m → Placing x F₀ G (at + length l + 1) m
       placing-again G m w = by (isAtom (getD frame 0 0)) refl (w .places) (w .count) ahead
         where
           by : (t : Bool) → isAtom (getD frame 0 0) ≡ t → G ≡ pick t (set (set F n at) (n + most) e) F → m ≡ pick t (n + 1) n → drop n (atomFrames (framesOf x)) ≡ pick t (frame ∷ atomFrames (framesOf (drop (e + 1) x))) (atomFrames (framesOf (drop (e + 1) x))) → Placing x F₀ G (e + 1) m
@@ -140,11 +145,11 @@ module _ (x F₀ F : List ℕ) (at n : ℕ) (p : Placing x F₀ F at n) (atoms :
               end-other k l i = getD-set-other (set F n at) (n + most) (k + most) e 0 (λ j. i (omega arith)) ∙ getD-set-other F n (k + most) at 0 (λ j. omega (arith, below, atoms))
 
               within-at : (k : ℕ) → k < n + 1 → Dec (k ≡ n) → Lined x (set (set F n at) (n + most) e) k
-              within-at k l (yes i) = rw i (record { within = rw end-n line-within; ends = rw (end-n, at-n) q })
+              within-at k l (yes i) = rw i (record { within = rw end-n end-fits; ends = rw (end-n, at-n) q })
               within-at k l (no i) =
                   let w = p .within k (omega arith) in
                   record { within = rw (end-other k l i) (w .within); ends = rw (end-other k l i, at-other k l i) (w .ends) }
 
               is-at : (k : ℕ) → k < n + 1 → Dec (k ≡ n) → bytesOf (lineAt x (getD (set (set F n at) (n + most) e) k 0)) ≡ getD (atomFrames (framesOf x)) k []
-              is-at k l (yes i) = rw (i, at-n, ← q) (sym head)
+              is-at k l (yes i) = rw (i, at-n, ← o) (sym head)
               is-at k l (no i) = rw (at-other k l i) (p .is k (omega arith))

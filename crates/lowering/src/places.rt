@@ -9,7 +9,7 @@ ghost use Rattle.model.specs.Bound.{most};
 ghost use Rattle.cost.specs.QueryAtoms.{atomFrames};
 ghost use Rattle.lowering.specs.Places.{Places, Noted};
 use hex::byte_at;
-use hex::line_end;
+use hex::reader::line_from;
 
 // Notes where a line begins and ends, if it is an atom's; n are noted before. How many now are.
 fn note_place(line: &[u8], at: usize, end: usize, from: &mut [usize], n: usize) -> usize
@@ -37,11 +37,12 @@ pub fn atom_places(text: &[u8], from: &mut [usize]) -> usize
     let mut at: usize = 0;
     let mut n: usize = 0;
     while at < text.len() {
-        let e = line_end(text, at);
+        let line = line_from(text, at);
+        let e = at + line.len();
         if e == text.len() {
             return n;
         }
-        n = note_place(&text[at..e], at, e, from, n);
+        n = note_place(line, at, e, from, n);
         at = e + 1;
     }
     n

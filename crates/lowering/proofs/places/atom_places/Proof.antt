@@ -1,7 +1,8 @@
 -- `lowering::places::atom_places` meets its contract: the walk over the frames: the atoms left are those behind the places noted.
 use Prim.Native.Nat.{_-_}
+use native.Mathlib.Omega.{arith}
 use lib.ListN.{length}
-use Rattle.lowering.proofs.PlaceLaws.{Placing, placing-none, places-none, line-from, line-within, place-room, line-less, placing-again, places-end}
+use Rattle.lowering.proofs.PlaceLaws.{Placing, placing-none, end-fits, places-none, place-room, line-less, placing-again, places-end}
 use borrow.Author.Needs.{needs}
 use Rattle.lowering.proofs.places.atom_places.Statement.{statement}
 use Rattle.lowering.proofs.places.atom_places.Tie as tie
@@ -15,23 +16,17 @@ abbrev μ-loop : tie.MeasureT-loop
 loop-holds : tie.Need-loop-holds Inv-loop μ-loop
 loop-holds c = search placing-none
 
-line-end-requires : tie.Need-line-end-requires Inv-loop μ-loop
-line-end-requires c κs = search needs
+line-from-requires : tie.Need-line-from-requires Inv-loop μ-loop
+line-from-requires c κs = search needs
+
+add-e : tie.Need-add-e Inv-loop μ-loop
+add-e c = omega (arith, end-fits _ _ _ _ _ (c .before .before .loop .inv) (c .before .before .before .before .before .pre .0) (c .before .before .before .before .before .pre .1) _ (c .line-from .ensures), c .before .before .before .before .before .good)
 
 same-length : tie.Need-same-length Inv-loop μ-loop
 same-length c = search needs
 
 returns : tie.Need-returns Inv-loop μ-loop
 returns c = search places-none
-
-sub-note-place : tie.Need-sub-note-place Inv-loop μ-loop
-sub-note-place c = search line-from
-
-part-note-place-start : tie.Need-part-note-place-start Inv-loop μ-loop
-part-note-place-start c = search line-from
-
-part-note-place-end : tie.Need-part-note-place-end Inv-loop μ-loop
-part-note-place-end c = search line-within
 
 note-place-requires : tie.Need-note-place-requires Inv-loop μ-loop
 note-place-requires c κs = search place-room
@@ -58,12 +53,10 @@ atom-places-spec =
     Inv-loop
     μ-loop
     loop-holds
-    line-end-requires
+    line-from-requires
+    add-e
     same-length
     returns
-    sub-note-place
-    part-note-place-start
-    part-note-place-end
     note-place-requires
     add-at
     loop-less
