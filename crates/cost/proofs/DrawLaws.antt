@@ -11,7 +11,7 @@ use lib.Seq.{take-suc-set, take-all, length-take-le}
 use lib.Ieee.{Float, binary64, div, ofInt}
 use Rattle.hex.specs.Digits.{shortAt}
 use Rattle.query.specs.Statistics.{shortsFrom, keyClasses, driverSample}
-use Rattle.cost.specs.declared.sampling.Key.{Key}
+use Rattle.cost.specs.declared.probes.Key.{Key}
 use Rattle.cost.specs.Sampling.{probeSum, drawOf, withDraw, drawsOf, ofDraws, measure}
 use Rattle.cost.specs.Draws.{classesFrame, nodesFrame, Drawn, measurementOf}
 use Rattle.cost.specs.declared.draws.Measurement.{Measurement}

@@ -6,7 +6,7 @@ use native.Mathlib.Omega.{arith}
 use native.Mathlib.Nat.{add-zero, zero-add, add-assoc}
 use Rattle.hex.specs.Digits.{shortAt}
 use Rattle.query.specs.Statistics.{shortsFrom, probeLen}
-use Rattle.cost.specs.declared.sampling.Key.{Key}
+use Rattle.cost.specs.declared.probes.Key.{Key}
 use Rattle.cost.specs.Sampling.{probeSum}
 
 -- the numbers from the i-th on

@@ -17,7 +17,7 @@ use Rattle.model.specs.Bound.{Bound, has}
 use Rattle.model.specs.Lowering.{pvIsBound}
 use Rattle.cost.specs.Emitters.{Emitter, Emitters, emitterOf}
 use Rattle.cost.specs.Sampling.{measure, valueOf, Tally, afterEstimate}
-use Rattle.cost.specs.declared.sampling.Key.{Key}
+use Rattle.cost.specs.declared.probes.Key.{Key}
 
 -- a sampled value, where there is one, and what is remembered behind it
 pub record Sampled′ : Type 0 where

@@ -14,7 +14,7 @@ use Rattle.measure.specs.declared.SamplerConfig.{SamplerConfig}
 use Rattle.measure.specs.declared.Estimate.{Estimate}
 use Rattle.measure.specs.declared.Estimate.the-variants.{Accepted, Rejected}
 use Rattle.query.specs.Statistics.{driverSample, keyClasses, probeLen}
-use Rattle.cost.specs.declared.sampling.Key.{Key}
+use Rattle.cost.specs.declared.probes.Key.{Key}
 
 -- "One memo entry per (emitter, site, probe operator, path), refusals included." A site and a path have a position each.
 abbrev pub sameKey : Key → Key → Bool

@@ -25,7 +25,7 @@ use Rattle.model.specs.Bound.{Bound, has}
 use Rattle.model.specs.Lowering.{pvIsBound}
 use Rattle.model.specs.Scheduling.{State, Chosen, atomOf, numbers, lowerEager, emitAt, unplanned}
 use Rattle.model.specs.Cheapest.{Priced, Bid, Scan, scan, cheapest, better, wants}
-use Rattle.cost.specs.declared.sampling.Key.{Key}
+use Rattle.cost.specs.declared.probes.Key.{Key}
 use Rattle.cost.specs.Emitters.{Emitter, Emitters, emitterOf}
 use Rattle.cost.specs.Sampling.{Tally, sameKey, isKnown, measure, tallyOf, afterEstimate}
 use Rattle.cost.specs.Costs.{Costed, sampled, sampledBy, estimate, childCosts, elementCosts, estimateCost}

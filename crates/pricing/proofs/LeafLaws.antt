@@ -9,7 +9,7 @@ use lib.ListN.{length, getD, List·getD-eq-default}
 use lib.Ieee.{Float}
 use Rattle.measure.specs.Selectivity.{zero64}
 use Rattle.measure.specs.declared.FanOut.the-variants.{Measured, Unmeasured}
-use Rattle.cost.specs.declared.sampling.Key.{Key}
+use Rattle.cost.specs.declared.probes.Key.{Key}
 use Rattle.cost.specs.Costs.{orMeasured}
 use Rattle.frames.specs.Fields.{width}
 use Rattle.frames.specs.Kinds.{kindAt, fixedLength, itemsOf}

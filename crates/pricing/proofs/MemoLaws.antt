@@ -11,7 +11,7 @@ use native.Mathlib.Numerals.{add-one}
 use borrow.Author.Tests.{eq-eqb, eqb-true, lt-ltb, le-ltb}
 use Rattle.base.specs.Choose.{pick}
 use Rattle.model.specs.Bools.{first, second}
-use Rattle.cost.specs.declared.sampling.Key.{Key}
+use Rattle.cost.specs.declared.probes.Key.{Key}
 use Rattle.cost.specs.Sampling.{sameKey, isKnown}
 use Rattle.cost.specs.Memo.{unpackKey, memoAt}
 use Rattle.pricing.specs.Remembering.{Placed}
