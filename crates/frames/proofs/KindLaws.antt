@@ -1,16 +1,17 @@
 -- Laws of the table by kind. Assumes nothing.
-use Prim.Native.Nat.{ℕ, suc, _+_, _-_, _*_, _/_, _%_, _≤_, _<_}
+use Prim.Native.Nat.{ℕ, suc, _+_, _-_, _*_, _≤_, _<_}
 use mathlib.Core.Path.{_≡_, refl, sym, _∙_, ap}
 use mathlib.Core.List.{List, [], _∷_, _++_, map}
 use mathlib.Core.Bool.{Bool, true, false, _&&_}
 use native.Mathlib.Nat.{add-zero, zero-add, add-suc, suc-add}
-use lib.Dec.{T, leb, ltb, eqb, leb→le, ltb→lt, eqb→eq}
+use lib.Dec.{T, leb, eqb, leb→le, eqb→eq}
 use lib.Pow.{areBytes}
 use Rattle.base.specs.Choose.{pick}
 use lib.Seq.{getD-take}
 use Rattle.base.specs.Table.{both-left, both-right, all}
 use native.Mathlib.Omega.{arith}
 use lib.ListN.{getD, length, take, replicate, getD-replicate, List·getD-map}
+use Rattle.hex.specs.Bytes.{byte-at}
 use Rattle.frames.specs.declared.fields.Field.{Field}
 use Rattle.frames.specs.Kinds.{Kind, none, kinds, kindAt, noKind}
 use Rattle.frames.specs.Rows.{code, decode, rowOf, sixFields, sixAt, wordsOf, byteOf, field-decoded}
@@ -91,14 +92,9 @@ other-row b e =
 
 -- ---- a byte of a row
 
-small : (l : List ℕ) (k : ℕ) → T (areBytes l) → getD l k 0 < 256
-small [] k t = omega arith
-small (x ∷ l) ℕ.zero t = ltb→lt x 256 (both-left (ltb x 256) (areBytes l) t)
-small (x ∷ l) (suc k) t = small l k (both-right (ltb x 256) (areBytes l) t)
-
 row-small : (b k : ℕ) → getD (rowOf (kindAt b)) k 0 < 256
 unfolding kindAt kinds all
-row-small b k = small (rowOf (kindAt b)) k (held (λ (r : Kind). areBytes (rowOf r)) kinds b tt tt)
+row-small b k = byte-at (rowOf (kindAt b)) (held (λ (r : Kind). areBytes (rowOf r)) kinds b tt tt) k
 
 six-byte : (a b c d e f j : ℕ) (l : List ℕ) → a < 256 → b < 256 → c < 256 → d < 256 → e < 256 → f < 256 → l ≡ a ∷ b ∷ c ∷ d ∷ e ∷ f ∷ [] → j < 6 → byteOf (a + 256 * (b + 256 * (c + 256 * (d + 256 * (e + 256 * f))))) j ≡ getD l j 0
 six-byte a b c d e f ℕ.zero l g h i k m n p q = rw p (omega arith)

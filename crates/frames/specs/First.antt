@@ -1,12 +1,13 @@
 -- "Each line is tested 1 to 4 in turn; after the last line comes a plan's step count": the first reading of a query, a plan or a table.
-use Prim.Native.Nat.{ℕ, zero, suc, _+_, _-_}
+use Prim.Native.Nat.{ℕ, zero, suc, _+_}
+use mathlib.Core.Path.{_≡_, refl}
 use mathlib.Core.List.{List, [], _∷_, map}
 use mathlib.Core.Bool.{Bool, true, false, not}
 use lib.ListN.{length, getD, take}
 use lib.Dec.{ltb, leb, eqb}
 use Rattle.base.specs.Choose.{pick}
 use Rattle.hex.specs.Digits.{bytesOf, shortAt}
-use Rattle.hex.specs.Lines.{Split, split, isHex, endOf}
+use Rattle.hex.specs.Lines.{split, isHex, endOf}
 use Rattle.frames.specs.Limits.{textMost, atomsMost, rowsMost}
 use Rattle.frames.specs.Fields.{fieldPasses}
 use Rattle.frames.specs.declared.fields.Counts.{Counts}
@@ -103,6 +104,10 @@ atEnd n c (b ∷ r) = Refused 1 (suc n)
 abbrev pub orElse : ℕ → ℕ → Reading → Reading
 orElse zero n a = a
 orElse (suc k) n a = Refused (suc k) (suc n)
+
+pub or-stops : (k n : ℕ) (a : Reading) → (k ≡ 0 → ⊥) → orElse k n a ≡ Refused k (suc n)
+or-stops zero n a h = absurd (h refl)
+or-stops (suc k) n a h = refl
 
 unfoldable pub firstLines : Text → ℕ → ℕ → List (List ℕ) → List ℕ → Reading
 unfolding lineFault

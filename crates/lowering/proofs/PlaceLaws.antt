@@ -14,7 +14,7 @@ use Rattle.hex.specs.Digits.{bytesOf}
 use Rattle.hex.specs.Lines.{endOf, lineAt}
 use Rattle.hex.specs.Cuts.{Line}
 use Rattle.frames.specs.First.{framesOf, isAtom}
-use Rattle.reading.specs.Walk.{walk-line, frames-step, frames-none, frames-end}
+use Rattle.reading.specs.Walk.{walk-line, line-within, frames-step, frames-none, frames-end}
 use Rattle.model.specs.Bound.{most}
 use Rattle.cost.specs.QueryAtoms.{atomFrames}
 use Rattle.lowering.specs.Eager.{Lined}
@@ -77,15 +77,6 @@ module _ (x F₀ F : List ℕ) (at n : ℕ) (p : Placing x F₀ F at n) (atoms :
       line : Line x at e
       line = walk-line x at e (p .from) q h
 
-      pub line-from : at ≤ e
-      line-from = line .from
-
-      pub line-within : e ≤ length x
-      line-within = omega (arith, line .within)
-
-      pub line-less : length x - (e + 1) < length x - at
-      line-less = omega (arith, line .within, line .from)
-
       abbrev frame : List ℕ
       frame = bytesOf (take (e - at) (drop at x))
 
@@ -140,7 +131,7 @@ module _ (x F₀ F : List ℕ) (at n : ℕ) (p : Placing x F₀ F at n) (atoms :
               end-other k l i = getD-set-other (set F n at) (n + most) (k + most) e 0 (λ j. i (omega arith)) ∙ getD-set-other F n (k + most) at 0 (λ j. omega (arith, below, atoms))
 
               within-at : (k : ℕ) → k < n + 1 → Dec (k ≡ n) → Lined x (set (set F n at) (n + most) e) k
-              within-at k l (yes i) = rw i (record { within = rw end-n line-within; ends = rw (end-n, at-n) q })
+              within-at k l (yes i) = rw i (record { within = rw end-n (line-within x at e (p .from) q h); ends = rw (end-n, at-n) q })
               within-at k l (no i) =
                   let w = p .within k (omega arith) in
                   record { within = rw (end-other k l i) (w .within); ends = rw (end-other k l i, at-other k l i) (w .ends) }

@@ -1,8 +1,6 @@
 -- `cost::probes::probe_sum` meets its contract: the classes left give the rest of the sum.
 use borrow.Author.Needs.{needs}
 use Prim.Native.Nat.{_-_}
-use mathlib.Core.Path.{refl}
-use native.Mathlib.Omega.{arith}
 use Rattle.hex.specs.Digits.{bytesOf}
 use Rattle.frames.specs.First.{framesOf}
 use Rattle.cost.proofs.SamplingLaws.{Summed, summed-none, summed-again, summed-all, summed-small}

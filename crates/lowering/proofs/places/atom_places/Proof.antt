@@ -1,7 +1,8 @@
 -- `lowering::places::atom_places` meets its contract: the walk over the frames: the atoms left are those behind the places noted.
 use Prim.Native.Nat.{_-_}
 use lib.ListN.{length}
-use Rattle.lowering.proofs.PlaceLaws.{Placing, placing-none, places-none, line-from, line-within, place-room, line-less, placing-again, places-end}
+use Rattle.reading.specs.Walk.{line-from, line-within, line-less}
+use Rattle.lowering.proofs.PlaceLaws.{Placing, placing-none, places-none, place-room, placing-again, places-end}
 use borrow.Author.Needs.{needs}
 use Rattle.lowering.proofs.places.atom_places.Statement.{statement}
 use Rattle.lowering.proofs.places.atom_places.Tie as tie
