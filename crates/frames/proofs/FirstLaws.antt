@@ -1,5 +1,5 @@
 -- The first reading, a test and a line at a time. Assumes nothing.
-use Prim.Native.Nat.{ℕ, zero, suc, _+_, _-_, _/_, _<_, _≤_}
+use Prim.Native.Nat.{ℕ, suc, _+_, _-_, _/_, _<_, _≤_}
 use mathlib.Core.Path.{_≡_, refl, sym, _∙_}
 use mathlib.Core.Bool.{Bool, true, false, not}
 use mathlib.Core.List.{List, [], _∷_}
@@ -26,7 +26,7 @@ use Rattle.frames.specs.declared.first.Reading.the-variants.{Accepted, R
 use Rattle.frames.specs.Fields.{fieldPasses}
 use Rattle.frames.specs.Limits.{textMost}
 use Rattle.frames.specs.Frames.{frameLength, framePasses}
-use Rattle.frames.specs.First.{noCounts, belongs, isCounted, hasRoom, counted, frameFault, lineFault, orElse, firstLines, firstFrom, stepsSay, first-line, stepsRight, emptyText, firstReading}
+use Rattle.frames.specs.First.{noCounts, belongs, isCounted, hasRoom, counted, frameFault, lineFault, orElse, or-stops, firstLines, firstFrom, stepsSay, first-line, stepsRight, emptyText, firstReading}
 
 -- ---- the tests of one frame
 
@@ -62,10 +62,6 @@ pub record Seen (t : Text) (x : List ℕ) (at n c : ℕ) : Type 0 where
   pub most : c ≤ n
   pub within : at ≤ length x
   pub is : firstFrom t 0 0 x ≡ firstFrom t n c (drop at x)
-
-or-stops : (k n : ℕ) (a : Reading) → (k ≡ 0 → ⊥) → orElse k n a ≡ Refused k (suc n)
-or-stops zero n a h = absurd (h refl)
-or-stops (suc k) n a h = refl
 
 one-more : (t : Text) (c b : ℕ) → counted t c b ≤ c + 1
 one-more t c b = pick-elim (λ (m : ℕ). m ≤ c + 1) (isCounted t b) (c + 1) c (λ _. omega arith) (λ _. omega arith)

@@ -1,10 +1,10 @@
 -- The plan of an accepted query of the kinds that run is the cause of no refusal: over a table in shape, with a class for every global that
 -- an atom names, only the table's own tests can fail (`only-the-table`). Proved from the lowering sequence.
 use Prim.Native.Nat.{ℕ, zero, suc}
-use mathlib.Core.Path.{_≡_, refl, sym}
+use mathlib.Core.Path.{_≡_, refl}
 use mathlib.Core.Logic.{_⊎_, inl, inr}
 use mathlib.Core.Bool.{Bool, true, false}
-use mathlib.Core.List.{List, [], _∷_, map, List·Memᴰ, Memᴰ·of-map, Memᴰ·cast}
+use mathlib.Core.List.{List, [], _∷_, map, List·Memᴰ}
 use native.Mathlib.Omega.{arith}
 use lib.ListN.{replicate}
 use Rattle.base.specs.Choose.{pick}
@@ -23,9 +23,9 @@ use Rattle.model.specs.Refusing.{isRun, runnable, allRunnable, fits, opsBy, all
 use Rattle.model.specs.Matching.{InShapes}
 use Rattle.model.specs.Lines.{shape-mem, mem-shape}
 use Rattle.model.specs.Scheduling.{State, Chosen, Fair, atomOf, numbers, schedule}
-use Rattle.model.specs.Scheduled.{Ordered, ordered, number-mem, reached}
+use Rattle.model.specs.Scheduled.{number-mem}
 use Rattle.model.specs.Accepted.{plan-fits}
-use Rattle.model.specs.Guarantee.{schedule-bound-first, schedule-runnable}
+use Rattle.model.specs.Guarantee.{made, order-mem, schedule-bound-first, schedule-runnable}
 use Rattle.cost.specs.Choice.{fresh, choose, choose-fair, planned}
 use Rattle.plans.specs.StepFrames.{Each}
 use Rattle.plan_facts.specs.QueryPlans.{atomsOf}
@@ -69,21 +69,15 @@ shapes-refused rs n (f ∷ fs) k y l h = by (rowFault rs f) h (shapes-refused (w
 
 -- the plan of atoms that run, by any fair choice
 module _ (tb : Table) (qs : List Atom) {X : Type 0} (choose : X → State → Chosen X) (x : X) (fair : Fair (atomOf qs) (numbers qs) choose) where
-  made : Ordered (atomOf qs) (numbers qs) (schedule qs choose x)
-  made = ordered (atomOf qs) (numbers qs) (schedule qs choose x) (reached qs choose x fair)
-
-  known : (k : ℕ) → List·Memᴰ k (made .order) → List·Memᴰ (atomOf qs k) qs
-  known k m = number-mem qs k (made .known k m)
+  known : (k : ℕ) → List·Memᴰ k (made qs choose x fair .order) → List·Memᴰ (atomOf qs k) qs
+  known k m = number-mem qs k (made qs choose x fair .known k m)
 
   schedule-passes : ((a : Atom) → List·Memᴰ a qs → isRun a ≡ true) → InShapes tb qs → ((a : Atom) → List·Memᴰ a qs → allGiven tb (atomGlobals a) ≡ true) → stepsPass tb (schedule qs choose x .steps) ≡ Passed
   schedule-passes run sh given = steps-pass tb (schedule qs choose x .steps) blank blank (replicate variablesMost 0) 1
       (schedule-runnable qs choose x fair run)
       (schedule-bound-first qs choose x fair blank blank has-blank)
-      (plan-fits tb (made .lowered) (mem-shape tb (map (atomOf qs) (made .order)) (λ a m. shape-mem tb qs sh a (back a m))) (replicate variablesMost 0))
-      (plan-given tb (made .lowered) (λ k m. run (atomOf qs k) (known k m)) (λ k m. given (atomOf qs k) (known k m)))
-    where
-      back : (a : Atom) → List·Memᴰ a (map (atomOf qs) (made .order)) → List·Memᴰ a qs
-      back a m = let r = Memᴰ·of-map (atomOf qs) (made .order) m in Memᴰ·cast (sym (r .2)) (known (r .0) (r .1))
+      (plan-fits tb (made qs choose x fair .lowered) (mem-shape tb (map (atomOf qs) (made qs choose x fair .order)) (λ a m. shape-mem tb qs sh a (order-mem qs choose x fair a m))) (replicate variablesMost 0))
+      (plan-given tb (made qs choose x fair .lowered) (λ k m. run (atomOf qs k) (known k m)) (λ k m. given (atomOf qs k) (known k m)))
 
 module _ (x t : List ℕ) (n c : ℕ) (ok : reading Query x ≡ Accepted n c) where
   plan-passes : ((a : Atom) → List·Memᴰ a (atomsOf x) → isRun a ≡ true) → InShapes (tableOf t) (atomsOf x) → GlobalsGiven x t → stepsPass (tableOf t) (stepsOf x) ≡ Passed

@@ -8,23 +8,23 @@ use mathlib.Core.List.{List, [], _∷_, _++_, append-nil, append-assoc, List·Me
 use native.Mathlib.Omega.{arith}
 use native.Mathlib.Numerals.{add-one}
 use lib.Dec.{T, eqb}
-use borrow.Author.Tests.{eq-eqb, ne-eqb, eqb-true, eqb-false}
+use borrow.Author.Tests.{eq-eqb, ne-eqb, eqb-true, eqb-false, not-true, not-false}
 use Rattle.base.specs.Choose.{pick}
 use Rattle.hex.specs.Digits.{bytesOf}
 use lib.ListN.{length, getD, take, drop, set, length-set, length-append}
 use lib.Seq.{take-suc, take-suc-set, take-length}
 use Rattle.hex.specs.Lines.{endOf, lineAt}
 use Rattle.model.specs.Atoms.{Atom, Step}
-use Rattle.model.specs.Tabulate.{tabulate-at, tabulate-length, mem-tabulate}
+use Rattle.model.specs.Tabulate.{tabulate-at, tabulate-length}
 use Rattle.model.specs.Bound.{Bound, has, add, addAll, most}
 use Rattle.model.specs.Lowering.{Emitted, lower, Lowered, done, more}
 use Rattle.model.specs.Scheduling.{State, isFree, unlowered, tryAt, eagerPass, lowerEager, atomOf, numbers}
 use Rattle.model.specs.Scheduled.{unlowered-lt, lower-eager-is}
 use Rattle.cost.specs.QueryAtoms.{atomOfFrame}
-use Rattle.lowering.specs.AtomLines.{AtomLine, lowers, boundBehind, Lowers}
-use Rattle.lowering.specs.Eager.{state, Went, Tries, atomsOf, Lined, Located, Ready, Passed, LoweredEager}
+use Rattle.lowering.specs.AtomLines.{lowers, boundBehind, Lowers}
+use Rattle.lowering.specs.Eager.{state, Went, Tries, atomsOf, Located, Ready, Passed, LoweredEager}
 use Rattle.lowering.proofs.SetLaws.{add-size}
-use Rattle.lowering.proofs.OperandLaws.{is-true, is-false}
+use Rattle.lowering.specs.LocatedLaws.{number-among}
 
 -- ---- composition
 
@@ -107,7 +107,7 @@ module _ (f : List ℕ) (i : ℕ) (U B : Bound) (O : List ℕ) (c : ℕ) (t : Bo
 
   module _ (new : t ≡ false) (q : Bool) (free : q ≡ isFree U B (atomOfFrame f)) where
     pub tried-not-free : not q ≡ true → Tries f i U B O c U B O c
-    tried-not-free h = record { went = λ at js e m. went-none at js (tryAt at js i) U B O c (λ ss. rw (sym is ∙ new, e, sym free ∙ is-false q h)) }
+    tried-not-free h = record { went = λ at js e m. went-none at js (tryAt at js i) U B O c (λ ss. rw (sym is ∙ new, e, sym free ∙ not-true q h)) }
 
     module _ (h : not q ≡ false) (C : Bound) (r : Bool) (l : Lowers B (atomOfFrame f) r C) where
       waits-same : (o : Option Emitted) → lowers o ≡ r → boundBehind B o ≡ C → r ≡ false → (o ≡ none) × (B ≡ C)
@@ -116,16 +116,16 @@ module _ (f : List ℕ) (i : ℕ) (U B : Bound) (O : List ℕ) (c : ℕ) (t : Bo
 
       pub tried-waits : not r ≡ true → Tries f i U B O c U C O c
       tried-waits g =
-          let w = waits-same (lower B i (atomOfFrame f)) (l .is i) (l .bound i) (is-false r g) in
-          rw (← w .1) (record { went = λ at js e m. went-none at js (tryAt at js i) U B O c (λ ss. rw (sym is ∙ new, e, sym free ∙ is-true q h, w .0)) })
+          let w = waits-same (lower B i (atomOfFrame f)) (l .is i) (l .bound i) (not-true r g) in
+          rw (← w .1) (record { went = λ at js e m. went-none at js (tryAt at js i) U B O c (λ ss. rw (sym is ∙ new, e, sym free ∙ not-false q h, w .0)) })
 
       pub tried-takes : (U′ : Bound) → not r ≡ false → U′ ≡ add U i → i < length U → c < length O → Tries f i U B O c U′ C (set O c i) (c + 1)
       tried-takes U′ g v below room = record { went = λ at js e m. at-some at js e m (lower B i (atomOfFrame f)) refl }
         where
           at-some : (at : ℕ → Atom) (js : List ℕ) → at i ≡ atomOfFrame f → List·Memᴰ i js → (o : Option Emitted) → lower B i (atomOfFrame f) ≡ o → Went at js (tryAt at js i) U B O c U′ C (set O c i) (c + 1)
-          at-some at js e m none p = absurd (subst T (sym (ap lowers (sym p) ∙ l .is i ∙ is-true r g)) tt)
+          at-some at js e m none p = absurd (subst T (sym (ap lowers (sym p) ∙ l .is i ∙ not-false r g)) tt)
           at-some at js e m (some x) p =
-              went-one at js (tryAt at js i) i U B O c U′ C x (rw e p) (ap (boundBehind B) (sym p) ∙ l .bound i) v (sym is ∙ new) m below room (l .size) (λ ss. rw (sym is ∙ new, e, sym free ∙ is-true q h, p))
+              went-one at js (tryAt at js i) i U B O c U′ C x (rw e p) (ap (boundBehind B) (sym p) ∙ l .bound i) v (sym is ∙ new) m below room (l .size) (λ ss. rw (sym is ∙ new, e, sym free ∙ not-false q h, p))
 
 pub has-room : (i : ℕ) (U : Bound) (O : List ℕ) (c : ℕ) (t : Bool) → t ≡ has U i → t ≡ false → (has U i ≡ false → c < length O) → c < length O
 has-room i U O c t is h room = room (sym is ∙ h)
@@ -163,28 +163,16 @@ module _ (x from : List ℕ) (n : ℕ) (U₀ B₀ : Bound) (O₀ : List ℕ) (c�
     within : i < length (numbers (atomsOf x))
     within = rw (tabulate-length (length (atomsOf x)) (λ k. k), ← z .count) h
 
-    mem : List·Memᴰ i (numbers (atomsOf x))
-    mem = mem-tabulate (length (atomsOf x)) (λ k. k) i (rw (← z .count) h)
-
     one-more : take (i + 1) (numbers (atomsOf x)) ≡ take i (numbers (atomsOf x)) ++ i ∷ []
     one-more = rw (add-one i, take-suc (numbers (atomsOf x)) i 0 within, number)
 
-    pub place-sized : i + most < length from
-    place-sized = omega (arith, z .size)
-
-    pub place-within : Lined x from i
-    place-within = z .within i h
-
     module _ (l : List ℕ) (v : ℕ) (line : l ≡ lineAt x (getD from i 0)) (narrow : v ≡ i) where
-      pub line-ready : AtomLine (bytesOf l)
-      line-ready = rw line (z .line i h)
-
       pub number-below : Ready x U₀ B₀ O₀ c₀ → v < length U
       number-below r = omega (arith, p .went .used-size, r .used, z .few)
 
       pub order-room : Ready x U₀ B₀ O₀ c₀ → (has U v ≡ false → c < length O)
       order-room r g =
-          let k = unlowered-lt U i (numbers (atomsOf x)) (rw narrow at g) mem in
+          let k = unlowered-lt U i (numbers (atomsOf x)) (rw narrow at g) (number-among x from n z i h) in
           omega (arith, p .went .left, p .went .order-size, r .room, r .order)
 
       pub passing-again : (U′ C : Bound) (P : List ℕ) (d : ℕ) → Tries (bytesOf l) v U B O c U′ C P d → Passing x n U₀ B₀ O₀ c₀ U′ C P d (i + 1)
@@ -192,7 +180,7 @@ module _ (x from : List ℕ) (n : ℕ) (U₀ B₀ : Bound) (O₀ : List ℕ) (c�
         few = omega arith;
         went = rw (one-more, pass-snoc (atomOf (atomsOf x)) (numbers (atomsOf x)) (take i (numbers (atomsOf x))) i)
             (went-then (atomOf (atomsOf x)) (numbers (atomsOf x)) (eagerPass (atomOf (atomsOf x)) (numbers (atomsOf x)) (take i (numbers (atomsOf x)))) (tryAt (atomOf (atomsOf x)) (numbers (atomsOf x)) i) (p .went)
-            ((rw (narrow, line) at t) .went (atomOf (atomsOf x)) (numbers (atomsOf x)) (z .is i h) mem));
+            ((rw (narrow, line) at t) .went (atomOf (atomsOf x)) (numbers (atomsOf x)) (z .is i h) (number-among x from n z i h)));
       }
 
   pub bound-sized : Ready x U₀ B₀ O₀ c₀ → length B ≡ most
@@ -285,6 +273,6 @@ module _ (x : List ℕ) where
       next-pass = record {
         go = λ st. pass (r .go st);
         went = went-then at js (r .go) pass (r .went) w;
-        last = λ k ss. r .again h ss ∙ ap (lowerEager at js) (r .went .is ss) ∙ last-pass U B O c U′ C P d w (ss ++ r .went .steps) (eqb-true d c (is-true (eqb d c) k)) ∙ ap pass (sym (r .went .is ss));
-        again = λ k ss. r .again h ss ∙ ap (lowerEager at js) (r .went .is ss) ∙ more-passes U B O c U′ C P d w (ss ++ r .went .steps) (eqb-false d c (is-false (eqb d c) k)) ∙ ap (λ (s : State). lowerEager at js (pass s)) (sym (r .went .is ss));
+        last = λ k ss. r .again h ss ∙ ap (lowerEager at js) (r .went .is ss) ∙ last-pass U B O c U′ C P d w (ss ++ r .went .steps) (eqb-true d c (not-false (eqb d c) k)) ∙ ap pass (sym (r .went .is ss));
+        again = λ k ss. r .again h ss ∙ ap (lowerEager at js) (r .went .is ss) ∙ more-passes U B O c U′ C P d w (ss ++ r .went .steps) (eqb-false d c (not-true (eqb d c) k)) ∙ ap (λ (s : State). lowerEager at js (pass s)) (sym (r .went .is ss));
       }

@@ -14,7 +14,7 @@ use Rattle.hex.specs.Digits.{bytesOf}
 use Rattle.hex.specs.Lines.{endOf, lineAt}
 use Rattle.hex.specs.Cuts.{Line, line-within, line-ends, line-found}
 use Rattle.frames.specs.First.{framesOf, isAtom}
-use Rattle.reading.specs.Walk.{walk-line, frames-step, frames-none, frames-end}
+use Rattle.reading.specs.Walk.{walk-line, line-within, frames-step, frames-none, frames-end}
 use Rattle.model.specs.Bound.{most}
 use Rattle.cost.specs.QueryAtoms.{atomFrames}
 use Rattle.lowering.specs.Eager.{Lined}

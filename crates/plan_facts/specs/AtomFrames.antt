@@ -8,8 +8,9 @@ use lib.ListN.{length, getD, replicate}
 use lib.Dec.{T, ltb, leb, eqb}
 use lib.Pow.{areBytes}
 use borrow.Author.Tests.{ltb-true, leb-true}
-use Rattle.base.specs.Choose.{pick}
+use Rattle.base.specs.Choose.{pick, both-hold}
 use Rattle.hex.specs.Digits.{wordAt}
+use Rattle.hex.specs.Bytes.{byte-at}
 use Rattle.frames.specs.Limits.{itemsMost}
 use Rattle.frames.specs.Fields.{width, fieldPasses, fieldFits, fieldIn, operandIn}
 use Rattle.frames.specs.Kinds.{kinds, kindAt, fixedLength}
@@ -19,9 +20,9 @@ use Rattle.frames.specs.declared.fields.Field.{Field}
 use Rattle.frames.specs.declared.fields.Field.the-variants.{Operand as OperandField, Element as ElementField, Atom as AtomField}
 use Rattle.frames.specs.declared.fields.Counts.{Counts}
 use Rattle.frames.specs.declared.fields.Test.the-variants.{Limits, Range}
-use Rattle.model.specs.Bools.{first, second}
 use Rattle.model.specs.Atoms.{local, global}
 use Rattle.cost.specs.QueryAtoms.{operandAt, operandsFrom, bytesFrom, atomOfFrame}
+use Rattle.cost.specs.Operands.{operands-length}
 use Rattle.plans.specs.StepFrames.{Each, Byte, OperandFits, OperandsFit}
 use Rattle.plans.specs.Fitting.{AtomFits}
 
@@ -31,14 +32,10 @@ abbrev Passes : (Field → List ℕ → ℕ → Bool) → List Field → List �
 Passes P [] f i = Unit {0}
 Passes P (x ∷ xs) f i = (P x f i ≡ true) × Passes P xs f (i + width x)
 
-both-of : (a b : Bool) → pick a b false ≡ true → (a ≡ true) × (b ≡ true)
-both-of true b h = (refl, h)
-both-of false b h = absurd (subst T (sym h) tt)
-
 passes : (P : Field → List ℕ → ℕ → Bool) (xs : List Field) (f : List ℕ) (i : ℕ) → passAll P xs f i ≡ true → Passes P xs f i
 unfolding passAll
 passes P [] f i h = tt
-passes P (x ∷ xs) f i h = let b = both-of (P x f i) (passAll P xs f (i + width x)) h in (b .0, passes P xs f (i + width x) (b .1))
+passes P (x ∷ xs) f i h = let b = both-hold (P x f i) (passAll P xs f (i + width x)) h in (b .0, passes P xs f (i + width x) (b .1))
 
 -- a frame's fields, then its items
 abbrev FramePasses : (Field → List ℕ → ℕ → Bool) → List ℕ → Type 0
@@ -46,32 +43,25 @@ FramePasses P f = Passes P (kindOf f .fields) f 1 × Passes P (itemFields f) f (
 
 frame-passes : (P : Field → List ℕ → ℕ → Bool) (f : List ℕ) → framePasses P f ≡ true → FramePasses P f
 frame-passes P f h =
-    let b = both-of (passAll P (kindOf f .fields) f 1) (passAll P (itemFields f) f (fixedLength (kindOf f))) h in
+    let b = both-hold (passAll P (kindOf f .fields) f 1) (passAll P (itemFields f) f (fixedLength (kindOf f))) h in
     (passes P (kindOf f .fields) f 1 (b .0), passes P (itemFields f) f (fixedLength (kindOf f)) (b .1))
 
 -- ---- bytes
-byte-at : (f : List ℕ) → areBytes f ≡ true → (i : ℕ) → getD f i 0 < 256
-byte-at [] h i = omega arith
-byte-at (b ∷ f) h zero = ltb-true b 256 (first (ltb b 256) (areBytes f) h)
-byte-at (b ∷ f) h (suc i) = byte-at f (second (ltb b 256) (areBytes f) h) i
+are-bytes : (f : List ℕ) → areBytes f ≡ true → (i : ℕ) → getD f i 0 < 256
+are-bytes f h = byte-at f (subst T (sym h) tt)
 
 word-at : (f : List ℕ) → areBytes f ≡ true → (i : ℕ) → wordAt f i < 0x1_0000_0000
-word-at f h i = omega (arith, byte-at f h i, byte-at f h (i + 1), byte-at f h (i + 2), byte-at f h (i + 2 + 1))
+word-at f h i = omega (arith, are-bytes f h i, are-bytes f h (i + 1), are-bytes f h (i + 2), are-bytes f h (i + 2 + 1))
 
 bytes-fit : (f : List ℕ) → areBytes f ≡ true → (i w k : ℕ) → Each Byte (bytesFrom f i w k)
 unfolding bytesFrom
 bytes-fit f h i w zero = tt
-bytes-fit f h i w (suc k) = (byte-at f h i, bytes-fit f h (i + w) w k)
+bytes-fit f h i w (suc k) = (are-bytes f h i, bytes-fit f h (i + w) w k)
 
 bytes-length : (f : List ℕ) (i w k : ℕ) → length (bytesFrom f i w k) ≡ k
 unfolding bytesFrom
 bytes-length f i w zero = refl
 bytes-length f i w (suc k) = ap suc (bytes-length f (i + w) w k)
-
-operands-length : (f : List ℕ) (i w k : ℕ) → length (operandsFrom f i w k) ≡ k
-unfolding operandsFrom
-operands-length f i w zero = refl
-operands-length f i w (suc k) = ap suc (operands-length f (i + w) w k)
 
 -- ---- operands
 operand-fits : (n : Counts) (f : List ℕ) (i : ℕ) → operandIn n (getD f i 0) (getD f (i + 1) 0) ≡ true → OperandFits n (operandAt f i)
@@ -115,7 +105,7 @@ module _ (n : Counts) where
   plain f g =
       let l = frame-passes (fieldPasses Limits noCounts) (0x01 ∷ f) (g .limits) in
       let r = frame-passes (fieldPasses Range n) (0x01 ∷ f) (g .range) in
-      let b = byte-at (0x01 ∷ f) (g .bytes) in
+      let b = are-bytes (0x01 ∷ f) (g .bytes) in
       (ltb-true _ _ (r .0 .0), b 2, operands-in (0x01 ∷ f) 4 (getD (0x01 ∷ f) 3 0) (l .0 .1 .1 .0) (r .1))
 
   lit : (f : List ℕ) → Good n (0x02 ∷ f) → AtomFits n (atomOfFrame (0x02 ∷ f))
@@ -123,7 +113,7 @@ module _ (n : Counts) where
   lit f g =
       let l = frame-passes (fieldPasses Limits noCounts) (0x02 ∷ f) (g .limits) in
       let r = frame-passes (fieldPasses Range n) (0x02 ∷ f) (g .range) in
-      let b = byte-at (0x02 ∷ f) (g .bytes) in
+      let b = are-bytes (0x02 ∷ f) (g .bytes) in
       (ltb-true _ _ (r .0 .0), b 2, word-at (0x02 ∷ f) (g .bytes) 4)
 
   lit-bind : (f : List ℕ) → Good n (0x03 ∷ f) → AtomFits n (atomOfFrame (0x03 ∷ f))
@@ -131,7 +121,7 @@ module _ (n : Counts) where
   lit-bind f g =
       let l = frame-passes (fieldPasses Limits noCounts) (0x03 ∷ f) (g .limits) in
       let r = frame-passes (fieldPasses Range n) (0x03 ∷ f) (g .range) in
-      let b = byte-at (0x03 ∷ f) (g .bytes) in
+      let b = are-bytes (0x03 ∷ f) (g .bytes) in
       (ltb-true _ _ (r .0 .0), b 2, ltb-true _ _ (r .0 .1 .1 .0))
 
   eq : (f : List ℕ) → Good n (0x04 ∷ f) → AtomFits n (atomOfFrame (0x04 ∷ f))
@@ -139,7 +129,7 @@ module _ (n : Counts) where
   eq f g =
       let l = frame-passes (fieldPasses Limits noCounts) (0x04 ∷ f) (g .limits) in
       let r = frame-passes (fieldPasses Range n) (0x04 ∷ f) (g .range) in
-      let b = byte-at (0x04 ∷ f) (g .bytes) in
+      let b = are-bytes (0x04 ∷ f) (g .bytes) in
       (ltb-true _ _ (r .0 .0), ltb-true _ _ (r .0 .1 .0))
 
   eq-global : (f : List ℕ) → Good n (0x05 ∷ f) → AtomFits n (atomOfFrame (0x05 ∷ f))
@@ -147,7 +137,7 @@ module _ (n : Counts) where
   eq-global f g =
       let l = frame-passes (fieldPasses Limits noCounts) (0x05 ∷ f) (g .limits) in
       let r = frame-passes (fieldPasses Range n) (0x05 ∷ f) (g .range) in
-      let b = byte-at (0x05 ∷ f) (g .bytes) in
+      let b = are-bytes (0x05 ∷ f) (g .bytes) in
       (ltb-true _ _ (r .0 .0), ltb-true _ _ (r .0 .1 .0))
 
   pred : (f : List ℕ) → Good n (0x06 ∷ f) → AtomFits n (atomOfFrame (0x06 ∷ f))
@@ -155,7 +145,7 @@ module _ (n : Counts) where
   pred f g =
       let l = frame-passes (fieldPasses Limits noCounts) (0x06 ∷ f) (g .limits) in
       let r = frame-passes (fieldPasses Range n) (0x06 ∷ f) (g .range) in
-      let b = byte-at (0x06 ∷ f) (g .bytes) in
+      let b = are-bytes (0x06 ∷ f) (g .bytes) in
       (b 1, omega (arith, bytes-length (0x06 ∷ f) 3 1 (getD (0x06 ∷ f) 2 0), leb-true (getD (0x06 ∷ f) 2 0) itemsMost (l .0 .1 .0)), atoms-fit n (0x06 ∷ f) (getD (0x06 ∷ f) 2 0) 3 (r .1))
 
   a-exact : (f : List ℕ) → Good n (0x07 ∷ f) → AtomFits n (atomOfFrame (0x07 ∷ f))
@@ -163,7 +153,7 @@ module _ (n : Counts) where
   a-exact f g =
       let l = frame-passes (fieldPasses Limits noCounts) (0x07 ∷ f) (g .limits) in
       let r = frame-passes (fieldPasses Range n) (0x07 ∷ f) (g .range) in
-      let b = byte-at (0x07 ∷ f) (g .bytes) in
+      let b = are-bytes (0x07 ∷ f) (g .bytes) in
       (ltb-true _ _ (r .0 .0), b 2, operands-in (0x07 ∷ f) 4 (getD (0x07 ∷ f) 3 0) (l .0 .1 .1 .0) (r .1), (tt, tt))
 
   a-prefix : (f : List ℕ) → Good n (0x08 ∷ f) → AtomFits n (atomOfFrame (0x08 ∷ f))
@@ -171,7 +161,7 @@ module _ (n : Counts) where
   a-prefix f g =
       let l = frame-passes (fieldPasses Limits noCounts) (0x08 ∷ f) (g .limits) in
       let r = frame-passes (fieldPasses Range n) (0x08 ∷ f) (g .range) in
-      let b = byte-at (0x08 ∷ f) (g .bytes) in
+      let b = are-bytes (0x08 ∷ f) (g .bytes) in
       (ltb-true _ _ (r .0 .0), b 2, operands-in (0x08 ∷ f) 5 (getD (0x08 ∷ f) 4 0) (l .0 .1 .1 .1 .0) (r .1), (b 3, tt))
 
   a-suffix : (f : List ℕ) → Good n (0x09 ∷ f) → AtomFits n (atomOfFrame (0x09 ∷ f))
@@ -179,7 +169,7 @@ module _ (n : Counts) where
   a-suffix f g =
       let l = frame-passes (fieldPasses Limits noCounts) (0x09 ∷ f) (g .limits) in
       let r = frame-passes (fieldPasses Range n) (0x09 ∷ f) (g .range) in
-      let b = byte-at (0x09 ∷ f) (g .bytes) in
+      let b = are-bytes (0x09 ∷ f) (g .bytes) in
       (ltb-true _ _ (r .0 .0), b 2, operands-in (0x09 ∷ f) 5 (getD (0x09 ∷ f) 4 0) (l .0 .1 .1 .1 .0) (r .1), (tt, b 3))
 
   a-both : (f : List ℕ) → Good n (0x0a ∷ f) → AtomFits n (atomOfFrame (0x0a ∷ f))
@@ -187,7 +177,7 @@ module _ (n : Counts) where
   a-both f g =
       let l = frame-passes (fieldPasses Limits noCounts) (0x0a ∷ f) (g .limits) in
       let r = frame-passes (fieldPasses Range n) (0x0a ∷ f) (g .range) in
-      let b = byte-at (0x0a ∷ f) (g .bytes) in
+      let b = are-bytes (0x0a ∷ f) (g .bytes) in
       (ltb-true _ _ (r .0 .0), b 2, operands-in (0x0a ∷ f) 6 (getD (0x0a ∷ f) 5 0) (l .0 .1 .1 .1 .1 .0) (r .1), (b 3, b 4))
 
   ac-exact : (f : List ℕ) → Good n (0x0b ∷ f) → AtomFits n (atomOfFrame (0x0b ∷ f))
@@ -195,7 +185,7 @@ module _ (n : Counts) where
   ac-exact f g =
       let l = frame-passes (fieldPasses Limits noCounts) (0x0b ∷ f) (g .limits) in
       let r = frame-passes (fieldPasses Range n) (0x0b ∷ f) (g .range) in
-      let b = byte-at (0x0b ∷ f) (g .bytes) in
+      let b = are-bytes (0x0b ∷ f) (g .bytes) in
       (ltb-true _ _ (r .0 .0), b 2, elements-in (0x0b ∷ f) 4 (getD (0x0b ∷ f) 3 0) (l .0 .1 .1 .0) (r .1), (multiplicities (0x0b ∷ f) 4 6 (getD (0x0b ∷ f) 3 0), bytes-fit (0x0b ∷ f) (g .bytes) 6 3 (getD (0x0b ∷ f) 3 0), tt))
 
   ac-sub : (f : List ℕ) → Good n (0x0c ∷ f) → AtomFits n (atomOfFrame (0x0c ∷ f))
@@ -203,7 +193,7 @@ module _ (n : Counts) where
   ac-sub f g =
       let l = frame-passes (fieldPasses Limits noCounts) (0x0c ∷ f) (g .limits) in
       let r = frame-passes (fieldPasses Range n) (0x0c ∷ f) (g .range) in
-      let b = byte-at (0x0c ∷ f) (g .bytes) in
+      let b = are-bytes (0x0c ∷ f) (g .bytes) in
       (ltb-true _ _ (r .0 .0), b 2, elements-in (0x0c ∷ f) 5 (getD (0x0c ∷ f) 4 0) (l .0 .1 .1 .1 .0) (r .1), (multiplicities (0x0c ∷ f) 5 7 (getD (0x0c ∷ f) 4 0), bytes-fit (0x0c ∷ f) (g .bytes) 7 3 (getD (0x0c ∷ f) 4 0), b 3))
 
   aci-exact : (f : List ℕ) → Good n (0x0d ∷ f) → AtomFits n (atomOfFrame (0x0d ∷ f))
@@ -211,7 +201,7 @@ module _ (n : Counts) where
   aci-exact f g =
       let l = frame-passes (fieldPasses Limits noCounts) (0x0d ∷ f) (g .limits) in
       let r = frame-passes (fieldPasses Range n) (0x0d ∷ f) (g .range) in
-      let b = byte-at (0x0d ∷ f) (g .bytes) in
+      let b = are-bytes (0x0d ∷ f) (g .bytes) in
       (ltb-true _ _ (r .0 .0), b 2, operands-in (0x0d ∷ f) 4 (getD (0x0d ∷ f) 3 0) (l .0 .1 .1 .0) (r .1), tt)
 
   aci-sub : (f : List ℕ) → Good n (0x0e ∷ f) → AtomFits n (atomOfFrame (0x0e ∷ f))
@@ -219,7 +209,7 @@ module _ (n : Counts) where
   aci-sub f g =
       let l = frame-passes (fieldPasses Limits noCounts) (0x0e ∷ f) (g .limits) in
       let r = frame-passes (fieldPasses Range n) (0x0e ∷ f) (g .range) in
-      let b = byte-at (0x0e ∷ f) (g .bytes) in
+      let b = are-bytes (0x0e ∷ f) (g .bytes) in
       (ltb-true _ _ (r .0 .0), b 2, operands-in (0x0e ∷ f) 5 (getD (0x0e ∷ f) 4 0) (l .0 .1 .1 .1 .0) (r .1), b 3)
 
   -- by the kind
@@ -243,4 +233,4 @@ module _ (n : Counts) where
 
   pub frame-fits : (f : List ℕ) → isAtom (getD f 0 0) ≡ true → Good n f → AtomFits n (atomOfFrame f)
   frame-fits [] h g = absurd (subst T (sym h) tt)
-  frame-fits (b ∷ f) h g = let t = both-of (leb 1 b) (leb b 14) h in by-kind b f (leb-true 1 b (t .0)) (leb-true b 14 (t .1)) g
+  frame-fits (b ∷ f) h g = let t = both-hold (leb 1 b) (leb b 14) h in by-kind b f (leb-true 1 b (t .0)) (leb-true b 14 (t .1)) g

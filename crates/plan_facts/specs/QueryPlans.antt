@@ -7,9 +7,8 @@ use mathlib.Core.List.{List, [], _∷_, map}
 use native.Mathlib.Omega.{arith}
 use native.Mathlib.Nat.{add-zero}
 use lib.ListN.{length, getD, drop}
-use lib.Dec.{T}
 use lib.Pow.{areBytes}
-use Rattle.base.specs.Choose.{pick}
+use Rattle.base.specs.Choose.{pick, is-true}
 use Rattle.hex.specs.Digits.{bytesOf}
 use Rattle.frames.specs.Limits.{atomsMost}
 use Rattle.frames.specs.First.{framesOf, firstLine, isAtom}
@@ -27,10 +26,6 @@ use Rattle.plans.specs.PlanRead.{plan-length}
 use Rattle.plans.specs.Fitting.{AtomFits, atom-more}
 use Rattle.plans.specs.Longest.{QueryFits, few-steps, few-bytes, schedule-accepted, schedule-read}
 use Rattle.plan_facts.specs.AtomFrames.{Good, frame-fits}
-
-is-true : (b : Bool) → T b → b ≡ true
-is-true true t = refl
-is-true false t = absurd t
 
 -- ---- the atoms among frames
 each-at : {X : Type 0} (P : X → Type 0) (d : X) (l : List X) → ((i : ℕ) → i < length l → P (getD l i d)) → Each P l

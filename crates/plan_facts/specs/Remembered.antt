@@ -25,7 +25,7 @@ use Rattle.model.specs.Bound.{Bound, has}
 use Rattle.model.specs.Lowering.{pvIsBound}
 use Rattle.model.specs.Scheduling.{State, Chosen, atomOf, numbers, lowerEager, emitAt, unplanned}
 use Rattle.model.specs.Cheapest.{Priced, Bid, Scan, scan, cheapest, better, wants}
-use Rattle.cost.specs.declared.sampling.Key.{Key}
+use Rattle.cost.specs.declared.probes.Key.{Key}
 use Rattle.cost.specs.Emitters.{Emitter, Emitters, emitterOf}
 use Rattle.cost.specs.Sampling.{Tally, sameKey, isKnown, measure, tallyOf, afterEstimate}
 use Rattle.cost.specs.Costs.{Costed, sampled, sampledBy, estimate, childCosts, elementCosts, estimateCost}
@@ -167,6 +167,10 @@ grows-tally none k t u g = record { more = omega (arith, g .more); tame = λ h. 
 grows-tally (some (Accepted m)) k t u g = record { more = omega (arith, g .more); tame = λ h. let w = g .tame h in record { tallied-few = omega arith; rejected-few = omega arith } }
 grows-tally (some Rejected) k t u g = record { more = omega (arith, g .more); tame = λ h. let w = g .tame h in record { tallied-few = omega arith; rejected-few = omega arith } }
 
+-- sampling is not off where it is on
+pub never : {A : Type 0} (cfg : SamplerConfig) → Off ≡ On cfg → A
+never cfg e = let z : _≡_ {A = ℕ} 0 1 = cc in absurd (omega arith)
+
 module _ (fs : List (List ℕ)) where
   grows-after : (cfg : SamplerConfig) (k : Key) (t u : Tally) → Grows t u → Grows t (afterEstimate fs cfg k u)
   unfolding afterEstimate
@@ -204,9 +208,6 @@ module _ (fs : List (List ℕ)) where
     pub nothing-sampled : (f : ℕ) → settings fs ≡ Off → memoryLoop fs qs f fresh unplanned .tally .memo ≡ []
     nothing-sampled f off = loop-keeps fs qs (λ m. m .tally .memo ≡ []) (λ m s h. h) (λ m s i h. cost-keeps fs any (λ t. t .memo ≡ []) (λ cfg k t on _ _. never cfg (sym off ∙ on)) (m .emitters) (s .bound) i (atomOf qs i) (m .tally) (λ _ _. tt) h) same f fresh unplanned refl
       where
-        never : {A : Type 0} (cfg : SamplerConfig) → Off ≡ On cfg → A
-        never cfg e = let z : _≡_ {A = ℕ} 0 1 = cc in absurd (omega arith)
-
         same : (o : Option ℕ) (s : State) (m : Memory) → m .tally .memo ≡ [] → emittedBy fs qs o s m .tally .memo ≡ []
         same none s m h = h
         same (some i) s m h = h
@@ -305,7 +306,7 @@ pub record Asked (K : List Key) (t : Tally) : Type 0 where
   pub apart : Pairs _≢_ (t .memo)
   pub among : All (λ k. List·Memᴰ k K) (t .memo)
 
-same-self : (k : Key) → sameKey k k ≡ true
+pub same-self : (k : Key) → sameKey k k ≡ true
 same-self k =
     both (eq-eqb (k .emitter) (k .emitter) refl) (both (eq-eqb (k .site) (k .site) refl) (both (eq-eqb (k .position) (k .position) refl) (both (eq-eqb (k .op) (k .op) refl) (both (eq-eqb (k .path) (k .path) refl) (eq-eqb (k .place) (k .place) refl)))))
 

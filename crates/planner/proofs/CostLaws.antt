@@ -1,13 +1,15 @@
 -- The bits of the costs of a round, and the round that is asked for. Proved place by place, and from what the rounds leave.
-use Prim.Native.Nat.{ℕ, zero, suc, _+_, _<_, _≤_}
+use Prim.Native.Nat.{ℕ, _+_, _<_, _≤_}
 use mathlib.Core.Path.{_≡_, refl, sym, _∙_, ap}
 use mathlib.Core.Bool.{true, false, not}
-use mathlib.Core.List.{List, [], _∷_, map}
+use mathlib.Core.List.{List, map}
 use native.Mathlib.Omega.{arith}
 use native.Mathlib.Decide.{decLt}
 use lib.ListN.{length, getD, set, take, length-set, length-map, List·getD-eq-default}
 use lib.Seq.{length-take-le, getD-set-same, getD-set-other, getD-take, ext-getD}
 use lib.Ieee.{Float, binary64, lt, toBits}
+use borrow.Author.Tests.{not-true, not-false}
+use Rattle.base.specs.Lists.{map-at}
 use Rattle.frames.specs.First.{framesOf}
 use Rattle.frames.specs.declared.first.Text.the-variants.{Query}
 use Rattle.frames.specs.declared.first.Reading.{Reading}
@@ -19,7 +21,6 @@ use Rattle.lowering.specs.Eager.{atomsOf}
 use Rattle.scheduling.specs.Offers.{roundOf}
 use Rattle.scheduling.specs.Rounds.{Rounded}
 use Rattle.scheduling.specs.declared.schedule.Scheduled.{Scheduled}
-use Rattle.scheduling.proofs.ChoiceLaws.{is-true, is-false}
 use Rattle.planner.specs.Costs.{noBits, costBits, bitsIn, told, Result, resultOf, roundCosts}
 use Rattle.planner.specs.declared.rounds.RoundCosts.the-variants.{Chosen, Ended, Refused as TurnsBack}
 
@@ -31,11 +32,6 @@ module _ (c : Float) where
 
   pub bits-some : lt c zero64 ≡ false → (r : ℕ) → r ≡ toBits binary64 c → r ≡ costBits c
   bits-some h r e = rw h e
-
-map-at : (f : Float → ℕ) (l : List Float) (i d : ℕ) (z : Float) → i < length l → getD (map f l) i d ≡ f (getD l i z)
-map-at f [] i d z h = absurd (omega arith)
-map-at f (x ∷ l) zero d z h = refl
-map-at f (x ∷ l) (suc i) d z h = map-at f l i d z (omega arith)
 
 module _ (cs : List Float) (n i : ℕ) (room : n ≤ length cs) where
   pub bits-past : n ≤ i → noBits ≡ getD (map costBits (take n cs)) i noBits
@@ -75,10 +71,10 @@ module _ (cs : List Float) (out₀ out : List ℕ) (i : ℕ) (f : Filling cs out
 module _ (x O : List ℕ) (round : ℕ) (costs : List Float) (s : Scheduled) (h : Rounded x O round costs s) (out o : List ℕ) where
   -- none was found
   pub told-ended : not (s .found) ≡ true → o ≡ bitsIn (take 0 costs) (length out) → resultOf Ended o ≡ told (roundOf (framesOf x) (atomsOf x) round) out
-  told-ended l e = rw (h .round, is-false (s .found) l, e)
+  told-ended l e = rw (h .round, not-true (s .found) l, e)
 
   pub told-chosen : (n : ℕ) → n ≡ length (atomsOf x) → not (s .found) ≡ false → o ≡ bitsIn (take n costs) (length out) → resultOf (Chosen (s .who)) o ≡ told (roundOf (framesOf x) (atomsOf x) round) out
-  told-chosen n c l e = rw (h .round, is-true (s .found) l, e) (ap (λ (k : ℕ). resultOf (Chosen (s .who)) (bitsIn (take k costs) (length out))) c)
+  told-chosen n c l e = rw (h .round, not-false (s .found) l, e) (ap (λ (k : ℕ). resultOf (Chosen (s .who)) (bitsIn (take k costs) (length out))) c)
 
 -- ---- the entry, by what the reading says
 

@@ -1,14 +1,14 @@
 -- The parts of the entry: what an accepted query gives them, and what they give the entry. Proved from the reading, the rounds and the writing.
-use Prim.Native.Nat.{ℕ, zero, suc, _+_, _*_, _<_, _≤_}
+use Prim.Native.Nat.{ℕ, _+_, _*_, _<_, _≤_}
 use mathlib.Core.Path.{_≡_, refl, sym, _∙_, ap, subst}
 use mathlib.Core.Bool.{Bool, true, false, not}
-use mathlib.Core.List.{List, [], _∷_, _++_, map, List·Memᴰ, List·Memᴰ·head, List·Memᴰ·tail}
+use mathlib.Core.List.{List, [], _∷_, _++_, map, List·Memᴰ}
 use native.Mathlib.Omega.{arith}
 use lib.Dec.{leb}
 use lib.ListN.{length, getD, take, drop, replicate}
 use lib.Seq.{sets-eq, getD-take, length-take-le}
 use lib.Ieee.{Float}
-use borrow.Author.Tests.{lt-ltb, le-ltb, leb-true, leb-false, le-leb}
+use borrow.Author.Tests.{lt-ltb, le-ltb, leb-true, leb-false, le-leb, not-true, not-false}
 use Rattle.frames.specs.First.{framesOf}
 use Rattle.frames.specs.declared.first.Text.the-variants.{Query}
 use Rattle.frames.specs.declared.first.Reading.{Reading}
@@ -18,18 +18,18 @@ use Rattle.measure.specs.declared.SamplerConfig.{SamplerConfig}
 use Rattle.query.specs.Statistics.{settings}
 use Rattle.query.specs.declared.statistics.Sampled.the-variants.{On, Off}
 use Rattle.model.specs.Bound.{most, blank}
+use Rattle.model.specs.Lists.{getD-mem}
 use Rattle.model.specs.Tabulate.{tabulate-mem}
 use Rattle.model.specs.Scheduling.{State, unplanned, atomOf, numbers}
 use Rattle.cost.specs.Choice.{fresh, memoryLoop}
 use Rattle.plans.specs.StepFrames.{frameOf, headerOf}
 use Rattle.plans.specs.PlanText.{textOf, textLength, planText}
 use Rattle.plans.specs.PlanRead.{plan-length}
-use Rattle.plan_facts.specs.Remembered.{nothing-sampled}
+use Rattle.plan_facts.specs.Remembered.{never, nothing-sampled}
 use Rattle.lowering.specs.Eager.{Located, atomsOf}
 use Rattle.lowering.specs.Places.{Places, located}
 use Rattle.pricing.specs.Prices.{rowSize, FewItems}
 use Rattle.pricing.specs.Remembering.{Samples}
-use Rattle.lowering.proofs.OperandLaws.{is-true, is-false}
 use Rattle.scheduling.specs.Rounds.{Unplanned, Scheduling}
 use Rattle.scheduling.specs.declared.schedule.Scheduled.{Scheduled}
 use Rattle.writing.specs.Steps.{stepsAlong, countAlong, lowered-steps, lowered-count, Ordered, PutsSteps}
@@ -46,9 +46,6 @@ use Rattle.planner.specs.declared.entry.Planned.the-variants.{Written as
 pub all-unplanned : Unplanned (replicate 64 false) (replicate 64 false) (replicate 64 false) (replicate 64 0)
 unfolding blank
 all-unplanned = record { used = refl; bound = refl; before = refl; emitters = refl }
-
-never : {A : Type 0} (cfg : SamplerConfig) → Off ≡ On cfg → A
-never cfg e = let z : _≡_ {A = ℕ} 0 1 = cc in absurd (omega arith)
 
 pub samples-nothing : (fs : List (List ℕ)) (draws : List Float) → settings fs ≡ Off → Samples fs Off draws
 samples-nothing fs draws e = record { set = sym e; nodes = λ cfg h. never cfg h; resamples = λ cfg h. never cfg h; room = λ cfg h. never cfg h }
@@ -120,11 +117,6 @@ module _ (x from : List ℕ) (n : ℕ) (O : List ℕ) (s : Scheduled) (a : Accep
   text-size = rw along (plan-length (countsOf Query x 0 .variables) (countsOf Query x 0 .globals) (countsOf Query x 0 .literals) (talliedOf x) (rejectedOf x) (stepsOf x))
 
   -- the order is one of atoms, each of which can be emitted
-  mem-at : (l : List ℕ) (c : ℕ) → c < length l → List·Memᴰ (getD l c 0) l
-  mem-at [] c k = absurd (omega arith)
-  mem-at (y ∷ l) zero k = List·Memᴰ·head refl
-  mem-at (y ∷ l) (suc c) k = List·Memᴰ·tail (mem-at l c (omega arith))
-
   pub in-order : length O ≡ most → Ordered x from n O (s .count)
   in-order size =
       let w : s .count ≤ length O = omega (arith, h .few) in
@@ -132,7 +124,7 @@ module _ (x from : List ℕ) (n : ℕ) (O : List ℕ) (s : Scheduled) (a : Accep
       record {
         within = w;
         few = h .few;
-        below = λ c k. let i = tabulate-mem (length (atomsOf x)) (λ (j : ℕ). j) (getD O c 0) (subst (λ (j : ℕ). List·Memᴰ j (numbers (atomsOf x))) (getD-take (s .count) O c 0 k) (h .known (getD (take (s .count) O) c 0) (mem-at (take (s .count) O) c (rw taken k)))) in omega (arith, i .below, i .is, z .count);
+        below = λ c k. let i = tabulate-mem (length (atomsOf x)) (λ (j : ℕ). j) (getD O c 0) (subst (λ (j : ℕ). List·Memᴰ j (numbers (atomsOf x))) (getD-take (s .count) O c 0 k) (h .known (getD (take (s .count) O) c 0) (getD-mem (take (s .count) O) c 0 (rw taken k)))) in omega (arith, i .below, i .is, z .count);
         line = λ k l. record { atom = z .line k l; few = rw (y .is k l) (let i = atom-items x (a .lines) (a .atoms) (a .is) k (omega (arith, y .count)) in omega arith) };
       }
 
@@ -155,7 +147,7 @@ module _ (x from : List ℕ) (n : ℕ) (O : List ℕ) (s : Scheduled) (a : Accep
   pub not-fitting : (t : Bool) (o : List ℕ) → t ≡ leb (length (planOf x .text)) (length o) → not t ≡ true → resultOf (TurnsBack 8 0) o ≡ fitted (planOf x) o
   unfolding planOf
   not-fitting t o e l =
-      let k : length o < length text = leb-false (length text) (length o) (sym e ∙ is-false t l) in
+      let k : length o < length text = leb-false (length text) (length o) (sym e ∙ not-true t l) in
       rw (lt-ltb (length o) (length text) k)
 
   module _ (o p : List ℕ) (steps r : ℕ) (c : steps ≡ countAlong (atomOf (atomsOf x)) (take (s .count) O)) (w : PutsFrames o 0 (headerOf (countsOf Query x 0 .variables) (countsOf Query x 0 .globals) (countsOf Query x 0 .literals) steps (s .tallied) (s .rejected) ∷ map frameOf (stepsAlong (atomOf (atomsOf x)) blank (take (s .count) O))) p r) where
@@ -166,7 +158,7 @@ module _ (x from : List ℕ) (n : ℕ) (O : List ℕ) (s : Scheduled) (a : Accep
     pub fitting : (t : Bool) → t ≡ leb (length (planOf x .text)) (length o) → not t ≡ false → resultOf (Wrote r steps (s .tallied) (s .rejected)) p ≡ fitted (planOf x) o
     unfolding planOf written textLength
     fitting t g k =
-        let l : length text ≤ length o = leb-true (length text) (length o) (sym g ∙ is-true t k) in
+        let l : length text ≤ length o = leb-true (length text) (length o) (sym g ∙ not-false t k) in
         let e : r ≡ length text = omega (arith, w .next, text-size) in
         let n : 0 + length text ≡ length text = omega arith in
         let q : p ≡ text ++ drop (length text) o = w .is ∙ ap (λ (t : List ℕ). written o 0 t) is-text ∙ rw n at (sets-eq text o 0 (omega (arith, l))) in

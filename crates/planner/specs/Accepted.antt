@@ -8,7 +8,7 @@ use native.Mathlib.Omega.{arith}
 use lib.ListN.{length, getD}
 use borrow.Author.Tests.{leb-true, eqb-true}
 use lib.Dec.{eqb}
-use Rattle.base.specs.Choose.{pick}
+use Rattle.base.specs.Choose.{pick, both-hold}
 use Rattle.hex.specs.Digits.{shortAt}
 use Rattle.frames.specs.Limits.{atomsMost, itemsMost, kMost, bootstrapMost}
 use Rattle.frames.specs.Fields.{fieldPasses, fieldFits}
@@ -22,7 +22,7 @@ use Rattle.frames.specs.declared.first.Text.the-variants.{Query}
 use Rattle.frames.specs.declared.first.Reading.the-variants.{Accepted}
 use Rattle.reading.specs.Keys.{begins, find, isFound}
 use Rattle.reading.specs.Second.{countsOf, reading}
-use Rattle.reading_facts.specs.Passes.{both-hold, frame-field}
+use Rattle.reading_facts.specs.Passes.{frame-field}
 use Rattle.reading_facts.specs.Whole.{accepted, query-within}
 use Rattle.reading_facts.specs.Lookups.{find-some}
 use Rattle.measure.specs.declared.SamplerConfig.{SamplerConfig}

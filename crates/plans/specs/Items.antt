@@ -1,9 +1,8 @@
 -- A frame's items, one after another behind its fields: read back, tested and counted one by one. Proved by induction over the items.
-use Prim.Native.Nat.{ℕ, _+_, _*_}
+use Prim.Native.Nat.{ℕ, zero, suc, _+_}
 use mathlib.Core.Path.{_≡_, refl, sym, _∙_, ap}
 use mathlib.Core.Bool.{Bool, true}
 use mathlib.Core.List.{List, [], _∷_, _++_, flatMap, append-assoc}
-use native.Mathlib.Omega.{arith}
 use native.Mathlib.Nat.{add-zero}
 use lib.ListN.{length, getD, replicate, length-append}
 use lib.Seq.{getD-append-add}
@@ -13,11 +12,6 @@ use Rattle.frames.specs.declared.fields.Field.{Field}
 use Rattle.plans.specs.StepFrames.{Each, itemsAt}
 
 module _ {X : Type 0} (g : X → List ℕ) (w : ℕ) (wide : (x : X) → length (g x) ≡ w) where
-  pub items-length : (xs : List X) → length (flatMap g xs) ≡ w * length xs
-  unfolding flatMap
-  items-length [] = omega arith
-  items-length (x ∷ xs) = let h = items-length xs in let k = wide x in omega (arith, length-append (g x) (flatMap g xs))
-
   -- what an item's place reads gives the item, whatever stands around it
   pub items-read : (read : List ℕ → ℕ → X) → ((x : X) (p q : List ℕ) → read (p ++ (g x ++ q)) (length p) ≡ x) → (xs : List X) (p : List ℕ) → itemsAt read w (p ++ flatMap g xs) (length p) (length xs) ≡ xs
   unfolding flatMap itemsAt
@@ -36,6 +30,12 @@ items-pass g P t Q wide r (x ∷ xs) h p =
     let e : p ++ (g x ++ flatMap g xs) ≡ (p ++ g x) ++ flatMap g xs = sym (append-assoc p (g x) (flatMap g xs)) in
     let l : length p + width t ≡ length (p ++ g x) = sym (length-append p (g x) ∙ ap (λ (m : ℕ). length p + m) (wide x)) in
     rw (r x (h .0) p (flatMap g xs), l, e, items-pass g P t Q wide r xs (h .1) (p ++ g x))
+
+-- as many as are read
+pub items-count : {X : Type 0} (read : List ℕ → ℕ → X) (w : ℕ) (f : List ℕ) (i n : ℕ) → length (itemsAt read w f i n) ≡ n
+unfolding itemsAt
+items-count read w f i zero = refl
+items-count read w f i (suc n) = ap suc (items-count read w f (i + w) n)
 
 -- the byte at p's end is the first of what follows p
 pub behind : (p r : List ℕ) → getD (p ++ r) (length p) 0 ≡ getD r 0 0

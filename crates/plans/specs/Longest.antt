@@ -21,9 +21,9 @@ use Rattle.model.specs.Bound.{Bound, has, add}
 use Rattle.model.specs.Lowering.{pvIsBound, pvMarkBound, readChild, emitReadChildren, childLookups, containsLookups, joinLookups, Emitted, lowerEq, lowerEqGlobal, lower}
 use Rattle.model.specs.Scheduling.{State, unplanned, Chosen, Fair, unlowered, atomOf, numbers, schedule}
 use Rattle.model.specs.Scheduled.{Reached, fresh, takes, unlowered-lt, number-mem, reached}
+use Rattle.model.specs.Limited.{flat-length}
 use Rattle.plans.specs.StepFrames.{operandBytes, lookupBytes, elementsOf, elementBytes, frameOf, stepOf, Each}
 use Rattle.plans.specs.PlanText.{textLength, planText}
-use Rattle.plans.specs.Items.{items-length}
 use Rattle.plans.specs.StepsRead.{lookup-wide}
 use Rattle.plans.specs.StepsPass.{elements-length}
 use Rattle.plans.specs.PlanRead.{planCounts, PlanFits, plan-length, plan-accepted, plan-steps}
@@ -80,13 +80,13 @@ module _ (size : Step → ℕ) (c : ℕ) (atomAt : ℕ → Atom) (js : List ℕ)
 -- ---- the lines of a step
 join-line : (v k : ℕ) (ls : List Lookup) → lineLength (Join v k ls) ≡ 9 + 8 * length ls
 unfolding frameOf
-join-line v k ls = omega (arith, items-length lookupBytes 4 lookup-wide ls)
+join-line v k ls = omega (arith, flat-length lookupBytes 4 lookup-wide ls)
 
 expand-line : (v : ℕ) (cs : List Operand) (f : Form) → lineLength (Expand v cs f) ≤ 13 + 6 * length cs
 unfolding frameOf
-expand-line v cs (A p s) = omega (arith, items-length operandBytes 2 (λ c. refl) cs)
-expand-line v cs (AC ms r) = omega (arith, items-length elementBytes 3 (λ e. refl) (elementsOf cs ms), elements-length cs ms)
-expand-line v cs (ACI r) = omega (arith, items-length operandBytes 2 (λ c. refl) cs)
+expand-line v cs (A p s) = omega (arith, flat-length operandBytes 2 (λ c. refl) cs)
+expand-line v cs (AC ms r) = omega (arith, flat-length elementBytes 3 (λ e. refl) (elementsOf cs ms), elements-length cs ms)
+expand-line v cs (ACI r) = omega (arith, flat-length operandBytes 2 (λ c. refl) cs)
 
 read-line : (b : Bool) (v i : ℕ) (c : Operand) → lineLength (readChild v i b c) ≤ 11
 unfolding frameOf

@@ -22,8 +22,9 @@ use Rattle.frames.specs.declared.first.Text.the-variants.{Plan}
 use Rattle.reading.specs.Keys.{keyGiven}
 use Rattle.model.specs.Bools.{both, first, second}
 use Rattle.model.specs.Atoms.{Operand, local, global, A, AC, ACI, Lookup, ByOp, ByChildPos, ByRepr, ByContains, Step, Join, ExtractChild, CheckChildEq, CheckEq, CheckEqGlobal, BindGlobal, CopyBinding, Expand, ExtractLitVal, CheckLit, CheckPred}
+use Rattle.model.specs.Limited.{flat-length}
 use Rattle.plans.specs.StepFrames.{tagOf, indexOf, operandBytes, lookupBytes, Element, elementsOf, elementBytes, flagOf, orZero, endsFlags, frameOf, Each, Byte, CountsFit, OperandFits, LookupFits, HandleFits, StepFits}
-use Rattle.plans.specs.Items.{items-length, items-pass, behind}
+use Rattle.plans.specs.Items.{items-pass, behind}
 use Rattle.plans.specs.StepsRead.{lookup-wide}
 
 -- ---- the kind: a step's, and no header's
@@ -46,36 +47,32 @@ step-belongs (CheckPred g) = refl
 -- ---- the length
 pub step-length : (s : Step) → length (frameOf s) ≡ frameLength (frameOf s)
 unfolding frameOf kindAt kinds
-step-length (Join t k ls) = let h = items-length lookupBytes 4 lookup-wide ls in omega arith
+step-length (Join t k ls) = let h = flat-length lookupBytes 4 lookup-wide ls in omega arith
 step-length (ExtractChild t p i) = refl
 step-length (CheckChildEq p i c) = refl
 step-length (CheckEq a b) = refl
 step-length (CheckEqGlobal a g) = refl
 step-length (BindGlobal t g) = refl
 step-length (CopyBinding t o) = refl
-step-length (Expand v cs (A p s)) = let h = items-length operandBytes 2 (λ c. refl) cs in omega arith
-step-length (Expand v cs (AC ms r)) = let h = items-length elementBytes 3 (λ e. refl) (elementsOf cs ms) in omega arith
-step-length (Expand v cs (ACI r)) = let h = items-length operandBytes 2 (λ c. refl) cs in omega arith
+step-length (Expand v cs (A p s)) = let h = flat-length operandBytes 2 (λ c. refl) cs in omega arith
+step-length (Expand v cs (AC ms r)) = let h = flat-length elementBytes 3 (λ e. refl) (elementsOf cs ms) in omega arith
+step-length (Expand v cs (ACI r)) = let h = flat-length operandBytes 2 (λ c. refl) cs in omega arith
 step-length (ExtractLitVal v l) = refl
 step-length (CheckLit v x) = refl
 step-length (CheckPred g) = refl
 
 -- ---- items, each behind p: within the limits
+tag-fits : (c : Operand) → leb (tagOf c) 1 ≡ true
+tag-fits (local v) = refl
+tag-fits (global g) = refl
+
 operand-limits : (n : Counts) (c : Operand) (p q : List ℕ) → fieldPasses Limits n OperandField (p ++ (operandBytes c ++ q)) (length p) ≡ true
 unfolding fieldPasses fieldFits
-operand-limits n c p q = rw (behind p (operandBytes c ++ q)) (go c)
-  where
-    go : (c : Operand) → leb (tagOf c) 1 ≡ true
-    go (local v) = refl
-    go (global g) = refl
+operand-limits n c p q = rw (behind p (operandBytes c ++ q)) (tag-fits c)
 
 element-limits : (n : Counts) (e : Element) (p q : List ℕ) → fieldPasses Limits n ElementField (p ++ (elementBytes e ++ q)) (length p) ≡ true
 unfolding fieldPasses fieldFits
-element-limits n e p q = rw (behind p (elementBytes e ++ q)) (go (e .operand))
-  where
-    go : (c : Operand) → leb (tagOf c) 1 ≡ true
-    go (local v) = refl
-    go (global g) = refl
+element-limits n e p q = rw (behind p (elementBytes e ++ q)) (tag-fits (e .operand))
 
 lookup-limits : (n : Counts) (l : Lookup) (p q : List ℕ) → fieldPasses Limits n LookupField (p ++ (lookupBytes l ++ q)) (length p) ≡ true
 unfolding fieldPasses fieldFits

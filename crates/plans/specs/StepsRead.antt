@@ -1,15 +1,19 @@
--- A step that is written is read back: `read-back`. Proved by cases on the step, by the laws of items.
+-- A step that is written is read back: `read-back`; and which are no Join. Proved by cases on the step, by the laws of items.
 use Prim.Native.Nat.{ℕ, _+_, _%_}
 use mathlib.Core.Path.{_≡_, refl, _∙_, ap}
+use mathlib.Core.Bool.{Bool, true, false}
 use mathlib.Core.Option.{Option, none, some}
 use mathlib.Core.List.{List, [], _∷_, _++_, map, flatMap}
 use native.Mathlib.Omega.{arith}
-use lib.ListN.{length}
+use lib.ListN.{length, getD}
 use lib.Seq.{getD-append-add}
 use lib.Dec.{eqb, leb}
+use borrow.Author.Tests.{ne-eqb}
+use Rattle.base.specs.Choose.{pick}
 use Rattle.hex.specs.Digits.{wordAt}
 use Rattle.frames.specs.declared.fields.Counts.{Counts}
 use Rattle.model.specs.Atoms.{Operand, local, global, A, AC, ACI, Lookup, ByOp, ByChildPos, ByRepr, ByContains, Step, Join, ExtractChild, CheckChildEq, CheckEq, CheckEqGlobal, BindGlobal, CopyBinding, Expand, ExtractLitVal, CheckLit, CheckPred}
+use Rattle.model.specs.Limited.{isJoin}
 use Rattle.plans.specs.StepFrames.{operandBytes, lookupBytes, Element, elementsOf, elementBytes, flagOf, orZero, endsFlags, wordBytes, frameOf, operandAt, lookupAt, elementAt, someIf, itemsAt, stepOf, StepFits}
 use Rattle.plans.specs.Items.{items-read, behind}
 
@@ -116,3 +120,16 @@ read-back n (Expand v cs (ACI r)) h = rw (operands-read cs (0x49 ∷ v ∷ flagO
 read-back n (ExtractLitVal v l) h = refl
 read-back n (CheckLit v x) h = rw (word-read 0x4b v x)
 read-back n (CheckPred g) h = refl
+
+-- ---- a step of another kind than 40 is no Join
+
+neither : (t : Bool) (s u : Step) → isJoin s ≡ false → isJoin u ≡ false → isJoin (pick t s u) ≡ false
+neither true s u p q = p
+neither false s u p q = q
+
+pub no-join : (f : List ℕ) (k : ℕ) → k ≡ getD f 0 0 → (k ≡ 0x40 → ⊥) → isJoin (stepOf f) ≡ false
+unfolding stepOf
+no-join f k is h =
+    rw (← is, ne-eqb k 0x40 h)
+    (neither (eqb k 0x41) _ _ refl (neither (eqb k 0x42) _ _ refl (neither (eqb k 0x43) _ _ refl (neither (eqb k 0x44) _ _ refl (neither (eqb k 0x45) _ _ refl (neither (eqb k 0x46) _ _ refl
+    (neither (eqb k 0x47) _ _ refl (neither (eqb k 0x48) _ _ refl (neither (eqb k 0x49) _ _ refl (neither (eqb k 0x4a) _ _ refl (neither (eqb k 0x4b) _ _ refl refl)))))))))))

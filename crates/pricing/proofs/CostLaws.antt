@@ -6,6 +6,7 @@ use mathlib.Core.List.{List, _∷_}
 use lib.Dec.{T}
 use lib.Ieee.{Float}
 use lib.ListN.{length, getD}
+use borrow.Author.Tests.{not-true, not-false}
 use Rattle.base.specs.Choose.{pick}
 use Rattle.frames.specs.First.{isAtom}
 use Rattle.frames.specs.Kinds.{kinds, kindAt}
@@ -23,7 +24,6 @@ use Rattle.cost.specs.Costs.{Costed as Cost, childCosts, elementCosts, byReprCo
 use Rattle.cost.specs.declared.memo.Tallies.{Tallies}
 use Rattle.lowering.specs.AtomLines.{AtomLine, itemOperands}
 use Rattle.lowering.proofs.AtomLaws.{by-kind}
-use Rattle.lowering.proofs.OperandLaws.{is-true, is-false}
 use Rattle.pricing.specs.Items.{itemCosts, frameCosts, literalKind}
 use Rattle.pricing.specs.Prices.{Row}
 use Rattle.pricing.specs.Remembering.{Remembers, Stands, costAt}
@@ -77,7 +77,7 @@ module _ (fs : List (List ℕ)) (em : Emitters) (B : Bound) (i : ℕ) (t : Tally
 
 module _ (fs : List (List ℕ)) (em : Emitters) (B : Bound) (i : ℕ) (f ks : List ℕ) (s : Tallies) (b : Bool) (hb : b ≡ scans (atomOfFrame f)) where
   pub test-stands : (how : Sampled) (vs : List Bool) (xs : List Float) → not b ≡ true → Remembers fs how ks vs xs s → Stands fs how ks vs xs (record { cost = zero64; tallies = s }) (estimateCost fs em B i (atomOfFrame f) (tallyAt ks s))
-  test-stands how vs xs h m = rw (test-cost fs em B i (tallyAt ks s) (atomOfFrame f) (sym hb ∙ is-false b h)) record { cost = refl; tally = refl; memo = m }
+  test-stands how vs xs h m = rw (test-cost fs em B i (tallyAt ks s) (atomOfFrame f) (sym hb ∙ not-true b h)) record { cost = refl; tally = refl; memo = m }
 
   module _ (line : AtomLine f) (ps : List Float) (w : Row fs f i ps) (d : Float) (k : ℕ) (hk : k ≡ getD f 0 0) (l : Bool) (hl : l ≡ literalKind k) where
     pub literal-stands : (how : Sampled) (vs : List Bool) (xs : List Float) → l ≡ true → Remembers fs how ks vs xs s → Stands fs how ks vs xs (record { cost = getD ps 0 d; tallies = s }) (estimateCost fs em B i (atomOfFrame f) (tallyAt ks s))
@@ -85,7 +85,7 @@ module _ (fs : List (List ℕ)) (em : Emitters) (B : Bound) (i : ℕ) (f ks : Li
 
     module _ (hs : not b ≡ false) (h : l ≡ false) (v : ℕ) (hv : v ≡ getD f 1 0) (u : Bool) (hu : u ≡ has B v) where
       by-node : estimateCost fs em B i (atomOfFrame f) (tallyAt ks s) ≡ pick u (byReprCost fs (getD f 2 0) i (tallyAt ks s)) (frameCosts fs em B f (record { cost = baseCard fs (getD f 2 0) i; tally = tallyAt ks s }))
-      by-node = scan-cost fs em B i (tallyAt ks s) f (line .kind) (sym hb ∙ is-true b hs) (rw (← hk) (sym hl ∙ h)) ∙ rw (hu, hv)
+      by-node = scan-cost fs em B i (tallyAt ks s) f (line .kind) (sym hb ∙ not-false b hs) (rw (← hk) (sym hl ∙ h)) ∙ rw (hu, hv)
 
       pub node-stands : (how : Sampled) (vs : List Bool) (xs : List Float) → u ≡ true → Remembers fs how ks vs xs s → Stands fs how ks vs xs (record { cost = getD ps 1 d; tallies = s }) (estimateCost fs em B i (atomOfFrame f) (tallyAt ks s))
       node-stands how vs xs g m = rw (by-node, g) record { cost = row-node fs f i ps w d; tally = refl; memo = m }

@@ -19,7 +19,7 @@ use Rattle.measure.specs.declared.SamplerConfig.{SamplerConfig}
 use Rattle.measure.specs.declared.Estimate.{Estimate}
 use Rattle.measure.specs.declared.Estimate.the-variants.{Accepted, Rejected}
 use Rattle.query.specs.declared.statistics.Sampled.the-variants.{On}
-use Rattle.cost.specs.declared.sampling.Key.{Key}
+use Rattle.cost.specs.declared.probes.Key.{Key}
 use Rattle.cost.specs.declared.draws.Measurement.{Measurement}
 use Rattle.cost.specs.declared.draws.Measurement.the-variants.{NoDraws, Accepted as Taken, Rejected as Refused}
 use Rattle.cost.specs.declared.memo.Tallies.{Tallies}

@@ -8,6 +8,7 @@ use native.Mathlib.Omega.{arith}
 use native.Mathlib.Numerals.{add-one}
 use lib.Ieee.{Float, binary64, mul}
 use lib.ListN.{length}
+use borrow.Author.Tests.{not-true, not-false}
 use Rattle.measure.specs.Selectivity.{pathSelectivity}
 use Rattle.measure.specs.declared.FanOut.{FanOut}
 use Rattle.measure.specs.declared.FanOut.the-variants.{Unmeasured}
@@ -20,7 +21,7 @@ use Rattle.cost.specs.Memo.{tallyAt}
 use Rattle.cost.specs.QueryAtoms.{operandAt, operandsFrom}
 use Rattle.cost.specs.Costs.{Costed as Cost, sampled, orMeasured, childCosts, elementCosts}
 use Rattle.plan_facts.specs.Remembered.{children-grow, elements-grow}
-use Rattle.lowering.proofs.OperandLaws.{is-true, is-false, operands-more}
+use Rattle.lowering.proofs.OperandLaws.{operands-more}
 use Rattle.pricing.specs.Items.{itemProbe, itemFan, orFan, itemCost, oneCost, itemCosts, ItemsOf, itemAt, costBehind, frameCosts}
 use Rattle.pricing.specs.Remembering.{Samples, Remembers, Gives, Stands, costAt}
 use Rattle.pricing.specs.declared.memo.Sample.{Sample}
@@ -37,16 +38,16 @@ or-measured (some x) f = refl
 
 module _ (fs : List (List ℕ)) (em : Emitters) (f : List ℕ) (x : Item) (ks : List ℕ) (c : Costed) where
   pub unbound-stands : (how : Sampled) (vs : List Bool) (xs : List Float) → not (x .bound) ≡ true → Remembers fs how ks vs xs (c .tallies) → Stands fs how ks vs xs c (costBehind fs em f x (costAt ks c))
-  unbound-stands how vs xs h m = rw (is-false (x .bound) h) record { cost = refl; tally = refl; memo = m }
+  unbound-stands how vs xs h m = rw (not-true (x .bound) h) record { cost = refl; tally = refl; memo = m }
 
   module _ (h : not (x .bound) ≡ false) (q : Probe) (hq : q ≡ itemProbe x) where
     pub item-room : length (costBehind fs em f x (costAt ks c) .tally .memo) ≤ length ks → length (sampled fs em (operandAt f (x .at)) (q .op) (q .path) (q .place) (tallyAt ks (c .tallies)) .tally .memo) ≤ length ks
     unfolding itemCost
-    item-room l = rw hq (rw (is-true (x .bound) h) at l)
+    item-room l = rw hq (rw (not-false (x .bound) h) at l)
 
     pub item-stands : (how : Sampled) (ks′ : List ℕ) (vs : List Bool) (xs : List Float) (s : Sample) (e : Float) → Gives fs how ks′ vs xs s (sampled fs em (operandAt f (x .at)) (q .op) (q .path) (q .place) (tallyAt ks (c .tallies))) → e ≡ pathSelectivity (orFan (s .fan) (itemFan fs (x .op) (x .element) (x .position))) (denominator fs (x .op)) → Stands fs how ks′ vs xs (record { cost = mul binary64 (c .cost) e; tallies = s .tallies }) (costBehind fs em f x (costAt ks c))
     unfolding itemCost
-    item-stands how ks′ vs xs s e a he = rw (is-true (x .bound) h) record {
+    item-stands how ks′ vs xs s e a he = rw (not-false (x .bound) h) record {
       cost = rw (he, a .fan, or-measured, hq);
       tally = a .tally ∙ rw hq;
       memo = a .memo;

@@ -1,15 +1,15 @@
 -- The parts of a key, a fan-out and a kind. Proved by their clauses.
-use Prim.Native.Nat.{ℕ, zero, suc, _+_, _-_, _*_, _/_, _%_, _<_, _≤_}
-use mathlib.Core.Path.{_≡_, refl, sym, _∙_, ap}
+use Prim.Native.Nat.{ℕ, _+_, _-_, _*_, _/_, _%_, _<_}
+use mathlib.Core.Path.{_≡_, _∙_, ap}
 use mathlib.Core.Bool.{Bool, true, false}
-use mathlib.Core.List.{List, [], _∷_}
-use native.Mathlib.Omega.{arith}
+use mathlib.Core.List.{List}
 use lib.Dec.{ltb}
-use lib.ListN.{length, getD, List·getD-eq-default}
+use lib.ListN.{length, getD}
 use lib.Ieee.{Float}
+use Rattle.base.specs.Lists.{any-default}
 use Rattle.measure.specs.Selectivity.{zero64}
 use Rattle.measure.specs.declared.FanOut.the-variants.{Measured, Unmeasured}
-use Rattle.cost.specs.declared.sampling.Key.{Key}
+use Rattle.cost.specs.declared.probes.Key.{Key}
 use Rattle.cost.specs.Costs.{orMeasured}
 use Rattle.frames.specs.Fields.{width}
 use Rattle.frames.specs.Kinds.{kindAt, fixedLength, itemsOf}
@@ -23,26 +23,12 @@ use Rattle.pricing.specs.declared.costs.Items.{Items}
 use Rattle.pricing.specs.declared.costs.Item.{Item}
 use Rattle.pricing.specs.Remembering.{memoValue}
 
-pub emitter-here : (em : List ℕ) (v i : ℕ) → i ≡ v → getD em i 0 ≡ getD em v 0
-emitter-here em v i e = ap (λ (j : ℕ). getD em j 0) e
-
-pub emitter-past : (em : List ℕ) (v i : ℕ) → i ≡ v → length em ≤ i → 0 ≡ getD em v 0
-emitter-past em v i e h =
-    let l : length em ≤ v = omega arith in
-    sym (List·getD-eq-default em 0 l)
-
 pub key-number : (e a b c o p q : ℕ) → a ≡ (e - 1) / 1024 % 256 → b ≡ (e - 1) / 256 % 4 → c ≡ (e - 1) % 256 → _≡_ {A = Key} (record { emitter = a; site = b; position = c; op = o; path = p; place = q }) (numberKey e o p q)
 key-number e a b c o p q ha hb hc = rw (ha, hb, hc)
 
--- within a list, what stands past its end does not matter
-pub within : (xs : List Float) (i : ℕ) (d e : Float) → i < length xs → getD xs i d ≡ getD xs i e
-within [] i d e h = absurd (omega arith)
-within (x ∷ xs) zero d e h = refl
-within (x ∷ xs) (suc i) d e h = within xs i d e (omega arith)
-
 module _ (B : List Bool) (xs : List Float) (i : ℕ) where
   pub value-there : (d : Float) → i < length xs → getD B i false ≡ true → Measured (getD xs i d) ≡ orMeasured (memoValue (getD B i false) (getD xs i zero64)) Unmeasured
-  value-there d l h = rw h (ap Measured (within xs i d zero64 l))
+  value-there d l h = rw h (ap Measured (any-default xs i d zero64 l))
 
   pub no-value : getD B i false ≡ false → Unmeasured ≡ orMeasured (memoValue (getD B i false) (getD xs i zero64)) Unmeasured
   no-value h = rw h

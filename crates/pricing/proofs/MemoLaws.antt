@@ -8,12 +8,12 @@ use lib.Dec.{eqb}
 use lib.ListN.{length, getD, set}
 use lib.Seq.{getD-set-same, getD-set-other}
 use native.Mathlib.Numerals.{add-one}
-use borrow.Author.Tests.{eq-eqb, eqb-true, lt-ltb, le-ltb}
+use borrow.Author.Tests.{eqb-true, lt-ltb, le-ltb}
 use Rattle.base.specs.Choose.{pick}
 use Rattle.model.specs.Bools.{first, second}
-use Rattle.cost.specs.declared.sampling.Key.{Key}
 use Rattle.cost.specs.Sampling.{sameKey, isKnown}
 use Rattle.cost.specs.Memo.{unpackKey, memoAt}
+use Rattle.plan_facts.specs.Remembered.{same-self}
 use Rattle.pricing.specs.Remembering.{Placed}
 
 -- a number is what stands above its lowest byte, and that byte
@@ -51,9 +51,6 @@ same-number m n h =
     let g1 = byte-same (m / 256) (n / 256) (above-1 m ∙ g2 ∙ sym (above-1 n)) t in
     byte-same m n g1 u
 
-same-itself : (x : Key) → sameKey x x ≡ true
-same-itself x = rw (eq-eqb (x .emitter) (x .emitter) refl, eq-eqb (x .site) (x .site) refl, eq-eqb (x .position) (x .position) refl, eq-eqb (x .op) (x .op) refl, eq-eqb (x .path) (x .path) refl, eq-eqb (x .place) (x .place) refl)
-
 other-number : (m n : ℕ) → (m ≡ n → ⊥) → sameKey (unpackKey n) (unpackKey m) ≡ false
 other-number m n z = by (sameKey (unpackKey n) (unpackKey m)) refl
   where
@@ -79,7 +76,7 @@ module _ (ks : List ℕ) (m key i : ℕ) (s : Searching ks m key i) where
   pub searching-found : 0 < i → getD ks (i - 1) 0 ≡ key → Placed ks m key (i - 1)
   searching-found h e =
       let l : i - 1 < m = omega (arith, s .few) in
-      record { few = omega arith; known = rw (lt-ltb (i - 1) m l) (sym (rw (e, same-itself (unpackKey key)) at (one-less h))); is = λ g. e }
+      record { few = omega arith; known = rw (lt-ltb (i - 1) m l) (sym (rw (e, same-self (unpackKey key)) at (one-less h))); is = λ g. e }
 
   pub searching-again : 0 < i → (getD ks (i - 1) 0 ≡ key → ⊥) → Searching ks m key (i - 1)
   searching-again h z = record { few = omega (arith, s .few); is = rw (other-number (getD ks (i - 1) 0) key z) at (one-less h) }

@@ -23,16 +23,16 @@ use Rattle.pricing.specs.Items.{itemFan, orFan, ItemsOf, itemAt, reprSel
 use Rattle.pricing.specs.Prices.{rowSize, itemPrice, ItemPriced, ItemsPriced, RowItems, Row, rowAt, frameAt, FewItems, Priced}
 use Rattle.pricing.specs.declared.costs.Items.{Items}
 use Rattle.pricing.specs.declared.costs.Item.{Item}
-use Rattle.pricing.proofs.LeafLaws.{within}
+use Rattle.base.specs.Lists.{any-default}
 
 -- ---- what is read of a row
 
 module _ (fs : List (List ℕ)) (f : List ℕ) (k : ℕ) (ps : List Float) (w : Row fs f k ps) (d : Float) where
   pub row-base : getD ps 0 d ≡ baseCard fs (getD f 2 0) k
-  row-base = within ps 0 d zero64 (omega (arith, w .items .room)) ∙ w .base
+  row-base = any-default ps 0 d zero64 (omega (arith, w .items .room)) ∙ w .base
 
   pub row-node : getD ps 1 d ≡ reprCost fs (getD f 2 0) k
-  row-node = within ps 1 d zero64 (omega (arith, w .items .room)) ∙ w .node
+  row-node = any-default ps 1 d zero64 (omega (arith, w .items .room)) ∙ w .node
 
 -- item number k
 pub item-priced : (fs : List (List ℕ)) (f : List ℕ) (g : Items) (k : ℕ) (B : Bound) (x : Item) (ps : List Float) → ItemsOf f g → RowItems fs f ps → x ≡ itemAt f g k B → k < g .count → ItemPriced fs x ps
@@ -45,7 +45,7 @@ module _ (fs : List (List ℕ)) (x : Item) (v : FanOut) where
   by-sample y d r e hd h = h ∙ rw (hd, e)
 
   pub by-row : (ps : List Float) (p : ℕ) (d : Float) → v ≡ Unmeasured → ItemPriced fs x ps → p ≡ x .position → getD ps (p + 2) d ≡ pathSelectivity (orFan v (itemFan fs (x .op) (x .element) (x .position))) (denominator fs (x .op))
-  by-row ps p d e w h = rw (e, h) (within ps (x .position + 2) d zero64 (w .room) ∙ w .is)
+  by-row ps p d e w h = rw (e, h) (any-default ps (x .position + 2) d zero64 (w .room) ∙ w .is)
 
 -- the row of atom number k, as a part of the table
 module _ (x from : List ℕ) (n : ℕ) (ps : List Float) (w : Priced x from n ps) (k : ℕ) (h : k < n) where

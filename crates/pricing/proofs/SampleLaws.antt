@@ -14,7 +14,7 @@ use Rattle.measure.specs.declared.SamplerConfig.{SamplerConfig}
 use Rattle.query.specs.Statistics.{settings}
 use Rattle.query.specs.declared.statistics.Sampled.{Sampled}
 use Rattle.query.specs.declared.statistics.Sampled.the-variants.{On, Off}
-use Rattle.cost.specs.declared.sampling.Key.{Key}
+use Rattle.cost.specs.declared.probes.Key.{Key}
 use Rattle.cost.specs.declared.memo.Tallies.{Tallies}
 use Rattle.cost.specs.Sampling.{Tally, afterEstimate}
 use Rattle.cost.specs.Emitters.{Emitter, decode}

@@ -17,7 +17,7 @@ use Rattle.frames.specs.Frames.{kindOf}
 use Rattle.model.specs.Atoms.{Operand}
 use Rattle.model.specs.Bound.{Bound}
 use Rattle.model.specs.Lowering.{pvIsBound}
-use Rattle.cost.specs.declared.sampling.Key.{Key}
+use Rattle.cost.specs.declared.probes.Key.{Key}
 use Rattle.cost.specs.Emitters.{Emitters}
 use Rattle.cost.specs.QueryAtoms.{operandAt}
 use Rattle.lowering.specs.AtomLines.{itemOperands}

@@ -20,7 +20,7 @@ ghost use Rattle.pricing.specs.Remembering.{Samples, Remembers, Gives, S
 use super::memo::Sample;
 use super::memo::estimate;
 use cost::memo::Tallies;
-use cost::sampling::Key;
+use cost::probes::Key;
 use frames::fields::narrow;
 use frames::fields::wide;
 use frames::frame::items_of;

@@ -17,7 +17,7 @@ use cost::draws::measure_key;
 use cost::memo::Tallies;
 use cost::memo::counted;
 use cost::memo::pack_key;
-use cost::sampling::Key;
+use cost::probes::Key;
 use measure::FanOut;
 use measure::SamplerConfig;
 

@@ -77,15 +77,6 @@ module _ (x k : List ℕ) (at : ℕ) (s : Seeking x k at) where
       line : Line x at e
       line = walk-line x at e (s .within) p n
 
-      pub line-from : at ≤ e
-      line-from = line .from
-
-      pub line-within : e ≤ length x
-      line-within = omega (arith, line .within)
-
-      pub line-less : length x - (e + 1) < length x - at
-      line-less = omega (arith, line .within, line .from)
-
       pub is-found : (b : Bool) → b ≡ begins k (bytesOf (take (e - at) (drop at x))) → b ≡ true → bytesOf (take (e - at) (drop at x)) ≡ find k (framesOf x)
       unfolding find
       is-found b q t = sym (s .is ∙ rw (frames-step x at e line, ← q, t))

@@ -1,5 +1,5 @@
 -- The second reading, a test and a line at a time. Assumes nothing.
-use Prim.Native.Nat.{ℕ, zero, suc, _+_, _-_, _*_, _<_, _≤_}
+use Prim.Native.Nat.{ℕ, suc, _+_, _-_, _*_, _<_, _≤_}
 use mathlib.Core.Path.{_≡_, refl, sym, _∙_, ap, subst}
 use mathlib.Core.Bool.{Bool, true, false, not}
 use mathlib.Core.List.{List, [], _∷_, _++_, append-nil}
@@ -17,7 +17,7 @@ use Rattle.base.specs.Choose.{pick}
 use Rattle.frames.specs.Limits.{textMost, atomsMost}
 use Rattle.frames.specs.Fields.{fieldPasses}
 use Rattle.frames.specs.Frames.{kindOf, frameLength, framePasses}
-use Rattle.frames.specs.First.{framesOf, orElse, first-line, firstReading}
+use Rattle.frames.specs.First.{framesOf, orElse, or-stops, first-line, firstReading}
 use Rattle.frames.specs.declared.fields.Counts.{Counts}
 use Rattle.frames.specs.declared.fields.Test.the-variants.{Range, Reals}
 use Rattle.frames.specs.declared.first.Text.{Text}
@@ -25,7 +25,7 @@ use Rattle.frames.specs.declared.first.Text.the-variants.{Query, Plan}
 use Rattle.frames.specs.declared.first.Reading.{Reading}
 use Rattle.frames.specs.declared.first.Reading.the-variants.{Accepted, Refused}
 use Rattle.reading.specs.Keys.{keyGiven}
-use Rattle.reading.specs.Walk.{walk-line, frames-step, frames-none, frames-end, frames-before, frames-split, lines-before}
+use Rattle.reading.specs.Walk.{walk-line, line-less, frames-step, frames-none, frames-end, frames-before, frames-split, lines-before}
 use Rattle.reading.specs.Second.{headerCounts, countsOf, faultOf, secondFault, secondFrom, reading}
 use Rattle.reading.specs.Index.{givenBy, noted, entriesWith, Noting, Indexes, Indexed}
 use Rattle.reading.specs.IndexedReading.{indexSize, Blank, Framed, FirstRead, Rereads, ReadIndexed}
@@ -82,10 +82,6 @@ pub from-start : (n : Counts) (x : List ℕ) (a : Reading) → Reread n x a 0 0
 unfolding framesOf split
 from-start n x a = record { few = omega arith; within = omega arith; whole = refl; is = refl }
 
-or-stops : (k n : ℕ) (a : Reading) → (k ≡ 0 → ⊥) → orElse k n a ≡ Refused k (suc n)
-or-stops zero n a h = absurd (h refl)
-or-stops (suc k) n a h = refl
-
 module _ (n : Counts) (x : List ℕ) (a : Reading) (at k : ℕ) (s : Reread n x a at k) where
   pub all-read : length x ≤ at → a ≡ secondFrom n [] 0 (framesOf x) a
   unfolding secondFrom
@@ -99,9 +95,6 @@ module _ (n : Counts) (x : List ℕ) (a : Reading) (at k : ℕ) (s : Reread n x 
     module _ (z : e ≡ length x → ⊥) where
       line : Line x at e
       line = walk-line x at e (s .within) p z
-
-      pub line-less : length x - (e + 1) < length x - at
-      line-less = omega (arith, line .within, line .from)
 
       module _ (v : ℕ) (q : v ≡ secondFault n (framesOf (take at x)) (bytesOf (take (e - at) (drop at x)))) where
         line-says : secondFrom n [] 0 (framesOf x) a ≡ orElse v k (secondFrom n (framesOf (take at x) ++ bytesOf (take (e - at) (drop at x)) ∷ []) (suc k) (framesOf (drop (e + 1) x)) a)
@@ -224,7 +217,7 @@ module _ (n : Counts) (x : List ℕ) (a : Reading) (i₀ i : List ℕ) (at k m :
 
     module _ (z : at + length l ≡ length x → ⊥) where
       pub next-less : length x - (at + length l + 1) < length x - at
-      next-less = line-less n x a at k (s .read) (at + length l) line-end z
+      next-less = line-less x at (at + length l) (s .read .within) line-end z
 
       module _ (v : ℕ) (q : v ≡ faultOf n (bytesOf l) (givenBy x i (bytesOf l))) where
         same-fault : v ≡ faultOf n (bytesOf (take (at + length l - at) (drop at x))) (givenBy x i (bytesOf (take (at + length l - at) (drop at x))))

@@ -1,9 +1,10 @@
 -- The reading of a text that makes its index: what is lent, and what is told. Assumes nothing.
-use Prim.Native.Nat.{ℕ, zero, suc, _+_, _*_, _/_, _<_, _≤_}
-use mathlib.Core.Path.{_≡_, refl}
+use Prim.Native.Nat.{ℕ, _+_, _*_, _/_, _<_, _≤_}
+use mathlib.Core.Path.{_≡_}
 use mathlib.Core.List.{List, []}
 use native.Mathlib.Omega.{arith}
 use lib.ListN.{length, getD, replicate, length-replicate}
+use Rattle.base.specs.Lists.{blank-at}
 use Rattle.frames.specs.Limits.{textMost}
 use Rattle.frames.specs.Frames.{frameLength}
 use Rattle.frames.specs.First.{framesOf}
@@ -25,13 +26,8 @@ pub record Blank (x i : List ℕ) : Type 0 where
   pub blank : (e : ℕ) → getD i e 0 ≡ 0
 
 -- an array of zeros serves
-zeros : (n e : ℕ) → getD {A = ℕ} (replicate n 0) e 0 ≡ 0
-zeros zero e = refl
-zeros (suc n) zero = refl
-zeros (suc n) (suc e) = zeros n e
-
 blank-of : (x : List ℕ) (n : ℕ) → (length x ≤ textMost → indexSize (length x) ≤ n) → Blank x (replicate n 0)
-blank-of x n h = record { room = λ l. rw (length-replicate {A = ℕ} n 0) (h l); blank = zeros n }
+blank-of x n h = record { room = λ l. rw (length-replicate {A = ℕ} n 0) (h l); blank = blank-at n 0 }
 
 -- for a text of at most 4,096 bytes, and for any text
 pub blank-short : (x : List ℕ) → length x ≤ 4096 → Blank x (replicate 1686 0)

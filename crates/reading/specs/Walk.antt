@@ -1,5 +1,5 @@
 -- A walk over a text's frames, line by line: what the search for a line's end says of the frames that are left. Assumes nothing.
-use Prim.Native.Nat.{ℕ, _+_, _-_, _≤_}
+use Prim.Native.Nat.{ℕ, _+_, _-_, _<_, _≤_}
 use mathlib.Core.Path.{_≡_, refl, sym, _∙_, ap}
 use mathlib.Core.List.{List, [], _∷_, _++_, map, map-append}
 use native.Mathlib.Omega.{arith}
@@ -17,6 +17,20 @@ walk-line x at e h p n = go (split (drop at x) .ended) refl
     go : (es : List (List ℕ)) → split (drop at x) .ended ≡ es → Line x at e
     go [] q = absurd (n (omega (arith, end-none (drop at x) at q, length-drop at x, p)))
     go (l ∷ ls) q = end-line x at e l ls q p
+
+-- it stands in the text, and the walk over the lines goes on
+module _ (x : List ℕ) (at e : ℕ) (within : at ≤ length x) (p : e ≡ endOf at (drop at x)) (h : e ≡ length x → ⊥) where
+  line : Line x at e
+  line = walk-line x at e within p h
+
+  pub line-from : at ≤ e
+  line-from = line .from
+
+  pub line-within : e ≤ length x
+  line-within = omega (arith, line .within)
+
+  pub line-less : length x - (e + 1) < length x - at
+  line-less = omega (arith, line .within, line .from)
 
 -- the frames from `at` on: that line's, then those after it
 pub frames-step : (x : List ℕ) (at e : ℕ) → Line x at e → framesOf (drop at x) ≡ bytesOf (take (e - at) (drop at x)) ∷ framesOf (drop (e + 1) x)

@@ -1,21 +1,16 @@
 -- A frame that passes a test: each of its fields passes it, and each of its items. Assumes nothing.
 use Prim.Native.Nat.{ℕ, zero, suc, _+_, _*_, _<_}
-use mathlib.Core.Path.{_≡_, refl}
-use mathlib.Core.Bool.{Bool, true, false}
+use mathlib.Core.Path.{_≡_}
+use mathlib.Core.Bool.{Bool, true}
 use mathlib.Core.List.{List, [], _∷_}
 use native.Mathlib.Omega.{arith}
 use native.Mathlib.Nat.{add-zero, add-assoc, mul-suc}
 use lib.ListN.{length, getD, take, replicate}
-use Rattle.base.specs.Choose.{pick}
+use Rattle.base.specs.Choose.{both-hold}
 use Rattle.frames.specs.Fields.{width}
 use Rattle.frames.specs.Kinds.{none, widths, fixedLength, itemsOf}
 use Rattle.frames.specs.Frames.{kindOf, passAll, framePasses}
 use Rattle.frames.specs.declared.fields.Field.{Field}
-
--- both of two tests, the second made where the first holds
-pub both-hold : (a b : Bool) → pick a b false ≡ true → (a ≡ true) × (b ≡ true)
-both-hold true b p = (refl, p)
-both-hold false b p = let z : _≡_ {A = ℕ} 0 1 = cc in absurd (omega arith)
 
 module _ (P : Field → List ℕ → ℕ → Bool) (f : List ℕ) where
   pub field-passes : (xs : List Field) (i : ℕ) → passAll P xs f i ≡ true → (j : ℕ) → j < length xs → P (getD xs j none) f (i + widths (take j xs)) ≡ true

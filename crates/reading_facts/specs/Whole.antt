@@ -1,6 +1,6 @@
 -- What holds of an accepted text: its size and counts are within the limits, each of its frames passes the tests 2 to 6, and no two of
 -- its frames have the same key. Assumes nothing.
-use Prim.Native.Nat.{ℕ, zero, suc, _+_, _*_, _%_, _≤_, _<_}
+use Prim.Native.Nat.{ℕ, zero, suc, _+_, _≤_, _<_}
 use mathlib.Core.Path.{_≡_, refl, sym, _∙_, ap}
 use mathlib.Core.Bool.{Bool, true, false}
 use mathlib.Core.List.{List, [], _∷_, _++_, map, append-assoc, append-nil}
@@ -10,9 +10,10 @@ use lib.ListN.{length, getD, take, length-map}
 use lib.Seq.{getD-take, length-take-le}
 use lib.Dec.{T, leb, eqb}
 use lib.Pow.{areBytes}
-use borrow.Author.Tests.{lt-ltb, leb-true, eqb-true, eq-eqb, ne-eqb}
-use Rattle.base.specs.Choose.{pick}
-use Rattle.hex.specs.Digits.{digitValue, bytesOf}
+use borrow.Author.Tests.{leb-true, eqb-true, eq-eqb, ne-eqb}
+use Rattle.base.specs.Choose.{pick, both-hold}
+use Rattle.hex.specs.Digits.{bytesOf}
+use Rattle.hex.specs.Bytes.{digits-bytes}
 use Rattle.hex.specs.Lines.{split, isHex, endOf}
 use Rattle.hex.specs.Cuts.{cut, end-is, all-rest}
 use Rattle.frames.specs.Limits.{textMost, variablesMost, globalsMost, literalsMost, atomsMost, rowsMost}
@@ -29,7 +30,6 @@ use Rattle.frames.specs.declared.first.Reading.the-variants.{Accepted, Refused}
 use Rattle.reading.specs.Keys.{begins, find, isFound, keyOf, keyGiven}
 pub use Rattle.reading.specs.Formed.{Formed, countFrom}
 use Rattle.reading.specs.Formed.{passes, or-passes, Passed, lines-pass, lines-hex, First, first-accepted}
-use Rattle.reading_facts.specs.Passes.{both-hold}
 use Rattle.reading.specs.Second.{countsOf, secondFault, secondFrom, second, reading}
 
 -- ---- what is said of an accepted text
@@ -278,11 +278,6 @@ table-rows x n c p = accepted Table x n c p .few
 -- ---- bytes
 
 -- a frame is of bytes
-digits-bytes : (l : List ℕ) → T (areBytes (bytesOf l))
-digits-bytes [] = tt
-digits-bytes (a ∷ []) = tt
-digits-bytes (a ∷ b ∷ l) = rw (lt-ltb (digitValue a % 16 * 16 + digitValue b % 16) 256 (omega arith)) (digits-bytes l)
-
 lines-bytes : (ls : List (List ℕ)) (i : ℕ) → T (areBytes (getD (map bytesOf ls) i []))
 lines-bytes [] i = tt
 lines-bytes (l ∷ ls) zero = digits-bytes l

@@ -1,11 +1,11 @@
 -- The bytes of a line of digits, put into a buffer one after the other. Assumes nothing.
 use Prim.Native.Nat.{ℕ, _+_, _/_, _<_, _≤_}
-use mathlib.Core.Path.{_≡_, refl, sym, _∙_}
+use mathlib.Core.Path.{_≡_, refl, _∙_}
 use mathlib.Core.List.{List}
 use native.Mathlib.Numerals.{add-one}
 use native.Mathlib.Omega.{arith}
 use lib.ListN.{length, getD, take, set, length-set}
-use lib.Seq.{length-take-le, take-suc, take-suc-set}
+use lib.Seq.{take-suc, take-suc-set}
 use Rattle.hex.specs.Digits.{bytesOf}
 use Rattle.hex.specs.Bytes.{bytes-length}
 
@@ -26,10 +26,6 @@ decoded-next l t₀ t i b d h k p =
       within = rw (length-set t i b) (omega arith);
       is = rw (add-one i, take-suc-set t i b h, take-suc (bytesOf l) i 0 n, d .is, p);
     }
-
--- the first n bytes are n
-pub taken : (n : ℕ) (l : List ℕ) → n ≤ length l → n ≡ length (take n l)
-taken n l h = sym (length-take-le n l h)
 
 -- one more byte is kept
 pub one-more : (n b : ℕ) (l : List ℕ) → n < length l → n + 1 ≤ length (set l n b)

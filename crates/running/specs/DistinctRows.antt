@@ -7,10 +7,10 @@ use mathlib.Core.List.{List, [], _∷_, _++_, flatMap, append-assoc, List·Mem�
 use native.Mathlib.Omega.{arith}
 use lib.ListN.{length, getD, length-append}
 use lib.Seq.{getD-append-add}
-use lib.Dec.{T, ltb, eqb}
+use lib.Dec.{ltb, eqb}
 use lib.Pow.{areBytes}
 use borrow.Author.Tests.{ltb-true, eqb-true}
-use Rattle.base.specs.Choose.{pick}
+use Rattle.base.specs.Choose.{pick, is-true}
 use Rattle.hex.specs.Digits.{shortAt}
 use Rattle.frames.specs.Kinds.{kinds, kindAt}
 use Rattle.frames.specs.Frames.{frameLength}
@@ -26,7 +26,7 @@ use Rattle.model.specs.Atoms.{Row, Node, Literal}
 use Rattle.model.specs.Matching.{Distinct}
 use Rattle.model.specs.Limits.{classBytes}
 use Rattle.plans.specs.StepFrames.{itemsAt, wordBytes}
-use Rattle.plans.specs.Items.{behind}
+use Rattle.plans.specs.Items.{items-count, behind}
 use Rattle.running.specs.Tables.{rowOf, rowsIn, tableOf}
 
 -- ---- the frame of a row
@@ -34,11 +34,6 @@ use Rattle.running.specs.Tables.{rowOf, rowsIn, tableOf}
 abbrev rowFrame : Row → List ℕ
 rowFrame (Node c o ds) = 0x30 ∷ c / 0x100 ∷ c % 0x100 ∷ o ∷ length ds ∷ flatMap classBytes ds
 rowFrame (Literal c o x) = 0x31 ∷ c / 0x100 ∷ c % 0x100 ∷ o ∷ wordBytes x
-
-items-count : {X : Type 0} (read : List ℕ → ℕ → X) (w : ℕ) (f : List ℕ) (i n : ℕ) → length (itemsAt read w f i n) ≡ n
-unfolding itemsAt
-items-count read w f i zero = refl
-items-count read w f i (suc n) = ap suc (items-count read w f (i + w) n)
 
 -- the classes behind p, as bytes again
 classes-back : (n : ℕ) (p r : List ℕ) → length r ≡ 2 * n → areBytes r ≡ true → flatMap classBytes (itemsAt shortAt 2 (p ++ r) (length p) n) ≡ r
@@ -191,10 +186,6 @@ row-keyed b h = by b (row-kind b h)
     by : (b : ℕ) → IsRow b → kindAt b .key ≡ 0 → ⊥
     by b (is-node e) k = let z : kindAt 0x30 .key ≡ 0 = rw e at k in omega arith
     by b (is-literal e) k = let z : kindAt 0x31 .key ≡ 0 = rw e at k in omega arith
-
-is-true : (b : Bool) → T b → b ≡ true
-is-true true t = refl
-is-true false t = absurd t
 
 pub distinct-rows : (t : List ℕ) (n c : ℕ) → reading Table t ≡ Accepted n c → Distinct (tableOf t)
 unfolding tableOf

@@ -1,29 +1,26 @@
 -- What an atom's kind says of the emitters it gives, and the atoms in turn. Proved kind by kind, and from what one atom gives.
-use Prim.Native.Nat.{ℕ, zero, suc, _+_, _-_, _<_, _≤_}
-use mathlib.Core.Path.{_≡_, refl, sym, subst, _∙_, ap}
-use mathlib.Core.Bool.{Bool, true, false, _&&_, Bool·beq}
-use mathlib.Core.List.{List, [], _∷_, map, flatMap}
+use Prim.Native.Nat.{ℕ, suc, _+_, _<_, _≤_}
+use mathlib.Core.Path.{_≡_, refl, sym, subst, _∙_}
+use mathlib.Core.Bool.{Bool, true, false, Bool·beq}
+use mathlib.Core.List.{List, _∷_, map}
 use native.Mathlib.Omega.{arith}
 use native.Mathlib.Numerals.{add-one}
 use lib.Dec.{T, ltb}
 use lib.ListN.{length, getD, drop, drop-of-length-le}
 use lib.Seq.{drop-cons}
-use borrow.Author.Tests.{ltb-true, ltb-false, lt-ltb}
-use Rattle.base.specs.Choose.{pick}
 use Rattle.hex.specs.Digits.{bytesOf}
 use Rattle.hex.specs.Lines.{lineAt}
 use Rattle.frames.specs.First.{isAtom}
 use Rattle.frames.specs.Kinds.{kinds, kindAt}
-use Rattle.model.specs.Atoms.{Operand, localOf, Atom, Eq}
+use Rattle.model.specs.Atoms.{Operand, Atom, Eq}
 use Rattle.model.specs.Bound.{Bound, has, most}
-use Rattle.model.specs.Bools.{first, second}
 use Rattle.model.specs.Premises.{numbersBelow}
 use Rattle.model.specs.Scheduling.{atomOf}
 use Rattle.cost.specs.QueryAtoms.{operandsFrom, atomOfFrame}
 use Rattle.cost.specs.Emitters.{Emitters, decode, from, emitterOf, setEmitter, setElements, copyEmitter, recordAtom, recordEmitters}
 use Rattle.lowering.specs.AtomLines.{AtomLine, itemOperands, scansKind}
-use Rattle.lowering.specs.Eager.{atomsOf, Lined, Located}
-use Rattle.lowering.proofs.AtomLaws.{by-kind, items-kind, node-kind}
+use Rattle.lowering.specs.Eager.{atomsOf, Located}
+use Rattle.lowering.proofs.AtomLaws.{by-kind, scanning}
 use Rattle.sampling.specs.Items.{setItems, recordIfNew}
 use Rattle.sampling.proofs.ItemLaws.{children-are, elements-are}
 
@@ -59,38 +56,9 @@ module _ (f : List ℕ) (k : ℕ) (is : k ≡ getD f 0 0) where
   unfolding atomOfFrame recordAtom
   record-eq em o i a b h p q e = rw (← is, h, ← p, ← q) e
 
-  eq-below : (l : List ℕ) (a b : ℕ) → AtomLine f → k ≡ 4 → a ≡ getD f 1 0 → b ≡ getD f 2 0 → length l ≡ most → (a < length l) × (b < length l)
-  unfolding atomOfFrame numbersBelow
-  eq-below l a b z h p q s =
-      let r : ltb a most && (ltb b most && true) ≡ true = rw (← is, h, ← p, ← q) at (z .variables) in
-      rw s (ltb-true a most (first _ _ r), ltb-true b most (first _ _ (second (ltb a most) _ r)))
-
-  pub left-below : (l : List ℕ) (a b : ℕ) → AtomLine f → k ≡ 4 → a ≡ getD f 1 0 → b ≡ getD f 2 0 → length l ≡ most → a < length l
-  left-below l a b z h p q s = eq-below l a b z h p q s .0
-
-  pub right-below : (l : List ℕ) (a b : ℕ) → AtomLine f → k ≡ 4 → a ≡ getD f 1 0 → b ≡ getD f 2 0 → length l ≡ most → b < length l
-  right-below l a b z h p q s = eq-below l a b z h p q s .1
-
-  module _ (line : AtomLine f) (p : k ≡ 6 → ⊥) (q : k ≡ 4 → ⊥) where
-    pub node-below : (l : List ℕ) (a : ℕ) → length l ≡ most → a ≡ getD f 1 0 → a < length l
-    node-below l a s e = rw (s, e) (ltb-true (getD f 1 0) most (node-kind f (line .kind) (λ e. p (is ∙ e)) (λ e. q (is ∙ e)) (line .variables)))
-
-    module _ (r : k ≡ 5 → ⊥) where
-      scanning : scansKind (getD f 0 0) ≡ true
-      scanning = rw (← is) (at (ltb k 4) refl)
-        where
-          past : 4 ≤ k → 6 < k
-          past l = omega arith
-
-          at : (t : Bool) → ltb k 4 ≡ t → pick t true (ltb 6 k) ≡ true
-          at true h = refl
-          at false h = lt-ltb 6 k (past (ltb-false k 4 h))
-
-      pub items-below : (n : ℕ) → n ≡ most → numbersBelow n (flatMap localOf (itemOperands f)) ≡ true
-      items-below n s = rw s (items-kind f (line .kind) scanning (line .variables))
-
-      pub record-scan : (em o : Emitters) (i a : ℕ) → a ≡ getD f 1 0 → o ≡ setItems (setEmitter em a (from i 0 0)) i (ltb 6 (getD f 0 0)) 0 (itemOperands f) → o ≡ recordAtom em i (atomOfFrame f)
-      record-scan em o i a n h = h ∙ rw n (record-kind em i f (line .kind) scanning)
+  module _ (line : AtomLine f) (p : k ≡ 6 → ⊥) (q : k ≡ 4 → ⊥) (r : k ≡ 5 → ⊥) where
+    pub record-scan : (em o : Emitters) (i a : ℕ) → a ≡ getD f 1 0 → o ≡ setItems (setEmitter em a (from i 0 0)) i (ltb 6 (getD f 0 0)) 0 (itemOperands f) → o ≡ recordAtom em i (atomOfFrame f)
+    record-scan em o i a n h = h ∙ rw n (record-kind em i f (line .kind) (scanning f k is line p q r))
 
 -- ---- atom number k, where its use has changed
 
@@ -118,19 +86,7 @@ atoms-drop qs i h = drop-cons qs i (Eq 0 0) h
 
 module _ (x from : List ℕ) (n : ℕ) (B U : Bound) (l₀ l : List ℕ) (i : ℕ) (r : Recording x n B U l₀ l i) (z : Located x from n) where
   module _ (h : i < n) where
-    pub place-sized : i + most < length from
-    place-sized = omega (arith, z .size)
-
-    pub place-within : Lined x from i
-    place-within = z .within i h
-
-    pub number-small : i < 256
-    number-small = omega (arith, z .few)
-
     module _ (s : List ℕ) (line : s ≡ lineAt x (getD from i 0)) where
-      pub line-ready : AtomLine (bytesOf s)
-      line-ready = rw line (z .line i h)
-
       pub recording-again : (v : ℕ) (o : List ℕ) → v ≡ i → length o ≡ length l → map decode o ≡ recordIfNew B U v (atomOfFrame (bytesOf s)) (map decode l) → Recording x n B U l₀ o (i + 1)
       unfolding recordEmitters
       recording-again v o e g d = record {

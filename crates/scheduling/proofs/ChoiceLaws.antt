@@ -1,6 +1,6 @@
 -- The cheapest of the atoms that are left. Proved atom by atom, from what each cost stands for.
 use Prim.Native.Nat.{ℕ, suc, _+_, _<_, _≤_}
-use mathlib.Core.Path.{_≡_, refl, sym, _∙_}
+use mathlib.Core.Path.{_≡_, refl, _∙_}
 use mathlib.Core.Bool.{Bool, true, false, not, _&&_}
 use mathlib.Core.Option.{Option, none, some}
 use mathlib.Core.List.{List, [], _∷_}
@@ -9,12 +9,13 @@ use native.Mathlib.Numerals.{add-one}
 use lib.ListN.{length, getD, drop, drop-of-length-le}
 use lib.Seq.{drop-cons}
 use lib.Ieee.{Float, lt}
+use borrow.Author.Tests.{not-true, not-false}
 use Rattle.base.specs.Choose.{pick}
 use Rattle.hex.specs.Digits.{bytesOf}
 use Rattle.hex.specs.Lines.{lineAt}
 use Rattle.frames.specs.First.{framesOf}
 use Rattle.model.specs.Atoms.{Atom}
-use Rattle.model.specs.Bound.{Bound, has, most}
+use Rattle.model.specs.Bound.{Bound, has}
 use Rattle.model.specs.Scheduling.{scans, atomOf, numbers}
 use Rattle.model.specs.Tabulate.{tabulate-at, tabulate-length}
 use Rattle.model.specs.Cheapest.{Bid, Scan}
@@ -25,20 +26,11 @@ use Rattle.cost.specs.Sampling.{Tally}
 use Rattle.cost.specs.Costs.{Costed, estimateCost}
 use Rattle.cost.specs.Memo.{tallyAt}
 use Rattle.plan_facts.specs.Remembered.{Grows, grows-self, cost-grows}
-use Rattle.lowering.specs.Eager.{Lined, Located, atomsOf}
-use Rattle.lowering.specs.AtomLines.{AtomLine}
+use Rattle.lowering.specs.Eager.{Located, atomsOf}
 use Rattle.pricing.specs.Remembering.{Samples, Remembers, Stands}
 use Rattle.pricing.specs.declared.costs.Costed.{Costed as CostedAs}
 use Rattle.scheduling.specs.declared.choose.Best.{Best}
 use Rattle.scheduling.specs.Choosing.{bidOf, orBest, considered, candidates, Chose, betterOf}
-
-pub is-true : (t : Bool) → not t ≡ false → t ≡ true
-is-true true h = refl
-is-true false h = sym h
-
-pub is-false : (t : Bool) → not t ≡ true → t ≡ false
-is-false true h = sym h
-is-false false h = refl
 
 -- ---- one atom
 
@@ -49,7 +41,7 @@ module _ (fs : List (List ℕ)) (em : Emitters) (U B : Bound) (i : ℕ) (a : Ato
 
   module _ (new : t ≡ false) (u : Bool) (scan : u ≡ scans a) where
     pub considers-not : Remembers fs how keys valued values (b .tallies) → not u ≡ true → Chose fs how keys valued values b (considered fs em U B i a (tallyAt keys (b .tallies)) (bidOf (b .found) (b .who) (b .price)))
-    considers-not m h = rw (← is, new, ← scan, is-false u h) (record { best = refl; next = refl; memo = m })
+    considers-not m h = rw (← is, new, ← scan, not-true u h) (record { best = refl; next = refl; memo = m })
 
     module _ (h : not u ≡ false) where
       next-is : (o : Option (Bid Float)) (c : Costed) → orBest fs em i c o .next ≡ c .tally
@@ -57,11 +49,11 @@ module _ (fs : List (List ℕ)) (em : Emitters) (U B : Bound) (i : ℕ) (a : Ato
       next-is (some d) c = refl
 
       pub considers-room : length (considered fs em U B i a (tallyAt keys (b .tallies)) (bidOf (b .found) (b .who) (b .price)) .next .memo) ≤ length keys → length (estimateCost fs em B i a (tallyAt keys (b .tallies)) .tally .memo) ≤ length keys
-      considers-room l = rw (← is, new, ← scan, is-true u h, next-is (bidOf (b .found) (b .who) (b .price)) (estimateCost fs em B i a (tallyAt keys (b .tallies)))) at l
+      considers-room l = rw (← is, new, ← scan, not-false u h, next-is (bidOf (b .found) (b .who) (b .price)) (estimateCost fs em B i a (tallyAt keys (b .tallies)))) at l
 
       pub considers-cost : (keys′ : List ℕ) (valued′ : List Bool) (values′ : List Float) (c : CostedAs) (r : Best) → Stands fs how keys′ valued′ values′ c (estimateCost fs em B i a (tallyAt keys (b .tallies))) → r ≡ betterOf i c b
           → Chose fs how keys′ valued′ values′ r (considered fs em U B i a (tallyAt keys (b .tallies)) (bidOf (b .found) (b .who) (b .price)))
-      considers-cost keys′ valued′ values′ c r s e = rw (← is, new, ← scan, is-true u h, e) (by (b .found))
+      considers-cost keys′ valued′ values′ c r s e = rw (← is, new, ← scan, not-false u h, e) (by (b .found))
         where
           w : Costed
           w = estimateCost fs em B i a (tallyAt keys (b .tallies))
@@ -124,19 +116,7 @@ scanning-none x em U B how n keys valued values draws b h m d = record { few = o
 
 module _ (x from : List ℕ) (em : Emitters) (U B : Bound) (how : Sampled) (n : ℕ) (keys₀ : List ℕ) (draws₀ : List Float) (b₀ : Best) (keys : List ℕ) (valued : List Bool) (values draws : List Float) (b : Best) (i : ℕ) (r : Scanning x em U B how n keys₀ draws₀ b₀ keys valued values draws b i) (z : Located x from n) where
   module _ (h : i < n) where
-    pub place-sized : i + most < length from
-    place-sized = omega (arith, z .size)
-
-    pub place-within : Lined x from i
-    place-within = z .within i h
-
-    pub number-small : i < 256
-    number-small = omega (arith, z .few)
-
     module _ (s : List ℕ) (line : s ≡ lineAt x (getD from i 0)) where
-      pub line-ready : AtomLine (bytesOf s)
-      line-ready = rw line (z .line i h)
-
       module _ (v : ℕ) (e : v ≡ i) where
         abbrev here : Scan Tally Float
         here = considered (framesOf x) em U B v (atomOfFrame (bytesOf s)) (tallyAt keys (b .tallies)) (bidOf (b .found) (b .who) (b .price))

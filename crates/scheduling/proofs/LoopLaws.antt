@@ -1,5 +1,5 @@
 -- The greedy loop: what is left of it gives what the whole gives. Proved round by round; the memo's room from its growth.
-use Prim.Native.Nat.{ℕ, zero, suc, _+_, _-_, _<_, _≤_}
+use Prim.Native.Nat.{ℕ, zero, suc, _-_, _<_, _≤_}
 use mathlib.Core.Path.{_≡_, refl, sym, _∙_, ap, subst}
 use mathlib.Core.Logic.{_⊎_, inl, inr}
 use mathlib.Core.Bool.{Bool, true, false, not}
@@ -8,6 +8,7 @@ use mathlib.Core.List.{List, [], _∷_, _++_, map, List·Memᴰ, List·Memᴰ·n
 use native.Mathlib.Omega.{arith}
 use lib.ListN.{length, take}
 use lib.Ieee.{Float, lt}
+use borrow.Author.Tests.{not-true, not-false}
 use Rattle.base.specs.Choose.{pick}
 use Rattle.frames.specs.First.{framesOf}
 use Rattle.model.specs.Atoms.{Atom, Step}
@@ -27,7 +28,6 @@ use Rattle.plan_facts.specs.Remembered.{loop-grows}
 use Rattle.lowering.specs.Eager.{state, Went, Located, Ready, atomsOf}
 use Rattle.lowering.proofs.EagerLaws.{lowered-then}
 use Rattle.pricing.specs.Remembering.{Samples, Remembers}
-use Rattle.scheduling.proofs.ChoiceLaws.{is-true, is-false}
 use Rattle.scheduling.specs.Choosing.{bidOf, orBest, candidates}
 use Rattle.scheduling.specs.Offers.{offered, roundOffers, offeredOn, roundFrom, roundOf}
 use Rattle.scheduling.specs.Rounds.{Chooses, TakesNext, RoundRoom, Unplanned, Ordering, Scheduling, Rounded}
@@ -236,7 +236,7 @@ module _ (x : List ℕ) where
       })
         where
           lost : q .best .found ≡ false
-          lost = is-false (q .best .found) none-found
+          lost = not-true (q .best .found) none-found
 
           by : (j : ℕ) → left ≡ j → roundOf fs qs last ≡ offered (take (length qs) costs′) (pick false (some (q .best .who)) none)
           by zero l = rw lost at (round-last l)
@@ -244,7 +244,7 @@ module _ (x : List ℕ) where
 
       module _ (one-found : not (q .best .found) ≡ false) where
         found : q .best .found ≡ true
-        found = is-true (q .best .found) one-found
+        found = not-false (q .best .found) one-found
 
         at-some : choose fs qs before now-state .at ≡ some (q .best .who)
         at-some = ap (λ (d : Chosen Memory). d .at) chosen-is ∙ rw found

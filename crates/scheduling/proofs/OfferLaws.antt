@@ -9,6 +9,7 @@ use native.Mathlib.Numerals.{add-one}
 use lib.ListN.{length, getD, set, take, drop, drop-of-length-le, length-set}
 use lib.Seq.{take-suc-set}
 use lib.Ieee.{Float}
+use borrow.Author.Tests.{not-true, not-false}
 use Rattle.base.specs.Choose.{pick}
 use Rattle.hex.specs.Digits.{bytesOf}
 use Rattle.hex.specs.Lines.{lineAt}
@@ -28,7 +29,7 @@ use Rattle.lowering.specs.Eager.{Located, atomsOf}
 use Rattle.scheduling.specs.declared.choose.Best.{Best}
 use Rattle.scheduling.specs.Choosing.{bidOf, orBest, considered, Chose}
 use Rattle.scheduling.specs.Offers.{noCandidate, offer, offers}
-use Rattle.scheduling.proofs.ChoiceLaws.{is-true, is-false, numbers-drop}
+use Rattle.scheduling.proofs.ChoiceLaws.{numbers-drop}
 
 -- ---- one atom
 
@@ -38,10 +39,10 @@ module _ (fs : List (List ℕ)) (em : Emitters) (U B : Bound) (i : ℕ) (a : Ato
 
   module _ (new : u ≡ false) (v : Bool) (scan : v ≡ scans a) where
     pub offers-not : not v ≡ true → set costs at noCandidate ≡ set costs i (offer fs em U B i a t)
-    offers-not h = rw (e, ← is, new, ← scan, is-false v h)
+    offers-not h = rw (e, ← is, new, ← scan, not-true v h)
 
     pub offers-cost : not v ≡ false → (c : Float) → c ≡ estimateCost fs em B i a t .cost → set costs at c ≡ set costs i (offer fs em U B i a t)
-    offers-cost h c q = rw (e, ← is, new, ← scan, is-true v h, q)
+    offers-cost h c q = rw (e, ← is, new, ← scan, not-false v h, q)
 
 -- ---- the atoms in turn
 

@@ -15,7 +15,6 @@ use Rattle.hex.specs.Lines.{lineAt}
 use Rattle.frames.specs.First.{framesOf}
 use Rattle.model.specs.Atoms.{Atom, Plain, Lit, LitBind, Eq, EqGlobal, Pred, Variadic}
 use Rattle.model.specs.Bound.{Bound, has, add, most}
-use Rattle.model.specs.Tabulate.{mem-tabulate}
 use Rattle.model.specs.Lowering.{Emitted, lower}
 use Rattle.model.specs.Scheduling.{State, scans, emitAt, atomOf, numbers}
 use Rattle.model.specs.Scheduled.{unlowered-lt}
@@ -26,6 +25,7 @@ use Rattle.cost.specs.Memo.{tallyAt}
 use Rattle.cost.specs.declared.memo.Tallies.{Tallies}
 use Rattle.lowering.specs.AtomLines.{AtomLine, lowers, boundBehind, Lowers}
 use Rattle.lowering.specs.Eager.{Went, LoweredEager, Lined, Located, Ready, atomsOf}
+use Rattle.lowering.specs.LocatedLaws.{place-sized, place-within, number-among, line-ready}
 use Rattle.lowering.proofs.EagerLaws.{went-one}
 use Rattle.scheduling.specs.Choosing.{candidates, Chose}
 use Rattle.scheduling.specs.Offers.{offers}
@@ -93,26 +93,23 @@ module _ (from to : List Bool) (i : ℕ) (c : Copying from to i) where
 
 module _ (x from : List ℕ) (n i : ℕ) (U B : Bound) (O : List ℕ) (c : ℕ) (z : Located x from n) (h : i < n) (scan : scans (atomOf (atomsOf x) i) ≡ true) (new : has U i ≡ false) (y : Ready x U B O c) where
   pub next-sized : (k : ℕ) → k ≡ i → k + most < length from
-  next-sized k q = omega (arith, z .size)
+  next-sized k q = place-sized x from n z k (rw q h)
 
   pub next-within : (k : ℕ) → k ≡ i → Lined x from k
-  next-within k q = rw q (z .within i h)
-
-  mem : List·Memᴰ i (numbers (atomsOf x))
-  mem = mem-tabulate (length (atomsOf x)) (λ k. k) i (rw (← z .count) h)
+  next-within k q = place-within x from n z k (rw q h)
 
   pub next-below : i < length U
   next-below = omega (arith, y .used, z .few)
 
   pub next-room : c < length O
-  next-room = omega (arith, unlowered-lt U i (numbers (atomsOf x)) new mem, y .room, y .order)
+  next-room = omega (arith, unlowered-lt U i (numbers (atomsOf x)) new (number-among x from n z i h), y .room, y .order)
 
   module _ (k : ℕ) (v : k ≡ i) (s : List ℕ) (l : s ≡ lineAt x (getD from k 0)) where
     line : s ≡ lineAt x (getD from i 0)
     line = rw v at l
 
     pub next-line : AtomLine (bytesOf s)
-    next-line = rw line (z .line i h)
+    next-line = line-ready x from n z i h s line
 
     pub next-scans : scans (atomOfFrame (bytesOf s)) ≡ true
     next-scans = rw (line, ← z .is i h) scan
@@ -120,7 +117,7 @@ module _ (x from : List ℕ) (n i : ℕ) (U B : Bound) (O : List ℕ) (c : ℕ) 
     pub takes-next : (U′ C b′ : Bound) (E E′ : Emitters) (P : List ℕ) (d : ℕ) → Takes (bytesOf s) i U B O c U′ C P d → E′ ≡ recordAtom E i (atomOfFrame (bytesOf s)) → b′ ≡ U′ → TakesNext x i U B E O c U′ C b′ E′ P d
     takes-next U′ C b′ E E′ P d t e g =
         let q : atomOf (atomsOf x) i ≡ atomOfFrame (bytesOf s) = z .is i h ∙ ap (λ (l : List ℕ). atomOfFrame (bytesOf l)) (sym line) in
-        record { went = t .went (atomOf (atomsOf x)) (numbers (atomsOf x)) q mem; used = t .used; emitters = e ∙ ap (recordAtom E i) (sym q); before = g }
+        record { went = t .went (atomOf (atomsOf x)) (numbers (atomsOf x)) q (number-among x from n z i h); used = t .used; emitters = e ∙ ap (recordAtom E i) (sym q); before = g }
 
     pub bound-sized : (U′ C : Bound) (P : List ℕ) (d : ℕ) → Takes (bytesOf s) i U B O c U′ C P d → length U′ ≡ most
-    bound-sized U′ C P d t = t .went (atomOf (atomsOf x)) (numbers (atomsOf x)) (z .is i h ∙ ap (λ (l : List ℕ). atomOfFrame (bytesOf l)) (sym line)) mem .used-size ∙ y .used
+    bound-sized U′ C P d t = t .went (atomOf (atomsOf x)) (numbers (atomsOf x)) (z .is i h ∙ ap (λ (l : List ℕ). atomOfFrame (bytesOf l)) (sym line)) (number-among x from n z i h) .used-size ∙ y .used

@@ -1,27 +1,16 @@
 -- What the arrays say, in range or past their end. Assumes nothing.
-use Prim.Native.Nat.{ℕ, zero, suc, _+_, _<_, _≤_}
-use mathlib.Core.Path.{_≡_, refl, sym, ap}
+use Prim.Native.Nat.{ℕ, _+_, _<_, _≤_}
+use mathlib.Core.Path.{_≡_}
 use mathlib.Core.Bool.{Bool, true, false, not}
-use mathlib.Core.List.{List, [], _∷_}
+use mathlib.Core.List.{List}
 use lib.Dec.{eqb, ltb}
 use lib.ListN.{length, getD, List·getD-eq-default}
 use native.Mathlib.Omega.{arith}
 use borrow.Author.Tests.{eq-eqb, ne-eqb}
+use Rattle.base.specs.Lists.{any-default}
 use Rattle.model.specs.Atoms.{unset}
 use Rattle.model.specs.Bound.{Bound, has}
 use Rattle.turning.specs.Steps.{given, childFits, literalFits, rowRead, childFault, literalFault, globalFault}
-
-pub in-range : (l : List ℕ) (v i : ℕ) → i ≡ v → getD l i 0 ≡ getD l v 0
-in-range l v i e = ap (λ (j : ℕ). getD l j 0) e
-
-pub past-end : (l : List ℕ) (v i : ℕ) → i ≡ v → length l ≤ i → 0 ≡ getD l v 0
-past-end l v i e h = sym (List·getD-eq-default l 0 (omega arith))
-
--- in range it does not matter what stands past the end
-any-default : (l : List ℕ) (i d e : ℕ) → i < length l → getD l i d ≡ getD l i e
-any-default [] i d e h = absurd (omega arith)
-any-default (x ∷ l) zero d e h = refl
-any-default (x ∷ l) (suc i) d e h = any-default l i d e (omega arith)
 
 module _ (G : List ℕ) (g i : ℕ) (e : i ≡ g) where
   pub given-in : i < length G → not (eqb (getD G i 0) 0xffff) ≡ given G g

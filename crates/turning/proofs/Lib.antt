@@ -1,4 +1,3 @@
-pub mod WalkLaws
 pub mod ShapeLaws
 pub mod GlobalLaws
 pub mod ArrayLaws

@@ -13,10 +13,11 @@ use Rattle.model.specs.Bools.{true-false}
 use Rattle.model.specs.Bound.{Bound, add, put, put-set}
 use Rattle.model.specs.Reading.{boundBy, pickedBy}
 use Rattle.model.specs.Refusing.{joinOp, runnable, opsBy}
+use Rattle.model.specs.Limited.{isJoin}
 use Rattle.plans.specs.StepFrames.{stepOf}
+use Rattle.plans.specs.StepsRead.{no-join}
 use Rattle.turning.specs.Steps.{lookupsOf}
 use Rattle.turning.specs.Plans.{bindsTarget, Markable, Stepped}
-use Rattle.turning.proofs.StepLaws.{joins, no-join}
 
 put-size : {A : Type 0} (d : A) (l : List A) (i : ℕ) (x : A) → i < length l → length (put d l i x) ≡ length l
 put-size d l i x h = ap length (put-set d l i x h) ∙ length-set l i x
@@ -26,7 +27,7 @@ op-set O v i x e h = ap (λ (j : ℕ). set O j x) e ∙ sym (put-set 0 O v x h)
 
 -- ---- steps that are no Join
 
-picks-none : (s : Step) (R : Bound) → joins s ≡ false → R ≡ pickedBy s R
+picks-none : (s : Step) (R : Bound) → isJoin s ≡ false → R ≡ pickedBy s R
 picks-none (Join v k ls) R h = true-false refl h
 picks-none (ExtractChild v p i) R h = refl
 picks-none (CheckChildEq p i c) R h = refl
@@ -39,7 +40,7 @@ picks-none (ExtractLitVal n l) R h = refl
 picks-none (CheckLit n x) R h = refl
 picks-none (CheckPred g) R h = refl
 
-keeps-ops : (s : Step) (O : List ℕ) → joins s ≡ false → O ≡ opsBy s O
+keeps-ops : (s : Step) (O : List ℕ) → isJoin s ≡ false → O ≡ opsBy s O
 keeps-ops (Join v k ls) O h = true-false refl h
 keeps-ops (ExtractChild v p i) O h = refl
 keeps-ops (CheckChildEq p i c) O h = refl
@@ -96,7 +97,7 @@ module _ (f : List ℕ) (B R : Bound) (O : List ℕ) (m : Markable f B R O) (k v
         by false e true d g = q (eqb-true k 0x45 d)
         by false e false d g = r (eqb-true k 0x46 g)
 
-    other : joins (stepOf f) ≡ false
+    other : isJoin (stepOf f) ≡ false
     other = no-join f k is j
 
     pub bind-below : not b ≡ false → v < length B

@@ -8,7 +8,7 @@ use native.Mathlib.Numerals.{add-one}
 use lib.Dec.{ltb}
 use lib.ListN.{length, getD, take, drop}
 use borrow.Author.Tests.{ltb-true}
-use Rattle.base.specs.Choose.{pick}
+use Rattle.base.specs.Choose.{pick, both-hold}
 use Rattle.hex.specs.Digits.{bytesOf}
 use Rattle.hex.specs.Lines.{endOf}
 use Rattle.hex.specs.Cuts.{Line}
@@ -22,7 +22,6 @@ use Rattle.frames.specs.declared.fields.Test.the-variants.{Range}
 use Rattle.frames.specs.declared.first.Text.the-variants.{Plan}
 use Rattle.reading.specs.Second.{countsOf}
 use Rattle.reading.specs.Walk.{walk-line, frames-step, frames-none, frames-end}
-use Rattle.reading_facts.specs.Passes.{both-hold}
 use Rattle.reading_facts.specs.Whole.{Whole, accepted, Headed, headed}
 use Rattle.model.specs.Atoms.{Table}
 use Rattle.model.specs.Bound.{Bound, blank}

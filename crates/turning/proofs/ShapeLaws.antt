@@ -1,6 +1,6 @@
 -- The shapes of the table's operators, row by row. Proved from the walk over a text's frames.
 use Prim.Native.Nat.{ℕ, zero, suc, _+_, _-_, _*_, _<_, _≤_}
-use mathlib.Core.Path.{_≡_, refl, sym, _∙_, ap}
+use mathlib.Core.Path.{_≡_, refl, sym, _∙_}
 use mathlib.Core.Bool.{Bool, true, false, not, _&&_, _||_, and-true, and-self, and-assoc}
 use mathlib.Core.List.{List, [], _∷_, _++_, append-assoc, append-nil}
 use native.Mathlib.Omega.{arith}
@@ -11,27 +11,24 @@ use lib.ListN.{length, getD, take, drop, set, replicate, length-set}
 use lib.Seq.{getD-set-same, getD-set-other}
 use borrow.Author.Tests.{eq-eqb, ne-eqb, not-true, not-false, eqb-true}
 use Rattle.base.specs.Choose.{pick}
+use Rattle.base.specs.Lists.{blank-at}
 use Rattle.hex.specs.Digits.{bytesOf, shortAt}
+use Rattle.hex.specs.Bytes.{byte-at, digits-bytes}
 use Rattle.hex.specs.Lines.{endOf}
 use Rattle.hex.specs.Cuts.{Line}
 use Rattle.frames.specs.Kinds.{table}
 use Rattle.frames.specs.First.{framesOf, isRow}
 use Rattle.reading.specs.Walk.{walk-line, frames-step, frames-none, frames-end}
 use Rattle.model.specs.Atoms.{Row, Node, Literal, opOf}
-use Rattle.model.specs.Bound.{blank-at}
 use Rattle.model.specs.Refusing.{allRows}
 use Rattle.plans.specs.StepFrames.{itemsAt}
+use Rattle.plans.specs.Items.{items-count}
 use Rattle.running.specs.Tables.{rowOf, rowsIn}
 use Rattle.running.specs.Turning.{Verdict, TurnedBack, ofFault, sameShape, rowFault, withRow, shapesFrom}
 use Rattle.turning.specs.declared.shapes.Turned.the-variants.{Passed as NoFault, TurnedBack as Fault}
 use Rattle.turning.specs.Shapes.{shapeOf, fitsShape, likeFirst, shapeFault, withShape, RowNoted, Shaped, TableNoted}
 
 -- ---- one row
-
-items-count : {X : Type 0} (read : List ℕ → ℕ → X) (w : ℕ) (f : List ℕ) (i n : ℕ) → length (itemsAt read w f i n) ≡ n
-unfolding itemsAt
-items-count read w f i zero = refl
-items-count read w f i (suc n) = ap suc (items-count read w f (i + w) n)
 
 module _ (f : List ℕ) (k : ℕ) (is : k ≡ getD f 0 0) where
   pub literal-shape : (k ≡ 0x30 → ⊥) → 1 ≡ shapeOf (rowOf f)
@@ -128,12 +125,6 @@ module _ (f F : List ℕ) (k : ℕ) (a : Bool) (e : k ≡ getD f 0 0) (p : a ≡
 
 -- ---- the lines in turn
 
-pub byte-below : (l : List ℕ) (i : ℕ) → getD (bytesOf l) i 0 < 256
-byte-below [] i = omega arith
-byte-below (a ∷ []) i = omega arith
-byte-below (a ∷ b ∷ l) zero = omega arith
-byte-below (a ∷ b ∷ l) (suc i) = byte-below l i
-
 -- n lines stand before `at`, with the earlier rows, whose shapes are F
 pub record Noting (t F₀ F : List ℕ) (at n : ℕ) : Type 0 where
   pub earlier : List Row
@@ -193,7 +184,7 @@ module _ (t F₀ F : List ℕ) (at n : ℕ) (s : Noting t F₀ F at n) where
           size = w .size ∙ s .size;
           few = omega (arith, s .few, line .from);
           within = omega (arith, line .within);
-          shaped = rw (w .shapes) (noted-same F (s .earlier) (s .shaped) frame (byte-below (take (e - at) (drop at t)) 3) (sym (w .fault) ∙ z));
+          shaped = rw (w .shapes) (noted-same F (s .earlier) (s .shaped) frame (byte-at frame (digits-bytes (take (e - at) (drop at t))) 3) (sym (w .fault) ∙ z));
           rows = rows-more;
           is = says ∙ rw (z, add-one n);
         }

@@ -15,7 +15,9 @@ use Rattle.model.specs.Lists.{one}
 use Rattle.model.specs.Bound.{Bound, has, hasAll, hasNone}
 use Rattle.model.specs.Reading.{lookupReads, namedByRepr, isRepr}
 use Rattle.model.specs.Refusing.{countOps, joinOp, allRows, isLiteral, hasChild, lookupsFit, opAt}
+use Rattle.model.specs.Limited.{isJoin}
 use Rattle.plans.specs.StepFrames.{stepOf}
+use Rattle.plans.specs.StepsRead.{no-join}
 use Rattle.running.specs.Turning.{lookupGlobals, allGiven, stepFault}
 use Rattle.turning.specs.declared.steps.Simple.{Simple}
 use Rattle.turning.specs.declared.steps.Simple.the-variants.{Extract, ChildLocal, ChildGlobal, Equal, EqualGlobal, Bind, Copy, ReadLit, NotRun}
@@ -163,32 +165,6 @@ module _ (tb : Table) (F G : List ℕ) (d : Described tb F G) where
   all-given-same [] = refl
   all-given-same (g ∷ gs) = rw (given-same g, all-given-same gs)
 
--- ---- a Join or not
-
-abbrev pub joins : Step → Bool
-joins (Join v k ls) = true
-joins (ExtractChild v p i) = false
-joins (CheckChildEq p i c) = false
-joins (CheckEq a b) = false
-joins (CheckEqGlobal a g) = false
-joins (BindGlobal v g) = false
-joins (CopyBinding v o) = false
-joins (Expand n cs f) = false
-joins (ExtractLitVal n l) = false
-joins (CheckLit n x) = false
-joins (CheckPred g) = false
-
-neither : (t : Bool) (s u : Step) → joins s ≡ false → joins u ≡ false → joins (pick t s u) ≡ false
-neither true s u p q = p
-neither false s u p q = q
-
-pub no-join : (f : List ℕ) (k : ℕ) → k ≡ getD f 0 0 → (k ≡ 0x40 → ⊥) → joins (stepOf f) ≡ false
-unfolding stepOf
-no-join f k is h =
-    rw (← is, ne-eqb k 0x40 h)
-    (neither (eqb k 0x41) _ _ refl (neither (eqb k 0x42) _ _ refl (neither (eqb k 0x43) _ _ refl (neither (eqb k 0x44) _ _ refl (neither (eqb k 0x45) _ _ refl (neither (eqb k 0x46) _ _ refl
-    (neither (eqb k 0x47) _ _ refl (neither (eqb k 0x48) _ _ refl (neither (eqb k 0x49) _ _ refl (neither (eqb k 0x4a) _ _ refl (neither (eqb k 0x4b) _ _ refl refl)))))))))))
-
 lit-by : (B R : Bound) (n x : ℕ) → pick (pick (has B n) (has R n) false) x 9 ≡ pick ((has B n && true) && (true && (has R n && true))) x 9
 lit-by B R n x = by (has B n) (has R n)
   where
@@ -250,7 +226,7 @@ module _ (tb : Table) (F G : List ℕ) (d : Described tb F G) where
 
   -- ---- the other steps
 
-  pub simple-same : (B R : Bound) (O : List ℕ) (s : Step) → joins s ≡ false → simpleFault F G B R O (simple s) ≡ stepFault tb B R O s
+  pub simple-same : (B R : Bound) (O : List ℕ) (s : Step) → isJoin s ≡ false → simpleFault F G B R O (simple s) ≡ stepFault tb B R O s
   unfolding hasAll hasNone allGiven
   simple-same B R O (Join v k ls) h = let z : _≡_ {A = ℕ} 0 1 = cc in absurd (omega arith)
   simple-same B R O (ExtractChild v p i) h = rw (child-same tb F G d i (opAt O p)) (by (has B p) (has R p) (has B v))

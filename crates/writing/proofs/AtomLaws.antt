@@ -1,13 +1,13 @@
 -- An atom's steps, bindings and their number by its kind. Proved from what the kind says of the atom.
 use Prim.Native.Nat.{ℕ, suc, _+_, _<_, _≤_}
-use mathlib.Core.Path.{_≡_, refl, sym, _∙_, ap, subst}
-use mathlib.Core.Bool.{Bool, true, false, _&&_}
+use mathlib.Core.Path.{_≡_, refl, sym, _∙_, ap}
+use mathlib.Core.Bool.{Bool, true, _&&_}
 use mathlib.Core.List.{List, [], _∷_, flatMap}
 use native.Mathlib.Omega.{arith}
-use lib.Dec.{T, eqb, ltb, leb}
+use lib.Dec.{eqb, ltb, leb}
 use lib.ListN.{length, getD}
 use borrow.Author.Tests.{leb-true, ltb-true, lt-ltb, le-ltb, eq-eqb, ne-eqb}
-use Rattle.base.specs.Choose.{pick}
+use Rattle.base.specs.Choose.{pick, both-hold}
 use Rattle.hex.specs.Digits.{wordAt}
 use Rattle.frames.specs.First.{isAtom}
 use Rattle.frames.specs.Kinds.{kinds, kindAt}
@@ -16,6 +16,7 @@ use Rattle.model.specs.Bound.{Bound, add, most}
 use Rattle.model.specs.Bools.{first, second}
 use Rattle.model.specs.Lowering.{markAll, lower}
 use Rattle.model.specs.Premises.{numbersBelow}
+use Rattle.cost.specs.Operands.{operands-length}
 use Rattle.cost.specs.QueryAtoms.{operandsFrom, atomOfFrame}
 use Rattle.plans.specs.StepFrames.{frameOf}
 use Rattle.plans.specs.PlanText.{textLength}
@@ -24,7 +25,6 @@ use Rattle.lowering.proofs.AtomLaws.{by-kind}
 use Rattle.writing.specs.Written.{PutsFrames}
 use Rattle.writing.specs.Emitting.{Emits, Emittable, PlainLine}
 use Rattle.writing.specs.Steps.{stepCount}
-use Rattle.writing.proofs.CollectionLaws.{operands-length}
 
 module _ (f : List ℕ) (k : ℕ) (is : k ≡ getD f 0 0) (B : Bound) where
   -- ---- a Plain
@@ -71,12 +71,8 @@ module _ (f : List ℕ) (k : ℕ) (is : k ≡ getD f 0 0) (B : Bound) where
       unfolding atomOfFrame lower frameOf textLength
       is-pred e n1 l n2 n3 n4 n5 u = rw (← is, six, ← ha) (record { puts = u; near = omega (arith, u .next) })
         where
-          one : (t : Bool) → leb 1 (getD f 0 0) ≡ t → pick t (leb (getD f 0 0) 0x0e) false ≡ true → 1 ≤ getD f 0 0
-          one true h g = leb-true 1 (getD f 0 0) h
-          one false h g = absurd (subst T (sym g) tt)
-
           six : k ≡ 6
-          six = let h : 1 ≤ getD f 0 0 = one (leb 1 (getD f 0 0)) refl (e .atom .kind) in omega arith
+          six = let h : 1 ≤ getD f 0 0 = leb-true 1 (getD f 0 0) (both-hold (leb 1 (getD f 0 0)) _ (e .atom .kind) .0) in omega arith
 
 -- ---- how many steps
 

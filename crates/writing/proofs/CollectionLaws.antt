@@ -1,6 +1,6 @@
 -- The collections: what the steps 47, 48 and 49 have as items, and the step of each kind. Proved item by item, and kind by kind.
 use Prim.Native.Nat.{ℕ, zero, suc, _+_, _<_, _≤_}
-use mathlib.Core.Path.{_≡_, refl, _∙_, ap, subst}
+use mathlib.Core.Path.{_≡_, refl, _∙_, subst}
 use mathlib.Core.Bool.{true, false}
 use mathlib.Core.List.{List, [], _∷_, map, flatMap}
 use native.Mathlib.Omega.{arith}
@@ -14,21 +14,18 @@ use Rattle.model.specs.Atoms.{Operand, Join}
 use Rattle.model.specs.Bound.{Bound, has}
 use Rattle.model.specs.Lowering.{joinLookups, containsLookups, lower}
 use Rattle.cost.specs.QueryAtoms.{operandsFrom, bytesFrom, atomOfFrame}
+use Rattle.cost.specs.Operands.{operands-length}
 use Rattle.plans.specs.StepFrames.{operandBytes, elementsOf, elementBytes, frameOf}
 use Rattle.plans.specs.StepsPass.{elements-length}
 use Rattle.lowering.specs.AtomLines.{itemOperands}
 use Rattle.lowering.proofs.AtomLaws.{by-kind}
+use Rattle.lowering.proofs.OperandLaws.{items-are}
 use Rattle.writing.specs.Pieces.{lookupsOf, itemsBytes}
 use Rattle.writing.specs.Written.{PutsFrames, PutsStep}
 use Rattle.writing.specs.Emitting.{stepsOf, Emits, Emittable, expandOf}
 use Rattle.writing.proofs.EmitLaws.{joinOf, then-steps}
 
 -- ---- the items
-
-pub operands-length : (f : List ℕ) (i w n : ℕ) → length (operandsFrom f i w n) ≡ n
-unfolding operandsFrom
-operands-length f i w zero = refl
-operands-length f i w (suc n) = ap suc (operands-length f (i + w) w n)
 
 items-alone : (f : List ℕ) (i n : ℕ) → itemsBytes false f i n ≡ flatMap operandBytes (operandsFrom f i 2 n)
 unfolding itemsBytes operandsFrom flatMap
@@ -96,7 +93,4 @@ unfolding atomOfFrame kinds kindAt lower
 collection-steps B k = by-kind (λ f. 6 < getD f 0 0 → stepsOf (lower B k (atomOfFrame f)) ≡ joinOf f B k (containsLookups B (itemOperands f)) ∷ expandOf (atomOfFrame f)) (λ r h. absurd (omega arith)) (λ r h. absurd (omega arith)) (λ r h. absurd (omega arith)) (λ r h. absurd (omega arith)) (λ r h. absurd (omega arith)) (λ r h. absurd (omega arith)) (λ r h. refl) (λ r h. refl) (λ r h. refl) (λ r h. refl) (λ r h. refl) (λ r h. refl) (λ r h. refl) (λ r h. refl)
 
 pub collection-emits : (f : List ℕ) → Emittable f → 6 < getD f 0 0 → (kind i w n : ℕ) → kind ≡ getD f 0 0 → i ≡ fixedLength (kindAt kind) → w ≡ width (kindAt kind .item) → n ≡ itemsOf (kindOf f) f → (B : Bound) (k : ℕ) (o p q : List ℕ) (at j r : ℕ) → PutsStep o at (Join (getD f 1 0) k (joinLookups (has B (getD f 1 0)) (getD f 1 0) (getD f 2 0) (lookupsOf false B 0 (operandsFrom f i w n)))) p j → PutsFrames p j (map frameOf (expandOf (atomOfFrame f))) q r → r ≤ j + 4096 → Emits B k (atomOfFrame f) o at q r
-collection-emits f e high kind i w n is hi hw hn B k o p q at j r u v l = then-steps f B k (containsLookups B (itemOperands f)) (expandOf (atomOfFrame f)) (atomOfFrame f) o p q at j r (collection-steps B k f (e .atom .kind) high) (subst (λ (cs : List Operand). PutsStep o at (joinOf f B k (containsLookups B cs)) p j) items-are u) v l
-  where
-    items-are : operandsFrom f i w n ≡ itemOperands f
-    items-are = rw (hi, hw, hn, is)
+collection-emits f e high kind i w n is hi hw hn B k o p q at j r u v l = then-steps f B k (containsLookups B (itemOperands f)) (expandOf (atomOfFrame f)) (atomOfFrame f) o p q at j r (collection-steps B k f (e .atom .kind) high) (subst (λ (cs : List Operand). PutsStep o at (joinOf f B k (containsLookups B cs)) p j) (items-are f kind i w n is hi hw hn) u) v l

@@ -1,19 +1,20 @@
 -- The lookups of a Join, operand by operand. Proved by induction on how many.
-use Prim.Native.Nat.{ℕ, zero, suc, _+_, _-_, _*_, _<_, _≤_}
+use Prim.Native.Nat.{ℕ, _+_, _-_, _*_, _<_, _≤_}
 use mathlib.Core.Path.{_≡_, refl, sym, _∙_, ap, subst}
 use mathlib.Core.Bool.{Bool, true, false, not}
-use mathlib.Core.List.{List, [], _∷_, _++_, map, flatMap, append-assoc, append-nil}
+use mathlib.Core.List.{List, [], _∷_, _++_, flatMap, append-assoc, append-nil}
 use native.Mathlib.Omega.{arith}
 use native.Mathlib.Numerals.{add-one}
-use lib.ListN.{length, getD, length-append}
+use lib.ListN.{length, getD}
+use borrow.Author.Tests.{not-true, not-false}
 use Rattle.hex.specs.Digits.{digitsOf}
-use Rattle.model.specs.Atoms.{Operand, local, global, Lookup}
+use Rattle.model.specs.Atoms.{Operand, Lookup}
 use Rattle.model.specs.Bound.{Bound}
 use Rattle.model.specs.Lists.{one}
 use Rattle.model.specs.Lowering.{pvIsBound, childLookups, containsLookups}
 use Rattle.cost.specs.QueryAtoms.{operandAt, operandsFrom}
-use Rattle.plans.specs.StepFrames.{tagOf, indexOf, lookupBytes}
-use Rattle.lowering.proofs.OperandLaws.{operands-more, is-true, is-false}
+use Rattle.plans.specs.StepFrames.{tagOf, lookupBytes}
+use Rattle.lowering.proofs.OperandLaws.{operands-more}
 use Rattle.writing.specs.Pieces.{lookupsOf, lookupFor}
 use Rattle.writing.specs.Written.{PutsBytes}
 use Rattle.writing.proofs.PutLaws.{written-size, bytes-none, bytes-then}
@@ -66,12 +67,12 @@ module _ (f : List ℕ) (plain : Bool) (i w n : ℕ) (B : Bound) (count k : ℕ)
   module _ (l : w < 256) (h : k < n) (t : Bool) (is : t ≡ pvIsBound B (operandAt f (i + w * k))) where
     pub count-free : not t ≡ true → Counting f plain i w n B count (k + 1)
     count-free q =
-        let e : leftFrom f plain i w n B k ≡ leftFrom f plain i w n B (k + 1) = rw (sym is ∙ is-false t q) at (left-more f plain i w n B k h) in
+        let e : leftFrom f plain i w n B k ≡ leftFrom f plain i w n B (k + 1) = rw (sym is ∙ not-true t q) at (left-more f plain i w n B k h) in
         record { few = omega arith; place = omega (arith, m .place); small = omega (arith, m .small); is = omega (arith, m .is, ap length e) }
 
     pub count-bound : not t ≡ false → Counting f plain i w n B (count + 1) (k + 1)
     count-bound q =
-        let e : leftFrom f plain i w n B k ≡ lookupFor plain (operandAt f (i + w * k)) k ∷ leftFrom f plain i w n B (k + 1) = rw (sym is ∙ is-true t q) at (left-more f plain i w n B k h) in
+        let e : leftFrom f plain i w n B k ≡ lookupFor plain (operandAt f (i + w * k)) k ∷ leftFrom f plain i w n B (k + 1) = rw (sym is ∙ not-false t q) at (left-more f plain i w n B k h) in
         record { few = omega arith; place = omega (arith, m .place); small = omega (arith, m .small); is = omega (arith, m .is, ap length e) }
 
   pub counted : n ≤ k → count ≡ length (lookupsOf plain B 0 (operandsFrom f i w n))
@@ -82,7 +83,7 @@ module _ (f : List ℕ) (plain : Bool) (i w n : ℕ) (B : Bound) (count k : ℕ)
 module _ (f : List ℕ) (B : Bound) (j : ℕ) (t : Bool) (is : t ≡ pvIsBound B (operandAt f j)) (o : List ℕ) (at : ℕ) where
   pub lookup-free : (plain : Bool) (p : ℕ) → not t ≡ true → PutsBytes o at (flatMap lookupBytes (one (pvIsBound B (operandAt f j)) (lookupFor plain (operandAt f j) p))) o at
   unfolding flatMap
-  lookup-free plain p q = by (pvIsBound B (operandAt f j)) (sym is ∙ is-false t q)
+  lookup-free plain p q = by (pvIsBound B (operandAt f j)) (sym is ∙ not-true t q)
     where
       by : (u : Bool) → u ≡ false → PutsBytes o at (flatMap lookupBytes (one u (lookupFor plain (operandAt f j) p))) o at
       by u e = rw e (bytes-none o at)
@@ -93,10 +94,10 @@ module _ (f : List ℕ) (B : Bound) (j : ℕ) (t : Bool) (is : t ≡ pvIsBound B
     whole c plain p x e g u = rw e (subst (λ (y : List ℕ). PutsBytes o at y z r) (sym g ∙ sym (append-nil (lookupBytes (lookupFor plain c p)))) u)
 
     pub lookup-child : (plain : Bool) (p : ℕ) → plain ≡ true → PutsBytes o at (1 ∷ tag ∷ index ∷ p ∷ []) z r → PutsBytes o at (flatMap lookupBytes (one (pvIsBound B (operandAt f j)) (lookupFor plain (operandAt f j) p))) z r
-    lookup-child plain p e u = whole (operandAt f j) plain p (1 ∷ tag ∷ index ∷ p ∷ []) (sym is ∙ is-true t q) (rw (e, ht, hi ∙ index-at f j)) u
+    lookup-child plain p e u = whole (operandAt f j) plain p (1 ∷ tag ∷ index ∷ p ∷ []) (sym is ∙ not-false t q) (rw (e, ht, hi ∙ index-at f j)) u
 
     pub lookup-contains : (plain : Bool) (p : ℕ) → plain ≡ false → PutsBytes o at (3 ∷ tag ∷ index ∷ 0 ∷ []) z r → PutsBytes o at (flatMap lookupBytes (one (pvIsBound B (operandAt f j)) (lookupFor plain (operandAt f j) p))) z r
-    lookup-contains plain p e u = whole (operandAt f j) plain p (3 ∷ tag ∷ index ∷ 0 ∷ []) (sym is ∙ is-true t q) (rw (e, ht, hi ∙ index-at f j)) u
+    lookup-contains plain p e u = whole (operandAt f j) plain p (3 ∷ tag ∷ index ∷ 0 ∷ []) (sym is ∙ not-false t q) (rw (e, ht, hi ∙ index-at f j)) u
 
 -- ---- all of them
 

@@ -1,13 +1,13 @@
 -- What is put piece by piece is put whole. Proved by induction on the first piece.
-use Prim.Native.Nat.{ℕ, zero, suc, _+_, _*_, _/_, _%_, _<_, _≤_}
-use mathlib.Core.Path.{_≡_, refl, sym, _∙_, ap}
-use mathlib.Core.Bool.{Bool, true, false}
+use Prim.Native.Nat.{ℕ, suc, _+_, _/_, _%_, _<_, _≤_}
+use mathlib.Core.Path.{_≡_, refl, sym, _∙_}
 use mathlib.Core.List.{List, [], _∷_, _++_, append-assoc}
 use native.Mathlib.Omega.{arith}
-use native.Mathlib.Nat.{add-zero, add-suc, suc-add}
+use native.Mathlib.Nat.{add-zero}
 use lib.ListN.{length, set, length-append}
 use lib.Seq.{set-out, length-sets}
 use Rattle.hex.specs.Digits.{hexDigit, digitsOf}
+use Rattle.hex.specs.Bytes.{digits-length}
 use Rattle.model.specs.Limits.{lineEnd}
 use Rattle.plans.specs.PlanText.{textOf, textLength}
 use Rattle.plans.specs.Texts.{text-length}
@@ -39,10 +39,6 @@ put-past o at b h = record { is = sym (set-out o at b h); next = refl }
 digits-append : (f g : List ℕ) → digitsOf (f ++ g) ≡ digitsOf f ++ digitsOf g
 digits-append [] g = refl
 digits-append (b ∷ f) g = rw (digits-append f g)
-
-digits-length : (f : List ℕ) → length (digitsOf f) ≡ 2 * length f
-digits-length [] = refl
-digits-length (b ∷ f) = let h = digits-length f in omega arith
 
 pub byte-put : (o p q : List ℕ) (at i r b d e : ℕ) → b < 256 → d ≡ hexDigit (b / 16 % 16) → e ≡ hexDigit (b % 16) → Puts o at (d ∷ []) p i → Puts p i (e ∷ []) q r → PutsBytes o at (b ∷ []) q r
 unfolding written

@@ -16,7 +16,7 @@ use Rattle.cost.specs.QueryAtoms.{atomOfFrame}
 use Rattle.plans.specs.PlanText.{textOf}
 use Rattle.plans.specs.StepFrames.{frameOf}
 use Rattle.lowering.specs.AtomLines.{AtomLine, boundBehind}
-use Rattle.lowering.specs.Eager.{atomsOf, Lined, Located}
+use Rattle.lowering.specs.Eager.{atomsOf, Located}
 use Rattle.writing.specs.Written.{PutsFrames}
 use Rattle.writing.specs.Emitting.{stepsOf, Emits, Emittable}
 use Rattle.writing.specs.Steps.{stepsAlong, stepCount, countAlong, Ordered, PutsSteps}
@@ -30,14 +30,8 @@ next-atom O count c k h l e =
     drop-cons (take count O) c 0 s ∙ rw (add-one c, getD-take, e)
 
 module _ (x from : List ℕ) (n : ℕ) (O : List ℕ) (count c k v : ℕ) (z : Located x from n) (y : Ordered x from n O count) (h : c < count) (is : k ≡ getD O c 0) (wide : v ≡ k) where
-  number : v < n
+  pub number : v < n
   number = rw (wide, is) (y .below c h)
-
-  pub place-sized : v + most < length from
-  place-sized = let g = number in omega (arith, z .size)
-
-  pub place-within : Lined x from v
-  place-within = z .within v number
 
   module _ (l : List ℕ) (line : l ≡ lineAt x (getD from v 0)) where
     pub line-ready : Emittable (bytesOf l)

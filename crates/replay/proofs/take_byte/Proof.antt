@@ -1,6 +1,7 @@
 -- `replay::take_byte` meets its contract: what is kept stays within the line's room. Assumes nothing.
 use borrow.Author.Needs.{needs}
-use Rattle.replay.proofs.Laws.{taken, one-more}
+use Rattle.base.specs.Lists.{taken}
+use Rattle.replay.proofs.Laws.{one-more}
 use Rattle.replay.proofs.take_byte.Statement.{statement}
 use Rattle.replay.proofs.take_byte.Tie as tie
 

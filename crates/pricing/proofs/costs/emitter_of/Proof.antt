@@ -1,5 +1,5 @@
 -- `pricing::costs::emitter_of` meets its contract: in range or past the end.
-use Rattle.pricing.proofs.LeafLaws.{emitter-here, emitter-past}
+use Rattle.base.specs.Lists.{in-range, past-end}
 use borrow.Author.Needs.{needs}
 use Rattle.pricing.proofs.costs.emitter_of.Statement.{statement}
 use Rattle.pricing.proofs.costs.emitter_of.Tie as tie
@@ -14,10 +14,10 @@ shared-slice-read-result : tie.Need-shared-slice-read-result
 shared-slice-read-result c = search needs
 
 returns : tie.Need-returns
-returns c = search emitter-here
+returns c = search in-range
 
 returns-2 : tie.Need-returns-2
-returns-2 c = search emitter-past
+returns-2 c = search past-end
 
 pub emitter-of-spec : {M : Type 1} → statement M
 emitter-of-spec =

@@ -2,7 +2,8 @@ use borrow.Author.Needs.{needs}
 use Prim.Native.Nat.{_-_}
 use mathlib.Core.Path.{refl}
 use lib.ListN.{length}
-use Rattle.reading.proofs.KeyLaws.{Seeking, not-found, no-line-left, line-from, line-within, line-less, is-found, seek-again}
+use Rattle.reading.specs.Walk.{line-from, line-within, line-less}
+use Rattle.reading.proofs.KeyLaws.{Seeking, not-found, no-line-left, is-found, seek-again}
 use Rattle.reading.proofs.keys.find.Statement.{statement}
 use Rattle.reading.proofs.keys.find.Tie as tie
 

@@ -4,7 +4,8 @@ use Prim.Native.Nat.{_-_}
 use mathlib.Core.List.{map}
 use Rattle.cost.specs.Emitters.{decode}
 use Rattle.pricing.proofs.PriceLaws.{row-within, row-priced}
-use Rattle.scheduling.proofs.ChoiceLaws.{Scanning, scanning-none, place-sized, place-within, number-small, line-ready, atom-room, scanning-again, scanned}
+use Rattle.lowering.specs.LocatedLaws.{place-sized, place-within, number-small, line-ready}
+use Rattle.scheduling.proofs.ChoiceLaws.{Scanning, scanning-none, atom-room, scanning-again, scanned}
 use Rattle.scheduling.proofs.OfferLaws.{Offering, offering-none, cost-room, offering-again, offered-all}
 use Rattle.scheduling.proofs.choose.cheapest.Statement.{statement}
 use Rattle.scheduling.proofs.choose.cheapest.Tie as tie
@@ -19,7 +20,7 @@ loop-holds : tie.Need-loop-holds Inv-loop μ-loop
 loop-holds c = (search scanning-none, offering-none _ _ _ _ _ _ _ _ (c .before .before .before .before .before .before .before .before .before .before .before .before .pre .1 .1 .1 .1 .1 .1))
 
 atom-line-requires : tie.Need-atom-line-requires Inv-loop μ-loop
-atom-line-requires c κs = (place-sized _ _ _ _ _ _ _ _ _ _ _ _ _ _ _ _ (c .before .loop .inv .0) (c .before .before .before .before .before .before .before .before .before .before .before .before .before .before .pre .0) (c .loop-test .taken), place-within _ _ _ _ _ _ _ _ _ _ _ _ _ _ _ _ (c .before .loop .inv .0) (c .before .before .before .before .before .before .before .before .before .before .before .before .before .before .pre .0) (c .loop-test .taken))
+atom-line-requires c κs = (place-sized _ _ _ (c .before .before .before .before .before .before .before .before .before .before .before .before .before .before .pre .0) _ (c .loop-test .taken), place-within _ _ _ (c .before .before .before .before .before .before .before .before .before .before .before .before .before .before .pre .0) _ (c .loop-test .taken))
 
 mul-at : tie.Need-mul-at Inv-loop μ-loop
 mul-at c = search needs
@@ -40,10 +41,10 @@ part-row-end : tie.Need-part-row-end Inv-loop μ-loop
 part-row-end c = row-within _ _ _ _ (c .before .before .before .before .before .before .before .before .before .before .before .before .before .before .before .pre .1 .1 .1 .1 .1 .0) _ (c .before .loop-test .taken)
 
 narrow-requires : tie.Need-narrow-requires Inv-loop μ-loop
-narrow-requires c κs = number-small _ _ _ _ _ _ _ _ _ _ _ _ _ _ _ _ (c .before .before .before .loop .inv .0) (c .before .before .before .before .before .before .before .before .before .before .before .before .before .before .before .before .pre .0) (c .before .before .loop-test .taken)
+narrow-requires c κs = number-small _ _ _ (c .before .before .before .before .before .before .before .before .before .before .before .before .before .before .before .before .pre .0) _ (c .before .before .loop-test .taken)
 
 consider-requires : tie.Need-consider-requires Inv-loop μ-loop
-consider-requires c κs = (line-ready _ _ _ _ _ _ _ _ _ _ _ _ _ _ _ _ (c .before .before .before .before .before .before .before .before .before .loop .inv .0) (c .before .before .before .before .before .before .before .before .before .before .before .before .before .before .before .before .before .before .before .before .before .before .pre .0) (c .before .before .before .before .before .before .before .before .loop-test .taken) _ (c .before .before .before .before .before .before .before .atom-line .ensures), (c .before .before .before .before .before .before .before .before .before .loop .inv .0 .samples, (c .before .before .before .before .before .before .before .before .before .loop .inv .0 .memo, (atom-room _ _ _ _ _ _ _ _ _ _ _ _ _ _ _ _ (c .before .before .before .before .before .before .before .before .before .loop .inv .0) (c .before .before .before .before .before .before .before .before .before .before .before .before .before .before .before .before .before .before .before .before .before .before .pre .0) (c .before .before .before .before .before .before .before .before .loop-test .taken) _ (c .before .before .before .before .before .before .before .atom-line .ensures) _ (c .before .before .before .before .before .narrow .ensures) (c .before .before .before .before .before .before .before .before .before .before .before .before .before .before .before .before .before .before .before .before .before .before .pre .1 .1 .1 .0), (c .before .before .before .before .before .before .before .before .before .before .before .before .before .before .before .before .before .before .before .before .before .before .pre .1 .1 .1 .1 .0, (row-priced _ _ _ _ (c .before .before .before .before .before .before .before .before .before .before .before .before .before .before .before .before .before .before .before .before .before .before .pre .1 .1 .1 .1 .1 .0) _ (c .before .before .before .before .before .before .before .before .loop-test .taken) _ _ (c .before .before .before .before .before .narrow .ensures) (c .before .before .before .before .before .before .before .atom-line .ensures), cost-room _ _ _ _ _ _ _ _ _ _ _ _ _ (c .before .before .before .before .before .before .before .before .before .loop .inv .1) (c .before .before .before .before .before .before .before .before .before .before .before .before .before .before .before .before .before .before .before .before .before .before .pre .0) (c .before .before .before .before .before .before .before .before .loop-test .taken) _ (c .before .before .before .before .before .before .before .atom-line .ensures) _ (c .before .before .before .before .before .narrow .ensures)))))))
+consider-requires c κs = (line-ready _ _ _ (c .before .before .before .before .before .before .before .before .before .before .before .before .before .before .before .before .before .before .before .before .before .before .pre .0) _ (c .before .before .before .before .before .before .before .before .loop-test .taken) _ (c .before .before .before .before .before .before .before .atom-line .ensures), (c .before .before .before .before .before .before .before .before .before .loop .inv .0 .samples, (c .before .before .before .before .before .before .before .before .before .loop .inv .0 .memo, (atom-room _ _ _ _ _ _ _ _ _ _ _ _ _ _ _ _ (c .before .before .before .before .before .before .before .before .before .loop .inv .0) (c .before .before .before .before .before .before .before .before .before .before .before .before .before .before .before .before .before .before .before .before .before .before .pre .0) (c .before .before .before .before .before .before .before .before .loop-test .taken) _ (c .before .before .before .before .before .before .before .atom-line .ensures) _ (c .before .before .before .before .before .narrow .ensures) (c .before .before .before .before .before .before .before .before .before .before .before .before .before .before .before .before .before .before .before .before .before .before .pre .1 .1 .1 .0), (c .before .before .before .before .before .before .before .before .before .before .before .before .before .before .before .before .before .before .before .before .before .before .pre .1 .1 .1 .1 .0, (row-priced _ _ _ _ (c .before .before .before .before .before .before .before .before .before .before .before .before .before .before .before .before .before .before .before .before .before .before .pre .1 .1 .1 .1 .1 .0) _ (c .before .before .before .before .before .before .before .before .loop-test .taken) _ _ (c .before .before .before .before .before .narrow .ensures) (c .before .before .before .before .before .before .before .atom-line .ensures), cost-room _ _ _ _ _ _ _ _ _ _ _ _ _ (c .before .before .before .before .before .before .before .before .before .loop .inv .1) (c .before .before .before .before .before .before .before .before .before .before .before .before .before .before .before .before .before .before .before .before .before .before .pre .0) (c .before .before .before .before .before .before .before .before .loop-test .taken) _ (c .before .before .before .before .before .before .before .atom-line .ensures) _ (c .before .before .before .before .before .narrow .ensures)))))))
 
 add-i : tie.Need-add-i Inv-loop μ-loop
 add-i c = search needs

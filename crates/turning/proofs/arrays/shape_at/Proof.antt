@@ -1,5 +1,5 @@
 -- `turning::arrays::shape_at` meets its contract: in range or past the end.
-use Rattle.turning.proofs.ArrayLaws.{in-range, past-end}
+use Rattle.base.specs.Lists.{in-range, past-end}
 use borrow.Author.Needs.{needs}
 use Rattle.turning.proofs.arrays.shape_at.Statement.{statement}
 use Rattle.turning.proofs.arrays.shape_at.Tie as tie

@@ -2,7 +2,7 @@
 use borrow.Author.Needs.{needs}
 use Prim.Native.Nat.{_-_}
 use lib.ListN.{length}
-use Rattle.turning.proofs.WalkLaws.{line-from, line-within, line-less}
+use Rattle.reading.specs.Walk.{line-from, line-within, line-less}
 use Rattle.turning.proofs.PlanLaws.{Walking, walking-none, steps-none, steps-refused, step-markable, walking-again, steps-end}
 use Rattle.turning.proofs.plan.steps_fault.Statement.{statement}
 use Rattle.turning.proofs.plan.steps_fault.Tie as tie

@@ -2,7 +2,7 @@
 use borrow.Author.Needs.{needs}
 use Prim.Native.Nat.{_-_}
 use lib.ListN.{length}
-use Rattle.turning.proofs.WalkLaws.{line-from, line-within, line-less}
+use Rattle.reading.specs.Walk.{line-from, line-within, line-less}
 use Rattle.turning.proofs.ShapeLaws.{Noting, noting-none, noted-none, noted-refused, noting-again, noted-end}
 use Rattle.turning.proofs.shapes.shapes_fault.Statement.{statement}
 use Rattle.turning.proofs.shapes.shapes_fault.Tie as tie

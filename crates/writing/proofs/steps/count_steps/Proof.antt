@@ -1,7 +1,8 @@
 -- `writing::steps::count_steps` meets its contract: the atoms left give the rest of the sum.
 use borrow.Author.Needs.{needs}
 use Prim.Native.Nat.{_-_}
-use Rattle.writing.proofs.StepLaws.{Adding, adding-none, place-sized, place-within, atom-ready, adding-again, added, added-few}
+use Rattle.lowering.specs.LocatedLaws.{place-sized, place-within}
+use Rattle.writing.proofs.StepLaws.{Adding, adding-none, number, atom-ready, adding-again, added, added-few}
 use Rattle.writing.proofs.steps.count_steps.Statement.{statement}
 use Rattle.writing.proofs.steps.count_steps.Tie as tie
 
@@ -21,7 +22,7 @@ wide-requires : tie.Need-wide-requires Inv-loop μ-loop
 wide-requires c κs = search needs
 
 atom-line-requires : tie.Need-atom-line-requires Inv-loop μ-loop
-atom-line-requires c κs = (search place-sized, search place-within)
+atom-line-requires c κs = (search (place-sized, number), search (place-within, number))
 
 steps-of-requires : tie.Need-steps-of-requires Inv-loop μ-loop
 steps-of-requires c κs = search atom-ready

@@ -2,7 +2,8 @@
 use borrow.Author.Needs.{needs}
 use mathlib.Core.Path.{refl}
 use Prim.Native.Nat.{_-_}
-use Rattle.writing.proofs.StepLaws.{Writing, writing-none, place-sized, place-within, line-ready, bound-sized, writing-again, steps-put}
+use Rattle.lowering.specs.LocatedLaws.{place-sized, place-within}
+use Rattle.writing.proofs.StepLaws.{Writing, writing-none, number, line-ready, bound-sized, writing-again, steps-put}
 use Rattle.writing.proofs.steps.write_steps.Statement.{statement}
 use Rattle.writing.proofs.steps.write_steps.Tie as tie
 
@@ -22,7 +23,7 @@ wide-requires : tie.Need-wide-requires Inv-loop μ-loop
 wide-requires c κs = search needs
 
 atom-line-requires : tie.Need-atom-line-requires Inv-loop μ-loop
-atom-line-requires c κs = (search place-sized, search place-within)
+atom-line-requires c κs = (search (place-sized, number), search (place-within, number))
 
 emit-atom-requires : tie.Need-emit-atom-requires Inv-loop μ-loop
 emit-atom-requires c κs = (search line-ready, (search bound-sized, search needs))

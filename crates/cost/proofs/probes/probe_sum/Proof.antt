@@ -1,13 +1,11 @@
--- `cost::sampling::probe_sum` meets its contract: the classes left give the rest of the sum.
+-- `cost::probes::probe_sum` meets its contract: the classes left give the rest of the sum.
 use borrow.Author.Needs.{needs}
 use Prim.Native.Nat.{_-_}
-use mathlib.Core.Path.{refl}
-use native.Mathlib.Omega.{arith}
 use Rattle.hex.specs.Digits.{bytesOf}
 use Rattle.frames.specs.First.{framesOf}
 use Rattle.cost.proofs.SamplingLaws.{Summed, summed-none, summed-again, summed-all, summed-small}
-use Rattle.cost.proofs.sampling.probe_sum.Statement.{statement}
-use Rattle.cost.proofs.sampling.probe_sum.Tie as tie
+use Rattle.cost.proofs.probes.probe_sum.Statement.{statement}
+use Rattle.cost.proofs.probes.probe_sum.Tie as tie
 
 abbrev Inv-loop : tie.InvT-loop
 Inv-loop text index line n x sum₀ i₀ sum i = Summed (framesOf text) x (bytesOf line) n sum i

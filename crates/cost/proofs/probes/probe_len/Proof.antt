@@ -1,4 +1,4 @@
--- `cost::sampling::probe_len` meets its contract: the length in the frame of kind 23.
+-- `cost::probes::probe_len` meets its contract: the length in the frame of kind 23.
 use Prim.Native.Nat.{ℕ}
 use mathlib.Core.List.{List}
 use mathlib.Core.Path.{refl, _∙_, ap}
@@ -7,8 +7,8 @@ use Rattle.query.specs.Statistics.{probeLen}
 use Rattle.frames.specs.Kinds.{kindAt}
 use Rattle.query.proofs.LookupLaws.{proper}
 use borrow.Author.Needs.{needs}
-use Rattle.cost.proofs.sampling.probe_len.Statement.{statement}
-use Rattle.cost.proofs.sampling.probe_len.Tie as tie
+use Rattle.cost.proofs.probes.probe_len.Statement.{statement}
+use Rattle.cost.proofs.probes.probe_len.Tie as tie
 
 high-requires : tie.Need-high-requires
 high-requires c κs = search needs
