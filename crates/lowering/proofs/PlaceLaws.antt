@@ -11,10 +11,10 @@ use lib.Seq.{drop-cons, getD-set-same, getD-set-other}
 use borrow.Author.Tests.{le-leb, lt-leb}
 use Rattle.base.specs.Choose.{pick}
 use Rattle.hex.specs.Digits.{bytesOf}
-use Rattle.hex.specs.Lines.{endOf, lineAt}
-use Rattle.hex.specs.Cuts.{Line, line-within, line-ends, line-found}
+use Rattle.hex.specs.Lines.{lineAt}
+use Rattle.hex.specs.Cuts.{Line}
 use Rattle.frames.specs.First.{framesOf, isAtom}
-use Rattle.reading.specs.Walk.{walk-line, line-within, frames-step, frames-none, frames-end}
+use Rattle.reading.specs.Walk.{taken-ends, taken-within, taken-none, taken-line, taken-less, taken-step, frames-end}
 use Rattle.model.specs.Bound.{most}
 use Rattle.cost.specs.QueryAtoms.{atomFrames}
 use Rattle.lowering.specs.Eager.{Lined}
@@ -73,30 +73,25 @@ module _ (x F₀ F : List ℕ) (at n : ℕ) (p : Placing x F₀ F at n) (atoms :
     abbrev e : ℕ
     e = at + length l
 
-    q : e ≡ endOf at (drop at x)
-    q = line-ends x l at (p .from) o
-
     pub end-fits : at + length l ≤ length x
-    end-fits = rw o (line-within x at (p .from))
+    end-fits = taken-within x l at (p .from) o
 
     pub places-none : at + length l ≡ length x → Places x F n
-    places-none h = ended (frames-none x at e q h)
+    places-none h = ended (taken-none x l at (p .from) o h)
 
     module _ (h : at + length l ≡ length x → ⊥) where
       line : Line x at e
-      line = walk-line x at e (p .from) q h
+      line = taken-line x l at (p .from) o h
 
       pub line-less : length x - (at + length l + 1) < length x - at
-      line-less = omega (arith, line .within, line .from)
+      line-less = taken-less x l at (p .from) o h
 
       abbrev frame : List ℕ
       frame = bytesOf l
 
       ahead : drop n (atomFrames (framesOf x)) ≡ pick (isAtom (getD frame 0 0)) (frame ∷ atomFrames (framesOf (drop (e + 1) x))) (atomFrames (framesOf (drop (e + 1) x)))
       unfolding atomFrames
-      ahead =
-          let f : l ≡ take (e - at) (drop at x) = o ∙ line-found x at e line in
-          p .rest ∙ rw (frames-step x at e line, ← f)
+      ahead = p .rest ∙ rw (taken-step x l at (p .from) o h)
 
       pub place-room : (isAtom (getD (bytesOf l) 0 0) ≡ true → n + most < length F)
       place-room t =
@@ -145,7 +140,7 @@ module _ (x F₀ F : List ℕ) (at n : ℕ) (p : Placing x F₀ F at n) (atoms :
               end-other k l i = getD-set-other (set F n at) (n + most) (k + most) e 0 (λ j. i (omega arith)) ∙ getD-set-other F n (k + most) at 0 (λ j. omega (arith, below, atoms))
 
               within-at : (k : ℕ) → k < n + 1 → Dec (k ≡ n) → Lined x (set (set F n at) (n + most) e) k
-              within-at k l (yes i) = rw i (record { within = rw end-n end-fits; ends = rw (end-n, at-n) q })
+              within-at k l (yes i) = rw i (record { within = rw end-n end-fits; ends = rw (end-n, at-n) (taken-ends x _ at (p .from) o) })
               within-at k l (no i) =
                   let w = p .within k (omega arith) in
                   record { within = rw (end-other k l i) (w .within); ends = rw (end-other k l i, at-other k l i) (w .ends) }

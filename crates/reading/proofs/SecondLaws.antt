@@ -12,7 +12,7 @@ use borrow.Author.Tests.{eqb-false, not-true, not-false}
 use Rattle.hex.specs.Digits.{bytesOf}
 use Rattle.hex.specs.Bytes.{bytes-length}
 use Rattle.hex.specs.Lines.{split, endOf, lineAt}
-use Rattle.hex.specs.Cuts.{Line, line-ends, line-within as within-text}
+use Rattle.hex.specs.Cuts.{Line}
 use Rattle.base.specs.Choose.{pick}
 use Rattle.frames.specs.Limits.{textMost, atomsMost}
 use Rattle.frames.specs.Fields.{fieldPasses}
@@ -25,7 +25,7 @@ use Rattle.frames.specs.declared.first.Text.the-variants.{Query, Plan}
 use Rattle.frames.specs.declared.first.Reading.{Reading}
 use Rattle.frames.specs.declared.first.Reading.the-variants.{Accepted, Refused}
 use Rattle.reading.specs.Keys.{keyGiven}
-use Rattle.reading.specs.Walk.{walk-line, line-less, frames-step, frames-none, frames-end, frames-before, frames-split, lines-before}
+use Rattle.reading.specs.Walk.{taken-ends, taken-is, taken-within, taken-less, walk-line, line-less, frames-step, frames-none, frames-end, frames-before, frames-split, lines-before}
 use Rattle.reading.specs.Second.{headerCounts, countsOf, faultOf, secondFault, secondFrom, reading}
 use Rattle.reading.specs.Index.{givenBy, noted, entriesWith, Noting, Indexes, Indexed}
 use Rattle.reading.specs.IndexedReading.{indexSize, Blank, Framed, FirstRead, Rereads, ReadIndexed}
@@ -204,20 +204,20 @@ module _ (n : Counts) (x : List ℕ) (a : Reading) (i₀ i : List ℕ) (at k m :
   -- the line l that the reader takes at `at`
   module _ (l : List ℕ) (taken : l ≡ lineAt x at) where
     line-end : at + length l ≡ endOf at (drop at x)
-    line-end = line-ends x l at (s .read .within) taken
+    line-end = taken-ends x l at (s .read .within) taken
 
     line-is : l ≡ take (at + length l - at) (drop at x)
-    line-is = rw line-end taken
+    line-is = taken-is x l at (s .read .within) taken
 
     pub end-fits : at + length l ≤ length x
-    end-fits = rw taken (within-text x at (s .read .within))
+    end-fits = taken-within x l at (s .read .within) taken
 
     pub no-end : at + length l ≡ length x → Rereads n x a i a
     no-end = none-indexed (at + length l) line-end
 
     module _ (z : at + length l ≡ length x → ⊥) where
       pub next-less : length x - (at + length l + 1) < length x - at
-      next-less = line-less x at (at + length l) (s .read .within) line-end z
+      next-less = taken-less x l at (s .read .within) taken z
 
       module _ (v : ℕ) (q : v ≡ faultOf n (bytesOf l) (givenBy x i (bytesOf l))) where
         same-fault : v ≡ faultOf n (bytesOf (take (at + length l - at) (drop at x))) (givenBy x i (bytesOf (take (at + length l - at) (drop at x))))

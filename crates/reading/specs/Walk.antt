@@ -6,8 +6,8 @@ use native.Mathlib.Omega.{arith}
 use lib.ListN.{length, take, drop, length-drop, drop-of-length-le, take-append-drop}
 use lib.Seq.{take-add}
 use Rattle.hex.specs.Digits.{bytesOf}
-use Rattle.hex.specs.Lines.{Split, split, endOf}
-use Rattle.hex.specs.Cuts.{Line, end-line, end-none, split-append}
+use Rattle.hex.specs.Lines.{Split, split, endOf, lineAt}
+use Rattle.hex.specs.Cuts.{Line, end-line, end-none, split-append, line-ends, line-within as line-inside}
 use Rattle.frames.specs.First.{framesOf}
 
 -- where a 0a is found, a line ends there
@@ -69,3 +69,29 @@ frames-split x at w =
     sym (map-append bytesOf (split (take at x) .ended) (split (drop at x) .ended))
     ∙ sym (ap (λ (s : Split). map bytesOf (s .ended)) (split-append (take at x) (drop at x) w))
     ∙ ap framesOf (take-append-drop at x)
+
+-- ---- the line l that the reader takes at `at`
+
+module _ (x l : List ℕ) (at : ℕ) (within : at ≤ length x) (taken : l ≡ lineAt x at) where
+  pub taken-ends : at + length l ≡ endOf at (drop at x)
+  taken-ends = line-ends x l at within taken
+
+  pub taken-is : l ≡ take (at + length l - at) (drop at x)
+  taken-is = rw taken-ends taken
+
+  pub taken-within : at + length l ≤ length x
+  taken-within = rw taken (line-inside x at within)
+
+  -- where no 0a ends it, there are no frames left
+  pub taken-none : at + length l ≡ length x → framesOf (drop at x) ≡ []
+  taken-none h = frames-none x at (at + length l) taken-ends h
+
+  module _ (h : at + length l ≡ length x → ⊥) where
+    pub taken-line : Line x at (at + length l)
+    taken-line = walk-line x at (at + length l) within taken-ends h
+
+    pub taken-less : length x - (at + length l + 1) < length x - at
+    taken-less = line-less x at (at + length l) within taken-ends h
+
+    pub taken-step : framesOf (drop at x) ≡ bytesOf l ∷ framesOf (drop (at + length l + 1) x)
+    taken-step = frames-step x at (at + length l) taken-line ∙ ap (λ (y : List ℕ). bytesOf y ∷ framesOf (drop (at + length l + 1) x)) (sym taken-is)
