@@ -18,7 +18,7 @@ low-requires c κs = search needs
 
 look-up-requires : tie.Need-look-up-requires
 unfolding kindAt
-look-up-requires c κs = (search needs, (proper 0x23 _ refl refl, search needs))
+look-up-requires c κs = (search needs, (proper _ _ refl refl, search needs))
 
 word-at-requires : tie.Need-word-at-requires
 word-at-requires c κs = search needs
