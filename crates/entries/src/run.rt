@@ -27,6 +27,6 @@ pub fn run(plan: &[u8], table: &[u8], allowance: u64, out: &mut [u8]) -> Outcome
     let mut globals = [0u16; 16];
     match turn_back(plan, table, &mut globals) {
         Turned::TurnedBack(number, text, line) => Outcome::Refused(number, text, line),
-        Turned::Passed => ran(run_passed(plan, table, allowance, out)),
+        Turned::Passed => ran(run_passed(plan, table, &globals, allowance, out)),
     }
 }

@@ -74,6 +74,6 @@ pub fn some_match(plan: &[u8], table: &[u8], allowance: u64) -> Reply
     let mut globals = [0u16; 16];
     match turn_back(plan, table, &mut globals) {
         Turned::TurnedBack(number, text, line) => rejected(number, text, line),
-        Turned::Passed => first(first_passed(plan, table, allowance)),
+        Turned::Passed => first(first_passed(plan, table, &globals, allowance)),
     }
 }

@@ -8,18 +8,8 @@ ghost use Rattle.frames.specs.First.{framesOf};
 ghost use Rattle.reading.specs.Keys.{find as findOf};
 ghost use Rattle.reading.specs.Index.{Proper, Indexed};
 use reading::index::find_by;
-use reading::keys::find;
 
-// The frame whose key is these bytes: the kind, and n - 1 of those behind it. An empty part where there is none.
-pub fn find_six(text: &[u8], n: usize, k: u8, a: u8, b: u8, c: u8, d: u8, e: u8) -> &[u8]
-    requires { ⌜ n ≤ 6 ⌝ }
-    ensures { λ r. ⌜ bytesOf (now r) ≡ findOf (take n (k ∷ a ∷ b ∷ c ∷ d ∷ e ∷ [])) (framesOf (now (text .entry))) ⌝ }
-{
-    let key = [k, a, b, c, d, e];
-    find(text, &key[..n])
-}
-
-// The same by the text's index.
+// The frame whose key is these bytes, by the text's index: the kind, and n - 1 of those behind it. An empty part where there is none.
 pub fn look_up<'a, 'b>(
     text: &'a [u8],
     index: &'b [u32],

@@ -1,24 +1,18 @@
--- Keys compared and frames found, a byte and a line at a time. Assumes nothing.
-use Prim.Native.Nat.{ℕ, _+_, _-_, _/_, _<_, _≤_}
+-- Keys compared, a byte at a time. Assumes nothing.
+use Prim.Native.Nat.{ℕ, _+_, _/_, _<_, _≤_}
 use mathlib.Core.Path.{_≡_, refl, sym, _∙_}
 use mathlib.Core.Bool.{Bool, true, false}
 use mathlib.Core.List.{List, [], _∷_}
 use native.Mathlib.Numerals.{add-one}
 use native.Mathlib.Omega.{arith}
-use lib.ListN.{length, getD, take, drop, drop-of-length-le}
+use lib.ListN.{length, getD, drop, drop-of-length-le}
 use lib.Seq.{drop-cons}
 use lib.Dec.{eqb}
 use borrow.Author.Tests.{eq-eqb, ne-eqb}
 use Rattle.base.specs.Choose.{pick}
 use Rattle.hex.specs.Digits.{bytesOf}
 use Rattle.hex.specs.Bytes.{bytes-length}
-use Rattle.hex.specs.Lines.{endOf}
-use Rattle.hex.specs.Cuts.{Line}
-use Rattle.reading.specs.Walk.{walk-line, frames-step, frames-none, frames-end}
-use Rattle.frames.specs.First.{framesOf}
-use Rattle.reading.specs.Keys.{begins, find}
-
--- ---- a key's bytes
+use Rattle.reading.specs.Keys.{begins}
 
 pick-false : (t : Bool) → pick t false false ≡ false
 pick-false true = refl
@@ -55,33 +49,3 @@ module _ (k l : List ℕ) where
       pub begins-not : (getD k i 0 ≡ b → ⊥) → false ≡ begins k (bytesOf l)
       unfolding begins
       begins-not p = sym (q .is ∙ rw (drop-cons k i 0 h, drop-cons (bytesOf l) i 0 in-line, ← e, ne-eqb _ _ p))
-
--- ---- a frame by its key
-
--- no frame before `at` has the key
-pub record Seeking (x k : List ℕ) (at : ℕ) : Type 0 where
-  pub within : at ≤ length x
-  pub is : find k (framesOf x) ≡ find k (framesOf (drop at x))
-
-module _ (x k : List ℕ) (at : ℕ) (s : Seeking x k at) where
-  pub not-found : length x ≤ at → [] ≡ find k (framesOf x)
-  unfolding find
-  not-found h = sym (s .is ∙ rw (frames-end x at h))
-
-  module _ (e : ℕ) (p : e ≡ endOf at (drop at x)) where
-    pub no-line-left : e ≡ length x → [] ≡ find k (framesOf x)
-    unfolding find
-    no-line-left n = sym (s .is ∙ rw (frames-none x at e p n))
-
-    module _ (n : e ≡ length x → ⊥) where
-      line : Line x at e
-      line = walk-line x at e (s .within) p n
-
-      pub is-found : (b : Bool) → b ≡ begins k (bytesOf (take (e - at) (drop at x))) → b ≡ true → bytesOf (take (e - at) (drop at x)) ≡ find k (framesOf x)
-      unfolding find
-      is-found b q t = sym (s .is ∙ rw (frames-step x at e line, ← q, t))
-
-      pub seek-again : (b : Bool) → b ≡ begins k (bytesOf (take (e - at) (drop at x))) → b ≡ false → Seeking x k (e + 1)
-      unfolding find
-      seek-again b q t =
-          record { within = omega (arith, line .within); is = s .is ∙ rw (frames-step x at e line, ← q, t) }

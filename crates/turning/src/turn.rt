@@ -1,6 +1,9 @@
 // The whole test of a plan and a table: the plan is read, then the table, then the table's shapes and the plan's steps are tested.
 ghost use mathlib.Core.Path.{_≡_};
+ghost use Prim.Native.Nat.{_≤_};
 ghost use lib.ListN.{length};
+ghost use Rattle.reading.specs.Index.{Indexed};
+ghost use Rattle.reading.specs.IndexedReading.{Blank};
 ghost use Rattle.turning.specs.Plans.{StepsTested, PlanReady, PlanAccepted, Tested, TableTested, Turns};
 use super::globals::global_classes;
 use super::plan::steps_fault;
@@ -8,6 +11,7 @@ use super::shapes::Turned;
 use super::shapes::shapes_fault;
 use frames::first::Reading;
 use frames::first::Text;
+use reading::second::read_indexed;
 use reading::second::read_text;
 
 // The steps of an accepted plan, over a table whose shapes are noted.
@@ -22,27 +26,56 @@ fn plan_back(plan: &[u8], shapes: &[usize], globals: &[u16]) -> Turned
 }
 
 // The tests behind the reading of both texts.
-fn tests_back(plan: &[u8], table: &[u8], globals: &mut [u16]) -> Turned
+fn tests_back(plan: &[u8], table: &[u8], index: &[u32], globals: &mut [u16]) -> Turned
     requires { ⌜ PlanAccepted (now plan) (now globals) ⌝ }
+    requires { ⌜ Indexed (now table) (now index) ⌝ }
     ensures { λ r. ⌜ Tested (now (plan .entry)) (now (table .entry)) r (now (globals .exit)) ⌝ }
 {
     let mut shapes = [0usize; 256];
     if let Turned::TurnedBack(k, text, line) = shapes_fault(table, &mut shapes) {
         return Turned::TurnedBack(k, text, line);
     }
-    global_classes(table, globals);
+    global_classes(table, index, globals);
     plan_back(plan, &shapes, globals)
 }
 
-// The table behind an accepted plan.
+// The table behind an accepted plan, by an index that is lent for the table's keyed lines.
+fn table_by(plan: &[u8], table: &[u8], index: &mut [u32], globals: &mut [u16]) -> Turned
+    requires { ⌜ PlanAccepted (now plan) (now globals) ⌝ }
+    requires { ⌜ Blank (now table) (now index) ⌝ }
+    ensures { λ r. ⌜ TableTested (now (plan .entry)) (now (table .entry)) r (now (globals .exit)) ⌝ }
+{
+    match read_indexed(Text::Table, table, index) {
+        Reading::Refused(k, line) => Turned::TurnedBack(k, 2, line),
+        Reading::Accepted(_, _) => tests_back(plan, table, index, globals),
+    }
+}
+
+fn table_short(plan: &[u8], table: &[u8], globals: &mut [u16]) -> Turned
+    requires { ⌜ PlanAccepted (now plan) (now globals) ⌝ }
+    requires { ⌜ length (now table) ≤ 4096 ⌝ }
+    ensures { λ r. ⌜ TableTested (now (plan .entry)) (now (table .entry)) r (now (globals .exit)) ⌝ }
+{
+    let mut index = [0u32; 1686];
+    table_by(plan, table, &mut index, globals)
+}
+
+fn table_long(plan: &[u8], table: &[u8], globals: &mut [u16]) -> Turned
+    requires { ⌜ PlanAccepted (now plan) (now globals) ⌝ }
+    ensures { λ r. ⌜ TableTested (now (plan .entry)) (now (table .entry)) r (now (globals .exit)) ⌝ }
+{
+    let mut index = [0u32; 19240];
+    table_by(plan, table, &mut index, globals)
+}
+
 fn table_back(plan: &[u8], table: &[u8], globals: &mut [u16]) -> Turned
     requires { ⌜ PlanAccepted (now plan) (now globals) ⌝ }
     ensures { λ r. ⌜ TableTested (now (plan .entry)) (now (table .entry)) r (now (globals .exit)) ⌝ }
 {
-    match read_text(Text::Table, table) {
-        Reading::Refused(k, line) => Turned::TurnedBack(k, 2, line),
-        Reading::Accepted(_, _) => tests_back(plan, table, globals),
+    if table.len() <= 4096 {
+        return table_short(plan, table, globals);
     }
+    table_long(plan, table, globals)
 }
 
 // The first reason to turn the texts back. Where there is none, the globals have their classes.

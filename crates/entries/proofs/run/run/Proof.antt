@@ -16,8 +16,11 @@ enum-known-number c = search needs
 enum-told : tie.Need-enum-told
 enum-told c = search needs
 
+slice-aggregate-run-passed : tie.Need-slice-aggregate-run-passed
+slice-aggregate-run-passed c = search needs
+
 run-passed-requires : tie.Need-run-passed-requires
-run-passed-requires c κs = passes _ _ (c .before .before .before .before .turn-back .result) (c .before .before .before .before .turn-back .ensures .is) (c .before .enum-told .given .1)
+run-passed-requires c κs = (passes _ _ (c .before .before .before .before .before .turn-back .result) (c .before .before .before .before .before .turn-back .ensures .is) (c .before .before .enum-told .given .1), c .before .before .before .before .before .turn-back .ensures .globals (c .before .before .enum-told .given .1))
 
 ran-requires : tie.Need-ran-requires
 ran-requires c κs = search needs
@@ -29,7 +32,7 @@ same-length : tie.Need-same-length
 same-length c = search needs
 
 returns-2 : tie.Need-returns-2
-returns-2 c = run-whole _ _ (c .before .before .before .before .before .before .before .before .turn-back .result) (c .before .before .before .before .before .before .before .before .turn-back .ensures .is) _ _ _ (c .before .before .before .before .before .enum-told .given .1) _ (c .ran .result) (c .ran .ensures) (c .before .before .before .run-passed .ensures)
+returns-2 c = run-whole _ _ (c .before .before .before .before .before .before .before .before .before .turn-back .result) (c .before .before .before .before .before .before .before .before .before .turn-back .ensures .is) _ _ _ (c .before .before .before .before .before .before .enum-told .given .1) _ (c .ran .result) (c .ran .ensures) (c .before .before .before .run-passed .ensures)
 
 pub run-spec : {M : Type 1} → statement M
 run-spec =
@@ -39,6 +42,7 @@ run-spec =
     turn-back-requires
     enum-known-number
     enum-told
+    slice-aggregate-run-passed
     run-passed-requires
     ran-requires
     returns

@@ -19,8 +19,11 @@ rejected-requires c κs = search needs
 enum-told : tie.Need-enum-told
 enum-told c = search needs
 
+slice-aggregate-first-passed : tie.Need-slice-aggregate-first-passed
+slice-aggregate-first-passed c = search needs
+
 first-passed-requires : tie.Need-first-passed-requires
-first-passed-requires c κs = passes _ _ (c .before .before .before .turn-back .result) (c .before .before .before .turn-back .ensures .is) (c .enum-told .given .1)
+first-passed-requires c κs = (passes _ _ (c .before .before .before .before .turn-back .result) (c .before .before .before .before .turn-back .ensures .is) (c .before .enum-told .given .1), c .before .before .before .before .turn-back .ensures .globals (c .before .enum-told .given .1))
 
 first-requires : tie.Need-first-requires
 first-requires c κs = search needs
@@ -29,7 +32,7 @@ returns : tie.Need-returns
 returns c = some-back _ _ (c .before .before .before .before .before .turn-back .result) (c .before .before .before .before .before .turn-back .ensures .is) _ _ _ _ (c .before .before .number .given .1) (c .rejected .result) (c .rejected .ensures)
 
 returns-2 : tie.Need-returns-2
-returns-2 c = some-whole _ _ (c .before .before .before .before .before .turn-back .result) (c .before .before .before .before .before .turn-back .ensures .is) _ (c .before .before .enum-told .given .1) (c .before .first-passed .result) (c .first .result) (c .first .ensures) (c .before .first-passed .ensures)
+returns-2 c = some-whole _ _ (c .before .before .before .before .before .before .turn-back .result) (c .before .before .before .before .before .before .turn-back .ensures .is) _ (c .before .before .before .enum-told .given .1) (c .before .first-passed .result) (c .first .result) (c .first .ensures) (c .before .first-passed .ensures)
 
 pub some-match-spec : {M : Type 1} → statement M
 some-match-spec =
@@ -40,6 +43,7 @@ some-match-spec =
     enum-known-number
     rejected-requires
     enum-told
+    slice-aggregate-first-passed
     first-passed-requires
     first-requires
     returns
