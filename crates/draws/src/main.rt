@@ -1,7 +1,9 @@
 // Writes the next five draws of each state on standard input, a line of 16 digits each, and stops at the first other line.
 ghost use Prim.Native.Nat.{_≤_};
 ghost use lib.ListN.{length};
-use number_lines::Line;
+use number_lines::LINE_SIZE;
+use number_lines::LINES_MOST;
+use number_lines::numbers;
 
 // Five draws stand on a line.
 fn print_draw(draw: u64, i: u64) {
@@ -24,25 +26,24 @@ fn print_five(state: u64) {
     }
 }
 
-// The draws for the lines of `text`; the place where they end.
-fn print_draws(text: &[u8]) -> usize
-    ensures { λ r. ⌜ r ≤ length (now (text .entry)) ⌝ }
+// The draws for the first m states.
+fn print_draws(states: &[u64], m: usize)
+    requires { ⌜ m ≤ length (now states) ⌝ }
 {
-    let mut at: usize = 0;
-    while text.len() - at > 16 {
-        let Line::Number(state) = number_lines::number(&text[at..at + 17]) else {
-            return at;
-        };
-        print_five(state);
-        at += 17;
+    let mut i: usize = 0;
+    while i < m {
+        print_five(states[i]);
+        i += 1;
     }
-    at
 }
 
 fn main() {
     let mut input = io::large_buffer();
     let n = io::read_full(0, &mut input);
-    if print_draws(&input[..n]) < n {
+    let mut states = [0u64; LINES_MOST];
+    let m = numbers(&input[..n], &mut states);
+    print_draws(&states, m);
+    if LINE_SIZE * m < n {
         io::write_all(1, b"not a line of 16 digits\n");
     }
 }

@@ -2,7 +2,7 @@
 ghost use Prim.Native.Nat.{_<_};
 use super::words::say;
 
-// What a digit less than 100, or than 10, wants in front of it.
+// The zeros before a number of thousandths that has fewer than three digits.
 fn say_zeros(thousandths: u64) {
     if thousandths < 100 {
         say(b"0");

@@ -1,7 +1,5 @@
 // Explains the plan text on standard input, each step in words. A query text is planned first, and for each round the candidates are shown with
 // their costs. A refused text is explained by its number and line.
-ghost use mathlib.Core.Path.{_≡_};
-ghost use lib.ListN.{length};
 
 mod accepted;
 mod costs;
@@ -14,13 +12,7 @@ use accepted::explain_plan;
 use hex::byte_at;
 use hex::reader::line_from;
 use planned::explain_query;
-
-// One byte more than a text may have, so that a longer text is seen to be too long.
-fn text_room() -> [u8; 65537]
-    ensures { λ r. ⌜ 65537 ≡ length r ⌝ }
-{
-    [0; 65537]
-}
+use printing::TEXT_ROOM;
 
 // A text is taken for a plan by its first byte.
 fn explain(text: &[u8]) {
@@ -32,7 +24,7 @@ fn explain(text: &[u8]) {
 }
 
 fn main() {
-    let mut text = text_room();
+    let mut text = [0u8; TEXT_ROOM];
     let n = io::read_full(0, &mut text);
     explain(&text[..n]);
 }

@@ -1,23 +1,15 @@
 // A query text, planned, in words: its rounds, then its plan.
-ghost use mathlib.Core.Path.{_≡_};
-ghost use lib.ListN.{length};
 use super::accepted::say_lines;
 use super::costs::say_cost;
 use super::refusals::say_refusal;
 use super::words::say;
 use super::words::say_number;
 use frames::fields::wide;
+use planner::entry::PLAN_MOST;
 use planner::entry::Planned;
 use planner::entry::plan;
 use planner::rounds::RoundCosts;
 use planner::rounds::round_costs;
-
-// The longest plan has 20,565 bytes.
-fn plan_room() -> [u8; 20565]
-    ensures { λ r. ⌜ 20565 ≡ length r ⌝ }
-{
-    [0; 20565]
-}
 
 // A candidate; all ones stand for an atom that is none.
 fn say_candidate(atom: usize, bits: u64) {
@@ -77,7 +69,7 @@ fn say_plan(text: &[u8], out: &[u8], n: usize) {
 }
 
 pub fn explain_query(text: &[u8]) {
-    let mut out = plan_room();
+    let mut out = [0u8; PLAN_MOST];
     match plan(text, &mut out) {
         Planned::Refused(number, line) => say_refusal(number, line, b"query"),
         Planned::Written(n, _, _, _) => say_plan(text, &out, n),

@@ -1,7 +1,8 @@
 -- A number of 64 bits on a line: 16 hexadecimal digits, the highest first, and byte 0a.
-use Prim.Native.Nat.{ℕ}
-use mathlib.Core.List.{List}
-use lib.Dec.{eqb}
+use Prim.Native.Nat.{ℕ, zero, suc}
+use mathlib.Core.List.{List, [], _∷_}
+use lib.Dec.{ltb, eqb}
+use lib.ListN.{length, take, drop}
 use Rattle.base.specs.Choose.{pick}
 use Rattle.hex.specs.declared.Found.{Found}
 use Rattle.hex.specs.declared.Found.the-variants.{At, Nothing}
@@ -17,3 +18,13 @@ numberUpTo l Nothing = Other
 
 abbrev pub numberOf : List ℕ → Line
 numberOf l = numberUpTo l (hexLineOf 0 l)
+
+-- a line's number before the others; nothing from another line on
+abbrev pub before : Line → List ℕ → List ℕ
+before (Number v) vs = v ∷ vs
+before Other vs = []
+
+-- the numbers of the leading lines of a text, 17 bytes each, at most m
+unfoldable pub numbersOf : ℕ → List ℕ → List ℕ
+numbersOf zero x = []
+numbersOf (suc m) x = pick (ltb (length x) 17) [] (before (numberOf (take 17 x)) (numbersOf m (drop 17 x)))

@@ -24,7 +24,7 @@ use Rattle.plans.specs.StepFrames.{Each, frameOf, stepOf}
 use Rattle.plans.specs.PlanText.{textLength, planText}
 use Rattle.plans.specs.PlanRead.{plan-length}
 use Rattle.plans.specs.Fitting.{AtomFits, atom-more}
-use Rattle.plans.specs.Longest.{QueryFits, few-steps, few-bytes, schedule-accepted, schedule-read}
+use Rattle.plans.specs.Longest.{planMost, QueryFits, few-steps, few-bytes, schedule-accepted, schedule-read}
 use Rattle.plan_facts.specs.AtomFrames.{Good, frame-fits}
 
 -- ---- the atoms among frames
@@ -73,7 +73,7 @@ pub record ReadBack (x : List ℕ) (tallied rejected : ℕ) (ss : List Step) : T
   pub accepts : reading Plan (textFor x tallied rejected ss) ≡ Accepted (1 + length ss) 0
   pub gives : map stepOf (drop 1 (framesOf (textFor x tallied rejected ss))) ≡ ss
   pub long : length (textFor x tallied rejected ss) ≡ 21 + textLength (map frameOf ss)
-  pub short : length (textFor x tallied rejected ss) ≤ 20565
+  pub short : length (textFor x tallied rejected ss) ≤ planMost
   pub few : length ss ≤ 1088
 
 module _ (x : List ℕ) (n c : ℕ) (ok : reading Query x ≡ Accepted n c) where

@@ -336,11 +336,14 @@ asked-tally K r k t m h a = by r
     by (some (Accepted v)) = record { apart = (unknown (t .memo) k h, a .apart); among = among }
     by (some Rejected) = record { apart = (unknown (t .memo) k h, a .apart); among = among }
 
--- a key for each item of each atom at most
+-- a key for each item of each atom at most: 64 atoms of 16
+abbrev pub keysMost : ℕ
+keysMost = 1024
+
 pub record FewKeys (t : Tally) : Type 0 where
-  pub memo-few : length (t .memo) ≤ 1024
-  pub tallied-few : t .tallied ≤ 1024
-  pub rejected-few : t .rejected ≤ 1024
+  pub memo-few : length (t .memo) ≤ keysMost
+  pub tallied-few : t .tallied ≤ keysMost
+  pub rejected-few : t .rejected ≤ keysMost
 
 module _ (fs : List (List ℕ)) (qs : List Atom) where
   asked-after : (K : List Key) (cfg : SamplerConfig) (k : Key) (t : Tally) → List·Memᴰ k K → Asked K t → Asked K (afterEstimate fs cfg k t)

@@ -25,10 +25,11 @@ use Rattle.cost.specs.Choice.{fresh, memoryLoop}
 use Rattle.plans.specs.StepFrames.{frameOf, headerOf}
 use Rattle.plans.specs.PlanText.{textOf, textLength, planText}
 use Rattle.plans.specs.PlanRead.{plan-length}
-use Rattle.plan_facts.specs.Remembered.{never, nothing-sampled}
+use Rattle.plans.specs.Longest.{planMost}
+use Rattle.plan_facts.specs.Remembered.{keysMost, never, nothing-sampled}
 use Rattle.lowering.specs.Eager.{Located, atomsOf}
 use Rattle.lowering.specs.Places.{Places, located}
-use Rattle.pricing.specs.Prices.{rowSize, FewItems}
+use Rattle.pricing.specs.Prices.{rowSize, tableSize, FewItems}
 use Rattle.pricing.specs.Remembering.{Samples}
 use Rattle.scheduling.specs.Rounds.{Unplanned, Scheduling}
 use Rattle.scheduling.specs.declared.schedule.Scheduled.{Scheduled}
@@ -61,7 +62,7 @@ samples-some x cfg draws a e d = record {
   room = λ c h. rw d (small-settings x (a .lines) (a .atoms) (a .is) c (e ∙ h) .draws);
 }
 
-pub remembers-some : (x : List ℕ) (f : ℕ) → Accepts x → length (memoryLoop (framesOf x) (atomsOf x) f fresh unplanned .tally .memo) ≤ 1024
+pub remembers-some : (x : List ℕ) (f : ℕ) → Accepts x → length (memoryLoop (framesOf x) (atomsOf x) f fresh unplanned .tally .memo) ≤ keysMost
 remembers-some x f a = rounds-keys x (a .lines) (a .atoms) (a .is) f .memo-few
 
 -- ---- the text
@@ -93,7 +94,7 @@ pub items-fit : (x from : List ℕ) (n : ℕ) → Accepts x → Places x from n 
 items-fit x from n a p = record { few = λ k h. rw (p .is k h) (let i = atom-items x (a .lines) (a .atoms) (a .is) k (omega (arith, p .count)) in omega arith) }
 
 -- "atoms 64": as many rows
-pub rows-fit : (x from : List ℕ) (n : ℕ) → Accepts x → Places x from n → rowSize * n ≤ 1152
+pub rows-fit : (x from : List ℕ) (n : ℕ) → Accepts x → Places x from n → rowSize * n ≤ tableSize
 rows-fit x from n a p = omega (arith, places-located x from n a p .few)
 
 module _ (x from : List ℕ) (n : ℕ) (O : List ℕ) (s : Scheduled) (a : Accepts x) (y : Places x from n) (h : Scheduling x O s) where
@@ -138,7 +139,7 @@ module _ (x from : List ℕ) (n : ℕ) (O : List ℕ) (s : Scheduled) (a : Accep
   unfolding planOf
   text-is = refl
 
-  pub fits-always : (room : ℕ) → 20565 ≤ room → true ≡ leb (length (planOf x .text)) room
+  pub fits-always : (room : ℕ) → planMost ≤ room → true ≡ leb (length (planOf x .text)) room
   fits-always room l = rw text-is (sym (le-leb (length text) room (let b = read-back x (a .lines) (a .atoms) (a .is) .short in omega arith)))
 
   pub fits-measured : (room r : ℕ) → r ≡ 21 + textLength (map frameOf (stepsAlong (atomOf (atomsOf x)) blank (take (s .count) O))) → leb r room ≡ leb (length (planOf x .text)) room

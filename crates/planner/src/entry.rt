@@ -1,6 +1,5 @@
 // The entry: a query text and a lent output.
 ghost use mathlib.Core.Path.{_≡_};
-ghost use Prim.Native.Nat.{_≤_};
 ghost use lib.ListN.{length};
 ghost use lib.Dec.{leb};
 ghost use Rattle.reading.specs.Index.{Indexed};
@@ -16,6 +15,9 @@ use super::text::write_plan;
 use frames::first::Reading;
 use frames::first::Text;
 use lowering::places::atom_places;
+use reading::second::LONG_INDEX;
+use reading::second::SHORT_INDEX;
+use reading::second::SHORT_TEXT;
 use reading::second::read_indexed;
 use scheduling::schedule::Scheduled;
 use writing::steps::count_steps;
@@ -27,7 +29,10 @@ pub enum Planned {
     Refused(u8, usize),
 }
 
-// Whether the plan fits into so much room. The longest plan has 20,565 bytes: with room for it nothing is measured.
+// The bytes of the longest plan.
+pub const PLAN_MOST: usize = 20565;
+
+// Whether the plan fits into so much room. With room for the longest nothing is measured.
 fn fits(text: &[u8], from: &[usize], n: usize, order: &[u8], s: Scheduled, room: usize) -> bool
     requires { ⌜ Accepts (now text) ⌝ }
     requires { ⌜ Places (now text) (now from) n ⌝ }
@@ -35,7 +40,7 @@ fn fits(text: &[u8], from: &[usize], n: usize, order: &[u8], s: Scheduled, room:
     requires { ⌜ length (now order) ≡ most ⌝ }
     ensures { λ r. ⌜ r ≡ leb (length (planOf (now (text .entry)) .text)) room ⌝ }
 {
-    if 20565 <= room {
+    if PLAN_MOST <= room {
         return true;
     }
     plan_size(text, from, n, order, s.count) <= room
@@ -90,27 +95,14 @@ fn plan_by(text: &[u8], index: &mut [u32], out: &mut [u8]) -> Planned
     }
 }
 
-fn plan_short(text: &[u8], out: &mut [u8]) -> Planned
-    requires { ⌜ length (now text) ≤ 4096 ⌝ }
-    ensures { λ r. ⌜ resultOf r (now (out .exit)) ≡ planned (now (text .entry)) (now (out .entry)) ⌝ }
-{
-    let mut index = [0u32; 1686];
-    plan_by(text, &mut index, out)
-}
-
-fn plan_long(text: &[u8], out: &mut [u8]) -> Planned
-    ensures { λ r. ⌜ resultOf r (now (out .exit)) ≡ planned (now (text .entry)) (now (out .entry)) ⌝ }
-{
-    let mut index = [0u32; 19240];
-    plan_by(text, &mut index, out)
-}
-
 // Plans a query text into a lent output.
 pub fn plan(text: &[u8], out: &mut [u8]) -> Planned
     ensures { λ r. ⌜ resultOf r (now (out .exit)) ≡ planned (now (text .entry)) (now (out .entry)) ⌝ }
 {
-    if text.len() <= 4096 {
-        return plan_short(text, out);
+    if text.len() <= SHORT_TEXT {
+        let mut index = [0u32; SHORT_INDEX];
+        return plan_by(text, &mut index, out);
     }
-    plan_long(text, out)
+    let mut index = [0u32; LONG_INDEX];
+    plan_by(text, &mut index, out)
 }

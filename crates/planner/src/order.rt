@@ -1,122 +1,79 @@
 // The order in which the atoms of an accepted query are lowered, in the rounds up to number `last`, and the costs of that one.
 ghost use mathlib.Core.Path.{_≡_};
+ghost use Prim.Native.Nat.{suc, _≤_};
 ghost use lib.ListN.{length};
 ghost use Rattle.frames.specs.First.{framesOf};
 ghost use Rattle.reading.specs.Index.{Indexed};
-ghost use Rattle.query.specs.Statistics.{settings as settingsOf};
-ghost use Rattle.query.specs.declared.statistics.Sampled.the-variants.{On, Off};
 ghost use Rattle.model.specs.Bound.{most};
-ghost use Rattle.lowering.specs.Eager.{Located};
+ghost use Rattle.model.specs.Scheduling.{unplanned};
+ghost use Rattle.cost.specs.Choice.{fresh, memoryLoop};
+ghost use Rattle.plan_facts.specs.Remembered.{keysMost};
+ghost use Rattle.lowering.specs.Eager.{atomsOf};
 ghost use Rattle.lowering.specs.Places.{Places};
-ghost use Rattle.pricing.specs.Prices.{Priced};
+ghost use Rattle.pricing.specs.Remembering.{Samples};
 ghost use Rattle.scheduling.specs.Rounds.{Rounded};
 ghost use Rattle.planner.specs.Entry.{Accepts};
-use measure::SamplerConfig;
+use pricing::memo::KEYS_MOST;
+use pricing::prices::TABLE_SIZE;
 use pricing::prices::fill_prices;
 use query::statistics::Sampled;
 use query::statistics::settings;
 use scheduling::schedule::Scheduled;
 use scheduling::schedule::schedule;
 
-// Where sampling is off nothing is remembered.
-fn order_unsampled(
+// The prices that no sample changes, then the rounds. The arrays lent are for what is remembered, and for the draws.
+fn order_by(
     text: &[u8],
     index: &[u32],
     from: &[usize],
     n: usize,
-    prices: &[f64],
-    order: &mut [u8],
-    last: usize,
-    costs: &mut [f64],
-) -> Scheduled
-    requires { ⌜ Located (now text) (now from) n ⌝ }
-    requires { ⌜ length (now order) ≡ most ⌝ }
-    requires { ⌜ length (now costs) ≡ most ⌝ }
-    requires { ⌜ settingsOf (framesOf (now text)) ≡ Off ⌝ }
-    requires { ⌜ Indexed (now text) (now index) ⌝ }
-    requires { ⌜ Priced (now text) (now from) n (now prices) ⌝ }
-    ensures { λ r. ⌜ Rounded (now (text .entry)) (now (order .exit)) last (now (costs .exit)) r ⌝ }
-{
-    let mut used = [false; 64];
-    let mut bound = [false; 64];
-    let mut before = [false; 64];
-    let mut em = [0u32; 64];
-    let mut keys = [0u64; 1];
-    let mut valued = [false; 1];
-    let mut values = [0.0; 1];
-    let mut draws = [0.0; 1];
-    schedule(
-        text,
-        index,
-        from,
-        n,
-        prices,
-        &mut used,
-        &mut bound,
-        &mut before,
-        &mut em,
-        order,
-        Sampled::Off,
-        &mut keys,
-        &mut valued,
-        &mut values,
-        &mut draws,
-        last,
-        costs,
-    )
-}
-
-// Where it is on there is a key for each item of each atom at most.
-fn order_sampled(
-    text: &[u8],
-    index: &[u32],
-    from: &[usize],
-    n: usize,
-    prices: &[f64],
-    cfg: SamplerConfig,
+    how: Sampled,
+    keys: &mut [u64],
+    valued: &mut [bool],
+    values: &mut [f64],
+    draws: &mut [f64],
     order: &mut [u8],
     last: usize,
     costs: &mut [f64],
 ) -> Scheduled
     requires { ⌜ Accepts (now text) ⌝ }
-    requires { ⌜ Located (now text) (now from) n ⌝ }
+    requires { ⌜ Places (now text) (now from) n ⌝ }
+    requires { ⌜ Indexed (now text) (now index) ⌝ }
+    requires { ⌜ Samples (framesOf (now text)) how (now draws) ⌝ }
+    requires { ⌜ (length (now valued) ≡ length (now keys)) × ((length (now values) ≡ length (now keys)) × (length (now keys) ≤ keysMost)) ⌝ }
+    requires { ⌜ length (memoryLoop (framesOf (now text)) (atomsOf (now text)) (suc last) fresh unplanned .tally .memo) ≤ length (now keys) ⌝ }
     requires { ⌜ length (now order) ≡ most ⌝ }
     requires { ⌜ length (now costs) ≡ most ⌝ }
-    requires { ⌜ settingsOf (framesOf (now text)) ≡ On cfg ⌝ }
-    requires { ⌜ Indexed (now text) (now index) ⌝ }
-    requires { ⌜ Priced (now text) (now from) n (now prices) ⌝ }
     ensures { λ r. ⌜ Rounded (now (text .entry)) (now (order .exit)) last (now (costs .exit)) r ⌝ }
 {
+    let mut prices = [0.0; TABLE_SIZE];
+    fill_prices(text, index, from, n, &mut prices);
     let mut used = [false; 64];
     let mut bound = [false; 64];
     let mut before = [false; 64];
     let mut em = [0u32; 64];
-    let mut keys = [0u64; 1024];
-    let mut valued = [false; 1024];
-    let mut values = [0.0; 1024];
-    let mut draws = [0.0; 64];
     schedule(
         text,
         index,
         from,
         n,
-        prices,
+        &prices,
         &mut used,
         &mut bound,
         &mut before,
         &mut em,
         order,
-        Sampled::On(cfg),
-        &mut keys,
-        &mut valued,
-        &mut values,
-        &mut draws,
+        how,
+        keys,
+        valued,
+        values,
+        draws,
         last,
         costs,
     )
 }
 
-// The prices that no sample changes, then the rounds.
+// Where sampling is off nothing is remembered; where it is on there is a key for each item of each atom at most.
 pub fn find_order(
     text: &[u8],
     index: &[u32],
@@ -133,10 +90,42 @@ pub fn find_order(
     requires { ⌜ Indexed (now text) (now index) ⌝ }
     ensures { λ r. ⌜ Rounded (now (text .entry)) (now (order .exit)) last (now (costs .exit)) r ⌝ }
 {
-    let mut prices = [0.0; 1152];
-    fill_prices(text, index, from, n, &mut prices);
-    match settings(text, index) {
-        Sampled::Off => order_unsampled(text, index, from, n, &prices, order, last, costs),
-        Sampled::On(cfg) => order_sampled(text, index, from, n, &prices, cfg, order, last, costs),
-    }
+    let Sampled::On(cfg) = settings(text, index) else {
+        let mut keys = [0u64; 1];
+        let mut valued = [false; 1];
+        let mut values = [0.0; 1];
+        let mut draws = [0.0; 1];
+        return order_by(
+            text,
+            index,
+            from,
+            n,
+            Sampled::Off,
+            &mut keys,
+            &mut valued,
+            &mut values,
+            &mut draws,
+            order,
+            last,
+            costs,
+        );
+    };
+    let mut keys = [0u64; KEYS_MOST];
+    let mut valued = [false; KEYS_MOST];
+    let mut values = [0.0; KEYS_MOST];
+    let mut draws = [0.0; 64];
+    order_by(
+        text,
+        index,
+        from,
+        n,
+        Sampled::On(cfg),
+        &mut keys,
+        &mut valued,
+        &mut values,
+        &mut draws,
+        order,
+        last,
+        costs,
+    )
 }

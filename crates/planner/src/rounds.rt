@@ -5,6 +5,7 @@ ghost use Prim.Native.Nat.{_≤_};
 ghost use lib.ListN.{length, getD, take};
 ghost use Rattle.frames.specs.First.{framesOf};
 ghost use Rattle.reading.specs.Index.{Indexed};
+ghost use Rattle.reading.specs.IndexedReading.{Blank};
 ghost use Rattle.lowering.specs.Eager.{atomsOf};
 ghost use Rattle.scheduling.specs.Offers.{roundOf};
 ghost use Rattle.planner.specs.Entry.{Accepts};
@@ -13,6 +14,9 @@ use super::order::find_order;
 use frames::first::Reading;
 use frames::first::Text;
 use lowering::places::atom_places;
+use reading::second::LONG_INDEX;
+use reading::second::SHORT_INDEX;
+use reading::second::SHORT_TEXT;
 use reading::second::read_indexed;
 use sqrt::bits_of;
 
@@ -77,13 +81,25 @@ fn costs_accepted(text: &[u8], index: &[u32], round: usize, out: &mut [u64]) -> 
     RoundCosts::Chosen(s.who)
 }
 
+// The costs, by an index that is lent for the query's keyed lines.
+fn costs_by(text: &[u8], index: &mut [u32], round: usize, costs: &mut [u64]) -> RoundCosts
+    requires { ⌜ Blank (now text) (now index) ⌝ }
+    ensures { λ r. ⌜ resultOf r (now (costs .exit)) ≡ roundCosts (now (text .entry)) round (now (costs .entry)) ⌝ }
+{
+    match read_indexed(Text::Query, text, index) {
+        Reading::Refused(k, line) => RoundCosts::Refused(k, line),
+        Reading::Accepted(_, _) => costs_accepted(text, index, round, costs),
+    }
+}
+
 // The costs of round number `round` of a query, as bits: all ones for an atom that is no candidate, and past the atoms.
 pub fn round_costs(text: &[u8], round: usize, costs: &mut [u64]) -> RoundCosts
     ensures { λ r. ⌜ resultOf r (now (costs .exit)) ≡ roundCosts (now (text .entry)) round (now (costs .entry)) ⌝ }
 {
-    let mut index = [0u32; 19240];
-    match read_indexed(Text::Query, text, &mut index) {
-        Reading::Refused(k, line) => RoundCosts::Refused(k, line),
-        Reading::Accepted(_, _) => costs_accepted(text, &index, round, costs),
+    if text.len() <= SHORT_TEXT {
+        let mut index = [0u32; SHORT_INDEX];
+        return costs_by(text, &mut index, round, costs);
     }
+    let mut index = [0u32; LONG_INDEX];
+    costs_by(text, &mut index, round, costs)
 }

@@ -15,7 +15,7 @@ use Rattle.plans.specs.StepFrames.{frameOf, Each}
 use Rattle.plans.specs.PlanText.{textOf, textLength, planText}
 use Rattle.plans.specs.PlanRead.{planCounts, plan-length}
 use Rattle.plans.specs.Fitting.{AtomFits}
-use Rattle.plans.specs.Longest.{QueryFits}
+use Rattle.plans.specs.Longest.{planMost, QueryFits}
 
 -- the example's steps, and the lines that the plan program prints: 3f040000000500000000 and so on
 unfoldable pub worked : List Step
@@ -75,5 +75,5 @@ pub widest-steps : length (schedule widest choose tt .steps) ≡ 1088
 unfolding choose cheapest scan cost widest atomOf roundsUpTo passesUpTo eagerPass unlowered tabulate lower emitReadChildren markAll childLookups put blank
 widest-steps = refl
 
-pub widest-bytes : length (planText 64 1 0 0 0 (schedule widest choose tt .steps)) ≡ 20565
+pub widest-bytes : length (planText 64 1 0 0 0 (schedule widest choose tt .steps)) ≡ planMost
 widest-bytes = plan-length 64 1 0 0 0 (schedule widest choose tt .steps) ∙ ap (λ (m : ℕ). 21 + m) widest-lines

@@ -172,6 +172,10 @@ module _ (n : Counts) (qs : List Atom) {X : Type 0} (choose : X → State → Ch
   pub schedule-bytes : (v g l t r : ℕ) → length (planText v g l t r (schedule qs choose x .steps)) ≤ 21 + 321 * length qs
   schedule-bytes v g l t r = omega (arith, schedule-total lineLength 321 (atom-bytes n), total-lines (schedule qs choose x .steps), plan-length v g l t r (schedule qs choose x .steps))
 
+-- the bytes of the longest plan, its header among them
+abbrev pub planMost : ℕ
+planMost = 20565
+
 -- a query within the limits, and tallies of two bytes
 pub record QueryFits (v g l t r : ℕ) (qs : List Atom) : Type 0 where
   pub variables-few : v ≤ variablesMost
@@ -183,11 +187,11 @@ pub record QueryFits (v g l t r : ℕ) (qs : List Atom) : Type 0 where
   pub rejected-few : r < 65536
 
 module _ (v g l t r : ℕ) (qs : List Atom) (fit : QueryFits v g l t r qs) {X : Type 0} (choose : X → State → Chosen X) (x : X) (fair : Fair (atomOf qs) (numbers qs) choose) where
-  -- at most 1,088 steps, in at most 20,565 bytes
+  -- at most 1,088 steps
   pub few-steps : length (schedule qs choose x .steps) ≤ 1088
   few-steps = omega (arith, schedule-steps (planCounts v g l) qs choose x fair (fit .atoms), fit .atoms-few)
 
-  pub few-bytes : length (planText v g l t r (schedule qs choose x .steps)) ≤ 20565
+  pub few-bytes : length (planText v g l t r (schedule qs choose x .steps)) ≤ planMost
   few-bytes = omega (arith, schedule-bytes (planCounts v g l) qs choose x fair (fit .atoms) v g l t r, fit .atoms-few)
 
   -- so the plan is within the limits of plans, and is read back

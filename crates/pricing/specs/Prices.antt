@@ -8,6 +8,7 @@ use lib.ListN.{length, getD, take, drop}
 use lib.Ieee.{Float}
 use Rattle.hex.specs.Digits.{bytesOf}
 use Rattle.hex.specs.Lines.{lineAt}
+use Rattle.frames.specs.Limits.{atomsMost}
 use Rattle.frames.specs.First.{framesOf}
 use Rattle.frames.specs.Kinds.{itemsOf}
 use Rattle.frames.specs.Frames.{kindOf}
@@ -20,6 +21,10 @@ use Rattle.pricing.specs.declared.costs.Item.{Item}
 -- ---- a row: an atom's base, its cost where its node is bound, and its items' selectivities. "items 16"
 abbrev pub rowSize : ℕ
 rowSize = 18
+
+-- a row for each atom: "atoms 64"
+abbrev pub tableSize : ℕ
+tableSize = rowSize * atomsMost
 
 -- the selectivity of an item of an atom of operator o, an element or a child, at position j, where it is not sampled
 abbrev pub itemPrice : List (List ℕ) → ℕ → Bool → ℕ → Float

@@ -20,6 +20,7 @@ use Rattle.cost.specs.Costs.{Sampled′, Costed as Cost, orMeasured}
 use Rattle.cost.specs.declared.draws.Measurement.{Measurement}
 use Rattle.cost.specs.declared.draws.Measurement.the-variants.{NoDraws, Accepted, Rejected}
 use Rattle.cost.specs.declared.memo.Tallies.{Tallies}
+use Rattle.plan_facts.specs.Remembered.{keysMost}
 use Rattle.pricing.specs.declared.memo.Sample.{Sample}
 use Rattle.pricing.specs.declared.costs.Costed.{Costed}
 
@@ -41,10 +42,6 @@ isMeasured Unmeasured = false
 abbrev pub fanValue : FanOut → Float
 fanValue (Measured x) = x
 fanValue Unmeasured = zero64
-
--- as many keys as atoms have items: 64 atoms of 16
-abbrev pub keysMost : ℕ
-keysMost = 1024
 
 -- the settings are the query's, and there is room for the draws
 pub record Samples (fs : List (List ℕ)) (how : Sampled) (draws : List Float) : Type 0 where

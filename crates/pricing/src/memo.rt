@@ -21,6 +21,9 @@ use cost::probes::Key;
 use measure::FanOut;
 use measure::SamplerConfig;
 
+// The most keys: 64 atoms of 16 items.
+pub const KEYS_MOST: usize = 1024;
+
 // A sampled fan-out, where there is one, and what is remembered behind it.
 pub struct Sample {
     pub fan: FanOut,

@@ -23,6 +23,11 @@ use query::statistics::by_repr;
 use query::statistics::denominator;
 use query::statistics::nodes;
 
+// How many numbers a row has, and a table of 64 rows.
+pub const ROW_SIZE: usize = 18;
+
+pub const TABLE_SIZE: usize = 64 * ROW_SIZE;
+
 // The measured fan-out of an item at a position.
 fn item_fan(text: &[u8], index: &[u32], g: Items, position: u8) -> FanOut
     requires { ⌜ Indexed (now text) (now index) ⌝ }
@@ -77,8 +82,8 @@ pub fn fill_prices(text: &[u8], index: &[u32], from: &[usize], n: usize, prices:
     let mut k: usize = 0;
     while k < n {
         let line = atom_line(text, from, k);
-        let at = 18 * k;
-        let end = at + 18;
+        let at = ROW_SIZE * k;
+        let end = at + ROW_SIZE;
         fill_row(text, index, line, narrow(k), repr, &mut prices[at..end]);
         k += 1;
     }

@@ -1,4 +1,4 @@
-// Answers on standard output, as the programs print them.
+// What the programs share: room for a text, and answers on standard output.
 use entries::run::Outcome;
 use planner::entry::Planned;
 use writing::bytes::put_end;
@@ -6,6 +6,9 @@ use writing::bytes::put_four;
 use writing::bytes::put_word;
 use writing::lines::line_of_five;
 use writing::lines::line_of_four;
+
+// Room for a text: one byte more than it may have, so that a longer text is seen to be too long.
+pub const TEXT_ROOM: usize = 65537;
 
 // A refused query: the line ff number line(2).
 pub fn print_refusal(number: u8, line: usize) {

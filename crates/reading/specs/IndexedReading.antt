@@ -29,12 +29,16 @@ pub record Blank (x i : List ℕ) : Type 0 where
 blank-of : (x : List ℕ) (n : ℕ) → (length x ≤ textMost → indexSize (length x) ≤ n) → Blank x (replicate n 0)
 blank-of x n h = record { room = λ l. rw (length-replicate {A = ℕ} n 0) (h l); blank = blank-at n 0 }
 
--- for a text of at most 4,096 bytes, and for any text
-pub blank-short : (x : List ℕ) → length x ≤ 4096 → Blank x (replicate 1686 0)
-blank-short x h = blank-of x 1686 (λ _. omega arith)
+-- the most bytes of a short text
+abbrev pub shortText : ℕ
+shortText = 4096
 
-pub blank-long : (x : List ℕ) → Blank x (replicate 19240 0)
-blank-long x = blank-of x 19240 (λ l. omega arith)
+-- for a short text, and for any
+pub blank-short : (x : List ℕ) → length x ≤ shortText → Blank x (replicate (indexSize shortText) 0)
+blank-short x h = blank-of x (indexSize shortText) (λ _. omega arith)
+
+pub blank-long : (x : List ℕ) → Blank x (replicate (indexSize textMost) 0)
+blank-long x = blank-of x (indexSize textMost) (λ l. omega arith)
 
 -- each frame has the length that it says
 abbrev pub Framed : List (List ℕ) → Type 0

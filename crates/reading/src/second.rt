@@ -1,7 +1,5 @@
 // The second reading: each line is tested 5, 6, 7 in turn. And the whole reading of a query, a plan or a table.
 ghost use mathlib.Core.Path.{_≡_};
-ghost use Prim.Native.Nat.{_≤_};
-ghost use lib.ListN.{length};
 ghost use Rattle.hex.specs.Digits.{bytesOf};
 ghost use Rattle.frames.specs.declared.first.Reading.the-variants.{Accepted};
 ghost use Rattle.reading.specs.Second.{headerCounts, countsOf, faultOf, reading};
@@ -17,6 +15,13 @@ use frames::first::first_reading;
 use frames::frame::frame_passes;
 use hex::byte_at;
 use hex::reader::line_from;
+
+// The most bytes of a short text, and how many numbers the index of a short text and of any text has.
+pub const SHORT_TEXT: usize = 4096;
+
+pub const SHORT_INDEX: usize = 1686;
+
+pub const LONG_INDEX: usize = 19240;
 
 // What a header says, with that many atoms.
 fn header_counts(line: &[u8], atoms: usize) -> Counts
@@ -107,27 +112,14 @@ pub fn read_indexed(t: Text, text: &[u8], index: &mut [u32]) -> Reading
     }
 }
 
-fn read_short(t: Text, text: &[u8]) -> Reading
-    requires { ⌜ length (now text) ≤ 4096 ⌝ }
-    ensures { λ r. ⌜ r ≡ reading t (now (text .entry)) ⌝ }
-{
-    let mut index = [0u32; 1686];
-    read_indexed(t, text, &mut index)
-}
-
-fn read_long(t: Text, text: &[u8]) -> Reading
-    ensures { λ r. ⌜ r ≡ reading t (now (text .entry)) ⌝ }
-{
-    let mut index = [0u32; 19240];
-    read_indexed(t, text, &mut index)
-}
-
 // The same without an index for later.
 pub fn read_text(t: Text, text: &[u8]) -> Reading
     ensures { λ r. ⌜ r ≡ reading t (now (text .entry)) ⌝ }
 {
-    if text.len() <= 4096 {
-        return read_short(t, text);
+    if text.len() <= SHORT_TEXT {
+        let mut index = [0u32; SHORT_INDEX];
+        return read_indexed(t, text, &mut index);
     }
-    read_long(t, text)
+    let mut index = [0u32; LONG_INDEX];
+    read_indexed(t, text, &mut index)
 }

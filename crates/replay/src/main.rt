@@ -11,6 +11,7 @@ use entries::run::run;
 use exports::some::rimdovek_some_match;
 use frames::first::Reading;
 use frames::first::Text;
+use planner::entry::PLAN_MOST;
 use planner::entry::plan;
 use printing::print_planned;
 use printing::print_run;
@@ -55,15 +56,8 @@ fn decode(line: &[u8], text: &mut [u8]) -> usize
     i
 }
 
-// The longest plan has 20,565 bytes.
-fn plan_room() -> [u8; 20565]
-    ensures { λ r. ⌜ 20565 ≡ length r ⌝ }
-{
-    [0; 20565]
-}
-
 fn plan_case(text: &[u8]) {
-    let mut out = plan_room();
+    let mut out = [0u8; PLAN_MOST];
     let answer = plan(text, &mut out);
     print_planned(answer, &out);
 }

@@ -1,32 +1,33 @@
 // Writes the square root of each pattern on standard input, a line of 16 digits each, and stops at the first other line.
 ghost use Prim.Native.Nat.{_≤_};
 ghost use lib.ListN.{length};
-use number_lines::Line;
+use number_lines::LINE_SIZE;
+use number_lines::LINES_MOST;
+use number_lines::numbers;
 
 fn print_root(bits: u64) {
     io::print_hex(1, sqrt::sqrt(bits), 16);
     io::write_all(1, b"\n");
 }
 
-// The roots of the lines of `text`; the place where they end.
-fn print_roots(text: &[u8]) -> usize
-    ensures { λ r. ⌜ r ≤ length (now (text .entry)) ⌝ }
+// The roots of the first m patterns.
+fn print_roots(patterns: &[u64], m: usize)
+    requires { ⌜ m ≤ length (now patterns) ⌝ }
 {
-    let mut at: usize = 0;
-    while text.len() - at > 16 {
-        let Line::Number(bits) = number_lines::number(&text[at..at + 17]) else {
-            return at;
-        };
-        print_root(bits);
-        at += 17;
+    let mut i: usize = 0;
+    while i < m {
+        print_root(patterns[i]);
+        i += 1;
     }
-    at
 }
 
 fn main() {
     let mut input = io::large_buffer();
     let n = io::read_full(0, &mut input);
-    if print_roots(&input[..n]) < n {
+    let mut patterns = [0u64; LINES_MOST];
+    let m = numbers(&input[..n], &mut patterns);
+    print_roots(&patterns, m);
+    if LINE_SIZE * m < n {
         io::write_all(1, b"not a line of 16 digits\n");
     }
 }

@@ -6,14 +6,8 @@ ghost use Prim.Native.Nat.{_≤_};
 ghost use lib.ListN.{length};
 ghost use Rattle.run.specs.Decimal.{decimalOf};
 use entries::run::run;
+use printing::TEXT_ROOM;
 use printing::print_run;
-
-// One byte more than a text may have, so that a longer text is seen to be too long.
-fn text_room() -> [u8; 65537]
-    ensures { λ r. ⌜ 65537 ≡ length r ⌝ }
-{
-    [0; 65537]
-}
 
 // The number that decimal digits give, 0 where another byte is among them; it stays below 2^64.
 fn decimal(word: &[u8]) -> u64
@@ -70,9 +64,9 @@ fn run_over(plan: &[u8], table: &[u8], n: usize) {
 }
 
 fn main() {
-    let mut plan = text_room();
+    let mut plan = [0u8; TEXT_ROOM];
     let n = io::read_full(0, &mut plan);
-    let mut table = text_room();
+    let mut table = [0u8; TEXT_ROOM];
     let m = read_table(&mut table);
     run_over(&plan[..n], &table, m);
 }

@@ -24,7 +24,7 @@ use Rattle.cost.specs.Costs.{Costed, estimateCost}
 use Rattle.cost.specs.Memo.{memoAt, tallyAt}
 use Rattle.cost.specs.Choice.{Memory, fresh, recorded, cost, emittedBy, byCost, choose, choose-fair, planned, rememberOn, memoryLoop, remembered}
 use Rattle.cost.specs.declared.memo.Tallies.{Tallies}
-use Rattle.plan_facts.specs.Remembered.{loop-grows}
+use Rattle.plan_facts.specs.Remembered.{keysMost, loop-grows}
 use Rattle.lowering.specs.Eager.{state, Went, Located, Ready, atomsOf}
 use Rattle.lowering.proofs.EagerLaws.{lowered-then}
 use Rattle.pricing.specs.Remembering.{Samples, Remembers}
@@ -147,7 +147,7 @@ module _ (x : List ℕ) where
     rounds-number : unlowered blank (numbers qs) ≡ n
     rounds-number = all-left (numbers qs) ∙ tabulate-length (length qs) (λ k. k) ∙ sym (z .count)
 
-    pub rounding-start : (how : Sampled) (last : ℕ) (U B b : Bound) (em O keys : List ℕ) (valued : List Bool) (values draws : List Float) (s : Tallies) → Unplanned U B b em → length O ≡ most → Samples (framesOf x) how draws → (length valued ≡ length keys) × ((length values ≡ length keys) × (length keys ≤ 1024)) → s ≡ record { count = 0; tallied = 0; rejected = 0 }
+    pub rounding-start : (how : Sampled) (last : ℕ) (U B b : Bound) (em O keys : List ℕ) (valued : List Bool) (values draws : List Float) (s : Tallies) → Unplanned U B b em → length O ≡ most → Samples (framesOf x) how draws → (length valued ≡ length keys) × ((length values ≡ length keys) × (length keys ≤ keysMost)) → s ≡ record { count = 0; tallied = 0; rejected = 0 }
         → Rounding how keys draws last U B b (map decode em) O keys valued values draws 0 s last
     unfolding memoAt blank roundOf
     rounding-start how last U B b em O keys valued values draws s u o d k e = record {

@@ -25,6 +25,7 @@ use lowering::eager::atom_line;
 use lowering::sets::is_set;
 use pricing::costs::Costed;
 use pricing::costs::estimate_cost;
+use pricing::prices::ROW_SIZE;
 use query::statistics::Sampled;
 
 // The cheapest atom so far, if one was found, its cost, and the tallies behind it.
@@ -160,8 +161,8 @@ pub fn cheapest(
     let mut i: usize = 0;
     while i < n {
         let line = atom_line(text, from, i);
-        let at = 18 * i;
-        let end = at + 18;
+        let at = ROW_SIZE * i;
+        let end = at + ROW_SIZE;
         let row = &prices[at..end];
         b = consider(
             text,

@@ -13,6 +13,7 @@ ghost use Rattle.model.specs.Scheduling.{scans, atomOf, unplanned};
 ghost use Rattle.cost.specs.QueryAtoms.{atomOfFrame};
 ghost use Rattle.cost.specs.Emitters.{decode};
 ghost use Rattle.cost.specs.Choice.{fresh, memoryLoop};
+ghost use Rattle.plan_facts.specs.Remembered.{keysMost};
 ghost use Rattle.lowering.specs.AtomLines.{AtomLine};
 ghost use Rattle.lowering.specs.Eager.{Located, Ready, atomsOf};
 ghost use Rattle.pricing.specs.Prices.{Priced};
@@ -201,7 +202,7 @@ pub fn schedule(
     requires { ⌜ Unplanned (now used) (now bound) (now before) (now em) ⌝ }
     requires { ⌜ length (now order) ≡ most ⌝ }
     requires { ⌜ Samples (framesOf (now text)) how (now draws) ⌝ }
-    requires { ⌜ (length (now valued) ≡ length (now keys)) × ((length (now values) ≡ length (now keys)) × (length (now keys) ≤ 1024)) ⌝ }
+    requires { ⌜ (length (now valued) ≡ length (now keys)) × ((length (now values) ≡ length (now keys)) × (length (now keys) ≤ keysMost)) ⌝ }
     requires { ⌜ length (memoryLoop (framesOf (now text)) (atomsOf (now text)) (suc last) fresh unplanned .tally .memo) ≤ length (now keys) ⌝ }
     requires { ⌜ Indexed (now text) (now index) ⌝ }
     requires { ⌜ Priced (now text) (now from) n (now prices) ⌝ }

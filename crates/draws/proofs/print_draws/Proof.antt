@@ -1,51 +1,29 @@
--- `print_draws` is safe and ends: 17 bytes fewer are left at each turn. Assumes nothing.
+-- `print_draws` is safe and ends: one state fewer is left at each turn. Assumes nothing.
 use borrow.Author.Needs.{needs}
 use Prim.Native.Nat.{_-_, _≤_}
-use lib.ListN.{length}
 use Rattle.draws.proofs.print_draws.Statement.{statement}
 use Rattle.draws.proofs.print_draws.Tie as tie
 
 abbrev Inv-loop : tie.InvT-loop
-Inv-loop text at₀ at = at ≤ length text
+Inv-loop states m i₀ i = i ≤ m
 
 abbrev μ-loop : tie.MeasureT-loop
-μ-loop text at₀ at = length text - at
+μ-loop states m i₀ i = m - i
 
 loop-holds : tie.Need-loop-holds Inv-loop μ-loop
 loop-holds c = search needs
 
-sub-loop : tie.Need-sub-loop Inv-loop μ-loop
-sub-loop c = search needs
+mul-print-five : tie.Need-mul-print-five Inv-loop μ-loop
+mul-print-five c = search needs
 
-add-number : tie.Need-add-number Inv-loop μ-loop
-add-number c = search needs
-
-sub-number : tie.Need-sub-number Inv-loop μ-loop
-sub-number c = search needs
-
-part-number-start : tie.Need-part-number-start Inv-loop μ-loop
-part-number-start c = search needs
-
-part-number-end : tie.Need-part-number-end Inv-loop μ-loop
-part-number-end c = search needs
-
-number-requires : tie.Need-number-requires Inv-loop μ-loop
-number-requires c κs = search needs
-
-enum-known-state : tie.Need-enum-known-state Inv-loop μ-loop
-enum-known-state c = search needs
-
-enum-told : tie.Need-enum-told Inv-loop μ-loop
-enum-told c = search needs
-
-returns : tie.Need-returns Inv-loop μ-loop
-returns c = search needs
+shared-slice-read-print-five : tie.Need-shared-slice-read-print-five Inv-loop μ-loop
+shared-slice-read-print-five c = search needs
 
 print-five-requires : tie.Need-print-five-requires Inv-loop μ-loop
 print-five-requires c κs = search needs
 
-add-at : tie.Need-add-at Inv-loop μ-loop
-add-at c = search needs
+add-i : tie.Need-add-i Inv-loop μ-loop
+add-i c = search needs
 
 loop-less : tie.Need-loop-less Inv-loop μ-loop
 loop-less c = search needs
@@ -53,8 +31,8 @@ loop-less c = search needs
 loop-again : tie.Need-loop-again Inv-loop μ-loop
 loop-again c = search needs
 
-returns-2 : tie.Need-returns-2 Inv-loop μ-loop
-returns-2 c = search needs
+returns : tie.Need-returns Inv-loop μ-loop
+returns c = search needs
 
 pub print-draws-spec : {M : Type 1} → statement M
 print-draws-spec =
@@ -63,17 +41,10 @@ print-draws-spec =
     Inv-loop
     μ-loop
     loop-holds
-    sub-loop
-    add-number
-    sub-number
-    part-number-start
-    part-number-end
-    number-requires
-    enum-known-state
-    enum-told
-    returns
+    mul-print-five
+    shared-slice-read-print-five
     print-five-requires
-    add-at
+    add-i
     loop-less
     loop-again
-    returns-2)
+    returns)

@@ -1,51 +1,29 @@
--- `print_roots` is safe and ends: 17 bytes fewer are left at each turn. Assumes nothing.
+-- `print_roots` is safe and ends: one pattern fewer is left at each turn. Assumes nothing.
 use borrow.Author.Needs.{needs}
 use Prim.Native.Nat.{_-_, _≤_}
-use lib.ListN.{length}
 use Rattle.roots.proofs.print_roots.Statement.{statement}
 use Rattle.roots.proofs.print_roots.Tie as tie
 
 abbrev Inv-loop : tie.InvT-loop
-Inv-loop text at₀ at = at ≤ length text
+Inv-loop patterns m i₀ i = i ≤ m
 
 abbrev μ-loop : tie.MeasureT-loop
-μ-loop text at₀ at = length text - at
+μ-loop patterns m i₀ i = m - i
 
 loop-holds : tie.Need-loop-holds Inv-loop μ-loop
 loop-holds c = search needs
 
-sub-loop : tie.Need-sub-loop Inv-loop μ-loop
-sub-loop c = search needs
+mul-print-root : tie.Need-mul-print-root Inv-loop μ-loop
+mul-print-root c = search needs
 
-add-number : tie.Need-add-number Inv-loop μ-loop
-add-number c = search needs
-
-sub-number : tie.Need-sub-number Inv-loop μ-loop
-sub-number c = search needs
-
-part-number-start : tie.Need-part-number-start Inv-loop μ-loop
-part-number-start c = search needs
-
-part-number-end : tie.Need-part-number-end Inv-loop μ-loop
-part-number-end c = search needs
-
-number-requires : tie.Need-number-requires Inv-loop μ-loop
-number-requires c κs = search needs
-
-enum-known-bits : tie.Need-enum-known-bits Inv-loop μ-loop
-enum-known-bits c = search needs
-
-enum-told : tie.Need-enum-told Inv-loop μ-loop
-enum-told c = search needs
-
-returns : tie.Need-returns Inv-loop μ-loop
-returns c = search needs
+shared-slice-read-print-root : tie.Need-shared-slice-read-print-root Inv-loop μ-loop
+shared-slice-read-print-root c = search needs
 
 print-root-requires : tie.Need-print-root-requires Inv-loop μ-loop
 print-root-requires c κs = search needs
 
-add-at : tie.Need-add-at Inv-loop μ-loop
-add-at c = search needs
+add-i : tie.Need-add-i Inv-loop μ-loop
+add-i c = search needs
 
 loop-less : tie.Need-loop-less Inv-loop μ-loop
 loop-less c = search needs
@@ -53,8 +31,8 @@ loop-less c = search needs
 loop-again : tie.Need-loop-again Inv-loop μ-loop
 loop-again c = search needs
 
-returns-2 : tie.Need-returns-2 Inv-loop μ-loop
-returns-2 c = search needs
+returns : tie.Need-returns Inv-loop μ-loop
+returns c = search needs
 
 pub print-roots-spec : {M : Type 1} → statement M
 print-roots-spec =
@@ -63,17 +41,10 @@ print-roots-spec =
     Inv-loop
     μ-loop
     loop-holds
-    sub-loop
-    add-number
-    sub-number
-    part-number-start
-    part-number-end
-    number-requires
-    enum-known-bits
-    enum-told
-    returns
+    mul-print-root
+    shared-slice-read-print-root
     print-root-requires
-    add-at
+    add-i
     loop-less
     loop-again
-    returns-2)
+    returns)

@@ -1,49 +1,42 @@
--- `planner::rounds::round_costs` meets its contract: by what the reading says.
-use mathlib.Core.List.{[]}
-use Rattle.reading.specs.IndexedReading.{blank-long}
-use Rattle.planner.proofs.EntryLaws.{accepts}
-use Rattle.planner.proofs.CostLaws.{costs-back, costs-whole}
+-- `planner::rounds::round_costs` meets its contract: by an index of its own, by the length of the text.
+use Rattle.reading.specs.IndexedReading.{blank-short, blank-long}
 use borrow.Author.Needs.{needs}
 use Rattle.planner.proofs.rounds.round_costs.Statement.{statement}
 use Rattle.planner.proofs.rounds.round_costs.Tie as tie
 
-slice-aggregate-read-indexed : tie.Need-slice-aggregate-read-indexed
-slice-aggregate-read-indexed c = search needs
+slice-aggregate-costs-by : tie.Need-slice-aggregate-costs-by
+slice-aggregate-costs-by c = search needs
 
-read-indexed-requires : tie.Need-read-indexed-requires
-read-indexed-requires c κs = blank-long _
-
-enum-known-k : tie.Need-enum-known-k
-enum-known-k c = search needs
-
-enum-told : tie.Need-enum-told
-enum-told c = search needs
-
-slice-aggregate-costs-accepted : tie.Need-slice-aggregate-costs-accepted
-slice-aggregate-costs-accepted c = search needs
-
-costs-accepted-requires : tie.Need-costs-accepted-requires
-costs-accepted-requires c κs = (accepts _ [] _ (c .before .before .before .before .before .read-indexed .ensures .is) _ _ (c .before .before .enum-told .given .1), c .before .before .before .before .before .read-indexed .ensures .indexed _ _ (c .before .before .enum-told .given .1))
-
-returns : tie.Need-returns
-returns c = costs-back _ _ _ _ (c .before .before .before .before .read-indexed .ensures .is) _ _ (c .before .k .given .1)
+costs-by-requires : tie.Need-costs-by-requires
+costs-by-requires c κs = blank-short _ (c .before .before .if1 .taken)
 
 same-length : tie.Need-same-length
 same-length c = search needs
 
+returns : tie.Need-returns
+returns c = search needs
+
+slice-aggregate-costs-by-2 : tie.Need-slice-aggregate-costs-by-2
+slice-aggregate-costs-by-2 c = search needs
+
+costs-by-requires-2 : tie.Need-costs-by-requires-2
+costs-by-requires-2 c κs = blank-long _
+
+same-length-2 : tie.Need-same-length-2
+same-length-2 c = search needs
+
 returns-2 : tie.Need-returns-2
-returns-2 c = costs-whole _ _ _ _ (c .before .before .before .before .before .before .before .before .read-indexed .ensures .is) _ _ (c .before .before .before .before .before .enum-told .given .1) _ (c .before .before .costs-accepted .ensures)
+returns-2 c = search needs
 
 pub round-costs-spec : {M : Type 1} → statement M
 round-costs-spec =
     tie.close
     (tie.spec
-    slice-aggregate-read-indexed
-    read-indexed-requires
-    enum-known-k
-    enum-told
-    slice-aggregate-costs-accepted
-    costs-accepted-requires
-    returns
+    slice-aggregate-costs-by
+    costs-by-requires
     same-length
+    returns
+    slice-aggregate-costs-by-2
+    costs-by-requires-2
+    same-length-2
     returns-2)
