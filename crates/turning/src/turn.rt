@@ -1,6 +1,5 @@
 // The whole test of a plan and a table: the plan is read, then the table, then the table's shapes and the plan's steps are tested.
 ghost use mathlib.Core.Path.{_≡_};
-ghost use Prim.Native.Nat.{_≤_};
 ghost use lib.ListN.{length};
 ghost use Rattle.reading.specs.Index.{Indexed};
 ghost use Rattle.reading.specs.IndexedReading.{Blank};
@@ -11,6 +10,9 @@ use super::shapes::Turned;
 use super::shapes::shapes_fault;
 use frames::first::Reading;
 use frames::first::Text;
+use reading::second::LONG_INDEX;
+use reading::second::SHORT_INDEX;
+use reading::second::SHORT_TEXT;
 use reading::second::read_indexed;
 use reading::second::read_text;
 
@@ -51,31 +53,17 @@ fn table_by(plan: &[u8], table: &[u8], index: &mut [u32], globals: &mut [u16]) -
     }
 }
 
-fn table_short(plan: &[u8], table: &[u8], globals: &mut [u16]) -> Turned
-    requires { ⌜ PlanAccepted (now plan) (now globals) ⌝ }
-    requires { ⌜ length (now table) ≤ 4096 ⌝ }
-    ensures { λ r. ⌜ TableTested (now (plan .entry)) (now (table .entry)) r (now (globals .exit)) ⌝ }
-{
-    let mut index = [0u32; 1686];
-    table_by(plan, table, &mut index, globals)
-}
-
-fn table_long(plan: &[u8], table: &[u8], globals: &mut [u16]) -> Turned
-    requires { ⌜ PlanAccepted (now plan) (now globals) ⌝ }
-    ensures { λ r. ⌜ TableTested (now (plan .entry)) (now (table .entry)) r (now (globals .exit)) ⌝ }
-{
-    let mut index = [0u32; 19240];
-    table_by(plan, table, &mut index, globals)
-}
-
+// The same with an index of its own, by the table's length.
 fn table_back(plan: &[u8], table: &[u8], globals: &mut [u16]) -> Turned
     requires { ⌜ PlanAccepted (now plan) (now globals) ⌝ }
     ensures { λ r. ⌜ TableTested (now (plan .entry)) (now (table .entry)) r (now (globals .exit)) ⌝ }
 {
-    if table.len() <= 4096 {
-        return table_short(plan, table, globals);
+    if table.len() <= SHORT_TEXT {
+        let mut index = [0u32; SHORT_INDEX];
+        return table_by(plan, table, &mut index, globals);
     }
-    table_long(plan, table, globals)
+    let mut index = [0u32; LONG_INDEX];
+    table_by(plan, table, &mut index, globals)
 }
 
 // The first reason to turn the texts back. Where there is none, the globals have their classes.
