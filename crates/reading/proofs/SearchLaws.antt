@@ -68,16 +68,19 @@ search-less i (suc e) o w z g = rw g (w .falls (suc e) (omega arith))
 
 -- ---- a key that is given twice
 
-found-length : (r : List ℕ) → leb 2 (length r) ≡ isFound (bytesOf r)
-found-length [] = refl
-found-length (a ∷ []) = refl
-found-length (a ∷ b ∷ r) = le-leb 2 (length (a ∷ b ∷ r)) (omega arith)
+pub alike-is : (x i l key r : List ℕ) (m : ℕ) → key ≡ take m (bytesOf l) → bytesOf r ≡ found x i key → leb 2 (length r) ≡ isFound (found x i (take m (bytesOf l)))
+alike-is x i l key r m d g = found-length r ∙ ap isFound g ∙ rw d
+  where
+    found-length : (r : List ℕ) → leb 2 (length r) ≡ isFound (bytesOf r)
+    found-length [] = refl
+    found-length (a ∷ []) = refl
+    found-length (a ∷ b ∷ r) = le-leb 2 (length (a ∷ b ∷ r)) (omega arith)
 
 module _ (x i l : List ℕ) (b k : ℕ) (p : b ≡ getD (bytesOf l) 0 0) (q : k ≡ kindAt b .key) where
   pub no-key : k ≡ 0 → false ≡ givenBy x i (bytesOf l)
   no-key z = rw (← p, ← q, eq-eqb _ _ z)
 
-  pub key-is : (w m : ℕ) (key r : List ℕ) → (k ≡ 0 → ⊥) → w ≡ k → m ≡ pick (ltb w (length l / 2)) w (length l / 2) → take m key ≡ take m (bytesOf l) → bytesOf r ≡ found x i (take m key) → leb 2 (length r) ≡ givenBy x i (bytesOf l)
-  key-is w m key r z u v d g =
+  pub key-is : (w m : ℕ) (t : Bool) → (k ≡ 0 → ⊥) → w ≡ k → m ≡ pick (ltb w (length l / 2)) w (length l / 2) → t ≡ isFound (found x i (take m (bytesOf l))) → t ≡ givenBy x i (bytesOf l)
+  key-is w m t z u v g =
       let e : take m (bytesOf l) ≡ take k (bytesOf l) = take-least k m (bytesOf l) (rw (bytes-length l, ← u) v) in
-      rw (← p, ← q, ne-eqb _ _ z) (found-length r ∙ ap isFound g ∙ rw (d, e))
+      g ∙ rw (← p, ← q, ne-eqb _ _ z, e)

@@ -6,7 +6,7 @@ ghost use lib.Dec.{ltb};
 ghost use Rattle.base.specs.Choose.{pick};
 ghost use Rattle.hex.specs.Digits.{bytesOf};
 ghost use Rattle.frames.specs.First.{framesOf};
-ghost use Rattle.reading.specs.Keys.{find as findOf};
+ghost use Rattle.reading.specs.Keys.{isFound, find as findOf};
 ghost use Rattle.reading.specs.Index.{hashed as hashedOf, slotOf, found, givenBy, noted, entriesWith, Falling, Proper, Indexed, Noting};
 use super::keys::begins;
 use frames::fields::wide;
@@ -104,7 +104,19 @@ pub fn find_by<'a, 'b, 'c>(text: &'a [u8], index: &'b [u32], key: &'c [u8]) -> &
     search(text, index, key)
 }
 
-// Whether an entered line has the key of this one.
+// Whether an entered line begins with the first n bytes of this one; there is room for them in `key`.
+fn begins_alike(text: &[u8], index: &[u32], line: &[u8], n: usize, key: &mut [u8]) -> bool
+    requires { ⌜ Falling (now index) ⌝ }
+    requires { ⌜ n ≤ length (now key) ⌝ }
+    requires { ⌜ n ≤ length (bytesOf (now line)) ⌝ }
+    ensures { λ r. ⌜ r ≡ isFound (found (now (text .entry)) (now (index .entry)) (take n (bytesOf (now (line .entry))))) ⌝ }
+{
+    decode(line, n, key);
+    let alike = search(text, index, &key[..n]);
+    2 <= alike.len()
+}
+
+// Whether an entered line has the key of this one. Only a row's key is long.
 pub fn key_given(text: &[u8], index: &[u32], line: &[u8]) -> bool
     requires { ⌜ Falling (now index) ⌝ }
     ensures { λ r. ⌜ r ≡ givenBy (now (text .entry)) (now (index .entry)) (bytesOf (now (line .entry))) ⌝ }
@@ -114,10 +126,12 @@ pub fn key_given(text: &[u8], index: &[u32], line: &[u8]) -> bool
         return false;
     }
     let n = at_most(wide(k), line.len() / 2);
+    if n <= 6 {
+        let mut key = [0u8; 6];
+        return begins_alike(text, index, line, n, &mut key);
+    }
     let mut key = [0u8; 255];
-    decode(line, n, &mut key);
-    let key_line = search(text, index, &key[..n]);
-    2 <= key_line.len()
+    begins_alike(text, index, line, n, &mut key)
 }
 
 // A line with a key, which begins at `at`, is entered behind m entries. How many there are then.
