@@ -6,11 +6,11 @@ use mathlib.Core.List.{List, [], _∷_, map}
 use native.Mathlib.Omega.{arith}
 use native.Mathlib.Numerals.{add-one}
 use lib.Dec.{ltb}
-use lib.ListN.{length, getD, take, drop}
+use lib.ListN.{length, getD, drop}
 use borrow.Author.Tests.{ltb-true}
 use Rattle.base.specs.Choose.{pick, both-hold}
 use Rattle.hex.specs.Digits.{bytesOf}
-use Rattle.hex.specs.Lines.{endOf}
+use Rattle.hex.specs.Lines.{lineAt}
 use Rattle.hex.specs.Cuts.{Line}
 use Rattle.frames.specs.Limits.{variablesMost}
 use Rattle.frames.specs.Kinds.{kinds, kindAt, plan}
@@ -21,7 +21,7 @@ use Rattle.frames.specs.declared.fields.Counts.{Counts}
 use Rattle.frames.specs.declared.fields.Test.the-variants.{Range}
 use Rattle.frames.specs.declared.first.Text.the-variants.{Plan}
 use Rattle.reading.specs.Second.{countsOf}
-use Rattle.reading.specs.Walk.{walk-line, frames-step, frames-none, frames-end}
+use Rattle.reading.specs.Walk.{taken-none, taken-line, taken-step, frames-end}
 use Rattle.reading_facts.specs.Whole.{Whole, accepted, Headed, headed}
 use Rattle.model.specs.Atoms.{Table}
 use Rattle.model.specs.Bound.{Bound, blank}
@@ -80,24 +80,31 @@ pub record Walking (p F G : List ℕ) (B₀ R₀ : Bound) (O₀ : List ℕ) (B R
   pub each : (i : ℕ) → i < length (framesOf (drop at p)) → Targeted (getD (framesOf (drop at p)) i [])
   pub is : (tb : Table) → Described tb F G → stepsPass tb (planSteps p) ≡ stepsFrom tb B R O n (map stepOf (framesOf (drop at p)))
 
-module _ (p F G : List ℕ) (B R : Bound) (O : List ℕ) (s : Starting p B R O F G) (e : ℕ) (q : e ≡ endOf 0 p) where
+module _ (p F G : List ℕ) (B R : Bound) (O : List ℕ) (s : Starting p B R O F G) (l : List ℕ) (q : l ≡ lineAt p 0) where
   whole : Whole Plan p (s .lines) (s .counted)
   whole = accepted Plan p (s .lines) (s .counted) (s .accepted)
 
   head : Headed Plan p (s .lines) (s .counted)
   head = headed Plan p (s .lines) (s .counted) (λ x. let z : _≡_ {A = ℕ} 0 1 = cc in omega arith) (s .accepted)
 
-  header : Line p 0 e
-  header = walk-line p 0 e (omega arith) q (λ z. omega (arith, head .some, whole .lines, ap length (frames-none p 0 e q z)))
+  from-0 : 0 + length l ≡ length l
+  from-0 = omega arith
 
-  behind : framesOf p ≡ bytesOf (take (e - 0) p) ∷ framesOf (drop (e + 1) p)
-  behind = frames-step p 0 e header
+  -- an accepted plan has a line
+  more : 0 + length l ≡ length p → ⊥
+  more z = omega (arith, head .some, whole .lines, ap length (taken-none p l 0 (omega arith) q z))
+
+  header : Line p 0 (length l)
+  header = rw from-0 at (taken-line p l 0 (omega arith) q more)
+
+  behind : framesOf p ≡ bytesOf l ∷ framesOf (drop (length l + 1) p)
+  behind = rw from-0 at (taken-step p l 0 (omega arith) q more)
 
   sized-blank : Sized B R O
   unfolding blank
   sized-blank = record { bound = ap length (s .bound); picked = ap length (s .picked); ops = ap length (s .ops) }
 
-  pub walking-none : Walking p F G B R O B R O (e + 1) 1
+  pub walking-none : Walking p F G B R O B R O (length l + 1) 1
   unfolding planSteps
   walking-none = record {
     began = sized-blank;
@@ -105,8 +112,8 @@ module _ (p F G : List ℕ) (B R : Bound) (O : List ℕ) (s : Starting p B R O F
     within = omega (arith, header .within);
     sized = sized-blank;
     each = λ i h.
-        let l : suc i < s .lines = omega (arith, whole .lines, ap length behind) in
-        rw behind at (targeted (countsOf Plan p (s .counted)) (head .header .variables) (getD (framesOf p) (suc i) []) (whole .named (suc i) l .range));
+        let m : suc i < s .lines = omega (arith, whole .lines, ap length behind) in
+        rw behind at (targeted (countsOf Plan p (s .counted)) (head .header .variables) (getD (framesOf p) (suc i) []) (whole .named (suc i) m .range));
     is = λ tb d. rw (behind, s .bound, s .picked, s .ops);
   }
 
@@ -125,21 +132,24 @@ module _ (p F G : List ℕ) (B₀ R₀ : Bound) (O₀ : List ℕ) (B R : Bound) 
   pub steps-end : length p ≤ at → StepsTested p F G NoFault
   steps-end h = ended (frames-end p at h)
 
-  module _ (e : ℕ) (q : e ≡ endOf at (drop at p)) where
-    pub steps-none : e ≡ length p → StepsTested p F G NoFault
-    steps-none h = ended (frames-none p at e q h)
+  module _ (l : List ℕ) (q : l ≡ lineAt p at) where
+    abbrev e : ℕ
+    e = at + length l
 
-    module _ (h : e ≡ length p → ⊥) where
+    pub steps-none : at + length l ≡ length p → StepsTested p F G NoFault
+    steps-none h = ended (taken-none p l at (s .within) q h)
+
+    module _ (h : at + length l ≡ length p → ⊥) where
       line : Line p at e
-      line = walk-line p at e (s .within) q h
+      line = taken-line p l at (s .within) q h
 
       abbrev frame : List ℕ
-      frame = bytesOf (take (e - at) (drop at p))
+      frame = bytesOf l
 
       next : framesOf (drop at p) ≡ frame ∷ framesOf (drop (e + 1) p)
-      next = frames-step p at e line
+      next = taken-step p l at (s .within) q h
 
-      module _ (v : ℕ) (w : (tb : Table) → Described tb F G → v ≡ stepFault tb B R O (stepOf (bytesOf (take (e - at) (drop at p))))) where
+      module _ (v : ℕ) (w : (tb : Table) → Described tb F G → v ≡ stepFault tb B R O (stepOf (bytesOf l))) where
         says : (tb : Table) → Described tb F G → stepsPass tb (planSteps p) ≡ ofFault plan v n (stepsFrom tb (boundBy (stepOf frame) B) (pickedBy (stepOf frame) R) (opsBy (stepOf frame) O) (suc n) (map stepOf (framesOf (drop (e + 1) p))))
         unfolding stepsFrom
         says tb d = s .is tb d ∙ rw (next, ← w tb d)
@@ -148,19 +158,19 @@ module _ (p F G : List ℕ) (B₀ R₀ : Bound) (O₀ : List ℕ) (B R : Bound) 
         steps-refused z = record { is = λ tb d. sym (says tb d ∙ fault-stops plan v n _ z ∙ rw (add-one n)) }
 
         module _ (z : v ≡ 0) where
-          pub step-markable : (tb : Table) → Described tb F G → Markable (bytesOf (take (e - at) (drop at p))) B R O
+          pub step-markable : (tb : Table) → Described tb F G → Markable (bytesOf l) B R O
           step-markable tb d = record {
             runs = runs tb B R O frame (sym z ∙ w tb d);
             target = rw next at (s .each 0 (omega (arith, ap length next)));
             sized = s .sized;
           }
 
-          pub walking-again : (C S : Bound) (Q : List ℕ) → Stepped (bytesOf (take (e - at) (drop at p))) B R O C S Q → Walking p F G B₀ R₀ O₀ C S Q (e + 1) (n + 1)
+          pub walking-again : (C S : Bound) (Q : List ℕ) → Stepped (bytesOf l) B R O C S Q → Walking p F G B₀ R₀ O₀ C S Q (at + length l + 1) (n + 1)
           walking-again C S Q m = record {
             began = s .began;
             few = omega (arith, s .few, line .from);
             within = omega (arith, line .within);
             sized = m .sized;
-            each = λ i l. rw next at (s .each (suc i) (omega (arith, ap length next)));
+            each = λ i j. rw next at (s .each (suc i) (omega (arith, ap length next)));
             is = λ tb d. says tb d ∙ rw (z, add-one n, m .bound, m .picked, m .ops);
           }

@@ -1,5 +1,5 @@
 -- The shapes of the table's operators, row by row. Proved from the walk over a text's frames.
-use Prim.Native.Nat.{ℕ, zero, suc, _+_, _-_, _*_, _<_, _≤_}
+use Prim.Native.Nat.{ℕ, zero, suc, _+_, _*_, _<_, _≤_}
 use mathlib.Core.Path.{_≡_, refl, sym, _∙_}
 use mathlib.Core.Bool.{Bool, true, false, not, _&&_, _||_, and-true, and-self, and-assoc}
 use mathlib.Core.List.{List, [], _∷_, _++_, append-assoc, append-nil}
@@ -7,18 +7,18 @@ use native.Mathlib.Omega.{arith}
 use native.Mathlib.Decide.{ℕ-discrete}
 use native.Mathlib.Numerals.{add-one}
 use lib.Dec.{eqb}
-use lib.ListN.{length, getD, take, drop, set, replicate, length-set}
+use lib.ListN.{length, getD, drop, set, replicate, length-set}
 use lib.Seq.{getD-set-same, getD-set-other}
 use borrow.Author.Tests.{eq-eqb, ne-eqb, not-true, not-false, eqb-true}
 use Rattle.base.specs.Choose.{pick}
 use Rattle.base.specs.Lists.{blank-at}
 use Rattle.hex.specs.Digits.{bytesOf, shortAt}
 use Rattle.hex.specs.Bytes.{byte-at, digits-bytes}
-use Rattle.hex.specs.Lines.{endOf}
+use Rattle.hex.specs.Lines.{lineAt}
 use Rattle.hex.specs.Cuts.{Line}
 use Rattle.frames.specs.Kinds.{table}
 use Rattle.frames.specs.First.{framesOf, isRow}
-use Rattle.reading.specs.Walk.{walk-line, frames-step, frames-none, frames-end}
+use Rattle.reading.specs.Walk.{taken-none, taken-line, taken-step, frames-end}
 use Rattle.model.specs.Atoms.{Row, Node, Literal, opOf}
 use Rattle.model.specs.Refusing.{allRows}
 use Rattle.plans.specs.StepFrames.{itemsAt}
@@ -151,40 +151,46 @@ module _ (t F₀ F : List ℕ) (at n : ℕ) (s : Noting t F₀ F at n) where
   pub noted-end : length t ≤ at → TableNoted t NoFault F
   noted-end h = ended (frames-end t at h)
 
-  module _ (e : ℕ) (p : e ≡ endOf at (drop at t)) where
-    pub noted-none : e ≡ length t → TableNoted t NoFault F
-    noted-none h = ended (frames-none t at e p h)
+  module _ (l : List ℕ) (p : l ≡ lineAt t at) where
+    abbrev e : ℕ
+    e = at + length l
 
-    module _ (h : e ≡ length t → ⊥) where
+    pub noted-none : at + length l ≡ length t → TableNoted t NoFault F
+    noted-none h = ended (taken-none t l at (s .within) p h)
+
+    module _ (h : at + length l ≡ length t → ⊥) where
       line : Line t at e
-      line = walk-line t at e (s .within) p h
+      line = taken-line t l at (s .within) p h
 
       abbrev frame : List ℕ
-      frame = bytesOf (take (e - at) (drop at t))
+      frame = bytesOf l
 
-      module _ (v : ℕ) (G : List ℕ) (w : RowNoted (bytesOf (take (e - at) (drop at t))) F v G) where
+      next : framesOf (drop at t) ≡ frame ∷ framesOf (drop (e + 1) t)
+      next = taken-step t l at (s .within) p h
+
+      module _ (v : ℕ) (G : List ℕ) (w : RowNoted (bytesOf l) F v G) where
         same-fault : v ≡ rowFault (s .earlier) frame
         same-fault = w .fault ∙ fault-same F (s .earlier) (s .shaped) frame
 
         says : shapesFrom [] 0 (framesOf t) ≡ ofFault table v n (shapesFrom (withRow (s .earlier) frame) (suc n) (framesOf (drop (e + 1) t)))
         unfolding shapesFrom
-        says = s .is ∙ rw (frames-step t at e line, ← same-fault)
+        says = s .is ∙ rw (next, ← same-fault)
 
         rows-more : rowsIn (framesOf t) ≡ withRow (s .earlier) frame ++ rowsIn (framesOf (drop (e + 1) t))
         unfolding rowsIn
-        rows-more = s .rows ∙ rw (frames-step t at e line) (by (isRow (getD frame 0 0)))
+        rows-more = s .rows ∙ rw next (by (isRow (getD frame 0 0)))
           where
             by : (b : Bool) → s .earlier ++ pick b (rowOf frame ∷ rowsIn (framesOf (drop (e + 1) t))) (rowsIn (framesOf (drop (e + 1) t))) ≡ pick b (s .earlier ++ rowOf frame ∷ []) (s .earlier) ++ rowsIn (framesOf (drop (e + 1) t))
             by true = sym (append-assoc (s .earlier) (rowOf frame ∷ []) (rowsIn (framesOf (drop (e + 1) t))))
             by false = refl
 
-        pub noting-again : v ≡ 0 → Noting t F₀ G (e + 1) (n + 1)
+        pub noting-again : v ≡ 0 → Noting t F₀ G (at + length l + 1) (n + 1)
         noting-again z = record {
           earlier = withRow (s .earlier) frame;
           size = w .size ∙ s .size;
           few = omega (arith, s .few, line .from);
           within = omega (arith, line .within);
-          shaped = rw (w .shapes) (noted-same F (s .earlier) (s .shaped) frame (byte-at frame (digits-bytes (take (e - at) (drop at t))) 3) (sym (w .fault) ∙ z));
+          shaped = rw (w .shapes) (noted-same F (s .earlier) (s .shaped) frame (byte-at frame (digits-bytes l) 3) (sym (w .fault) ∙ z));
           rows = rows-more;
           is = says ∙ rw (z, add-one n);
         }

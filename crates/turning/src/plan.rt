@@ -4,7 +4,7 @@ ghost use Rattle.turning.specs.Plans.{Starting, StepsTested};
 use super::marks::step_marks;
 use super::shapes::Turned;
 use super::steps::step_fault;
-use hex::line_end;
+use hex::reader::line_from;
 
 // The steps in turn: the line of the first fault.
 pub fn steps_fault(
@@ -18,19 +18,21 @@ pub fn steps_fault(
     requires { ⌜ Starting (now plan) (now bound) (now picked) (now ops) (now shapes) (now globals) ⌝ }
     ensures { λ r. ⌜ StepsTested (now (plan .entry)) (now (shapes .entry)) (now (globals .entry)) r ⌝ }
 {
-    let mut at: usize = line_end(plan, 0) + 1;
+    let header = line_from(plan, 0);
+    let mut at: usize = header.len() + 1;
     let mut n: usize = 1;
     while at < plan.len() {
-        let e = line_end(plan, at);
+        let line = line_from(plan, at);
+        let e = at + line.len();
         if e == plan.len() {
             return Turned::Passed;
         }
-        let fault = step_fault(&plan[at..e], bound, picked, ops, shapes, globals);
+        let fault = step_fault(line, bound, picked, ops, shapes, globals);
         n += 1;
         if fault != 0 {
             return Turned::TurnedBack(fault, 1, n);
         }
-        step_marks(&plan[at..e], bound, picked, ops);
+        step_marks(line, bound, picked, ops);
         at = e + 1;
     }
     Turned::Passed

@@ -9,7 +9,7 @@ ghost use Rattle.running.specs.Tables.{rowOf};
 ghost use Rattle.turning.specs.Shapes.{shapeOf, fitsShape, RowNoted, TableNoted};
 use frames::fields::wide;
 use hex::byte_at;
-use hex::line_end;
+use hex::reader::line_from;
 
 // What the tests find.
 pub enum Turned {
@@ -69,11 +69,12 @@ pub fn shapes_fault(table: &[u8], shapes: &mut [usize]) -> Turned
     let mut at: usize = 0;
     let mut n: usize = 0;
     while at < table.len() {
-        let e = line_end(table, at);
+        let line = line_from(table, at);
+        let e = at + line.len();
         if e == table.len() {
             return Turned::Passed;
         }
-        let fault = row_fault(&table[at..e], shapes);
+        let fault = row_fault(line, shapes);
         n += 1;
         if fault != 0 {
             return Turned::TurnedBack(fault, 2, n);

@@ -1,8 +1,9 @@
 -- `turning::plan::steps_fault` meets its contract: the lines left give what all lines give.
 use borrow.Author.Needs.{needs}
 use Prim.Native.Nat.{_-_}
+use native.Mathlib.Omega.{arith}
 use lib.ListN.{length}
-use Rattle.reading.specs.Walk.{line-from, line-within, line-less}
+use Rattle.reading.specs.Walk.{taken-within, taken-less}
 use Rattle.turning.proofs.PlanLaws.{Walking, walking-none, steps-none, steps-refused, step-markable, walking-again, steps-end}
 use Rattle.turning.proofs.plan.steps_fault.Statement.{statement}
 use Rattle.turning.proofs.plan.steps_fault.Tie as tie
@@ -13,17 +14,20 @@ Inv-loop plan bound₀ picked₀ ops₀ shapes globals at₀ n₀ bound picked o
 abbrev μ-loop : tie.MeasureT-loop
 μ-loop plan bound₀ picked₀ ops₀ shapes globals at₀ n₀ bound picked ops at n = length plan - at
 
-line-end-requires : tie.Need-line-end-requires Inv-loop μ-loop
-line-end-requires c κs = search needs
+line-from-requires : tie.Need-line-from-requires Inv-loop μ-loop
+line-from-requires c κs = search needs
 
 add-at : tie.Need-add-at Inv-loop μ-loop
-add-at c = search needs
+add-at c = omega (arith, taken-within (c .before .before .before .before .before .before .before .args .plan .now) _ 0 (omega arith) (c .line-from .ensures), c .before .before .before .before .before .before .before .good)
 
 loop-holds : tie.Need-loop-holds Inv-loop μ-loop
 loop-holds c = search walking-none
 
-line-end-requires-2 : tie.Need-line-end-requires-2 Inv-loop μ-loop
-line-end-requires-2 c κs = search needs
+line-from-requires-2 : tie.Need-line-from-requires-2 Inv-loop μ-loop
+line-from-requires-2 c κs = search needs
+
+add-e : tie.Need-add-e Inv-loop μ-loop
+add-e c = omega (arith, taken-within _ _ _ (c .before .before .loop .inv .within) (c .line-from2 .ensures), c .before .before .before .before .before .before .before .before .before .before .good)
 
 same-length : tie.Need-same-length Inv-loop μ-loop
 same-length c = search needs
@@ -36,15 +40,6 @@ same-length-3 c = search needs
 
 returns : tie.Need-returns Inv-loop μ-loop
 returns c = search steps-none
-
-sub-step-fault : tie.Need-sub-step-fault Inv-loop μ-loop
-sub-step-fault c = search line-from
-
-part-step-fault-start : tie.Need-part-step-fault-start Inv-loop μ-loop
-part-step-fault-start c = search line-from
-
-part-step-fault-end : tie.Need-part-step-fault-end Inv-loop μ-loop
-part-step-fault-end c = search line-within
 
 step-fault-requires : tie.Need-step-fault-requires Inv-loop μ-loop
 step-fault-requires c κs = search needs
@@ -64,15 +59,6 @@ same-length-6 c = search needs
 returns-2 : tie.Need-returns-2 Inv-loop μ-loop
 returns-2 c = search steps-refused
 
-sub-step-marks : tie.Need-sub-step-marks Inv-loop μ-loop
-sub-step-marks c = search line-from
-
-part-step-marks-start : tie.Need-part-step-marks-start Inv-loop μ-loop
-part-step-marks-start c = search line-from
-
-part-step-marks-end : tie.Need-part-step-marks-end Inv-loop μ-loop
-part-step-marks-end c = search line-within
-
 step-marks-requires : tie.Need-step-marks-requires Inv-loop μ-loop
 step-marks-requires c κs = search step-markable
 
@@ -80,7 +66,7 @@ add-at-2 : tie.Need-add-at-2 Inv-loop μ-loop
 add-at-2 c = search needs
 
 loop-less : tie.Need-loop-less Inv-loop μ-loop
-loop-less c = search line-less
+loop-less c = search taken-less
 
 loop-again : tie.Need-loop-again Inv-loop μ-loop
 loop-again c = search walking-again
@@ -103,26 +89,21 @@ steps-fault-spec =
     (tie.spec
     Inv-loop
     μ-loop
-    line-end-requires
+    line-from-requires
     add-at
     loop-holds
-    line-end-requires-2
+    line-from-requires-2
+    add-e
     same-length
     same-length-2
     same-length-3
     returns
-    sub-step-fault
-    part-step-fault-start
-    part-step-fault-end
     step-fault-requires
     add-n
     same-length-4
     same-length-5
     same-length-6
     returns-2
-    sub-step-marks
-    part-step-marks-start
-    part-step-marks-end
     step-marks-requires
     add-at-2
     loop-less

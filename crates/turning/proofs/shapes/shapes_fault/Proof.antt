@@ -1,8 +1,9 @@
 -- `turning::shapes::shapes_fault` meets its contract: the lines left, after the earlier rows, give what all lines give.
 use borrow.Author.Needs.{needs}
 use Prim.Native.Nat.{_-_}
+use native.Mathlib.Omega.{arith}
 use lib.ListN.{length}
-use Rattle.reading.specs.Walk.{line-from, line-within, line-less}
+use Rattle.reading.specs.Walk.{taken-within, taken-less}
 use Rattle.turning.proofs.ShapeLaws.{Noting, noting-none, noted-none, noted-refused, noting-again, noted-end}
 use Rattle.turning.proofs.shapes.shapes_fault.Statement.{statement}
 use Rattle.turning.proofs.shapes.shapes_fault.Tie as tie
@@ -16,23 +17,17 @@ abbrev μ-loop : tie.MeasureT-loop
 loop-holds : tie.Need-loop-holds Inv-loop μ-loop
 loop-holds c = search noting-none
 
-line-end-requires : tie.Need-line-end-requires Inv-loop μ-loop
-line-end-requires c κs = search needs
+line-from-requires : tie.Need-line-from-requires Inv-loop μ-loop
+line-from-requires c κs = search needs
+
+add-e : tie.Need-add-e Inv-loop μ-loop
+add-e c = omega (arith, taken-within _ _ _ (c .before .before .loop .inv .within) (c .line-from .ensures), c .before .before .before .before .before .good)
 
 same-length : tie.Need-same-length Inv-loop μ-loop
 same-length c = search needs
 
 returns : tie.Need-returns Inv-loop μ-loop
 returns c = search noted-none
-
-sub-row-fault : tie.Need-sub-row-fault Inv-loop μ-loop
-sub-row-fault c = search line-from
-
-part-row-fault-start : tie.Need-part-row-fault-start Inv-loop μ-loop
-part-row-fault-start c = search line-from
-
-part-row-fault-end : tie.Need-part-row-fault-end Inv-loop μ-loop
-part-row-fault-end c = search line-within
 
 row-fault-requires : tie.Need-row-fault-requires Inv-loop μ-loop
 row-fault-requires c κs = search needs
@@ -50,7 +45,7 @@ add-at : tie.Need-add-at Inv-loop μ-loop
 add-at c = search needs
 
 loop-less : tie.Need-loop-less Inv-loop μ-loop
-loop-less c = search line-less
+loop-less c = search taken-less
 
 loop-again : tie.Need-loop-again Inv-loop μ-loop
 loop-again c = search noting-again
@@ -68,12 +63,10 @@ shapes-fault-spec =
     Inv-loop
     μ-loop
     loop-holds
-    line-end-requires
+    line-from-requires
+    add-e
     same-length
     returns
-    sub-row-fault
-    part-row-fault-start
-    part-row-fault-end
     row-fault-requires
     add-n
     same-length-2
