@@ -1,18 +1,16 @@
 -- The second reading, a test and a line at a time. Assumes nothing.
 use Prim.Native.Nat.{ℕ, suc, _+_, _-_, _*_, _<_, _≤_}
-use mathlib.Core.Path.{_≡_, refl, sym, _∙_, ap, subst}
+use mathlib.Core.Path.{_≡_, refl, sym, _∙_, ap}
 use mathlib.Core.Bool.{Bool, true, false, not}
 use mathlib.Core.List.{List, [], _∷_, _++_, append-nil}
 use native.Mathlib.Numerals.{add-one}
 use native.Mathlib.Omega.{arith}
-use lib.ListN.{length, take, drop, length-drop}
-use lib.Seq.{length-take-le}
+use lib.ListN.{length, take, drop}
 use lib.Dec.{eqb}
 use borrow.Author.Tests.{eqb-false, not-true, not-false}
 use Rattle.hex.specs.Digits.{bytesOf}
 use Rattle.hex.specs.Bytes.{bytes-length}
-use Rattle.hex.specs.Lines.{split, endOf, lineAt}
-use Rattle.hex.specs.Cuts.{Line}
+use Rattle.hex.specs.Lines.{split, lineAt}
 use Rattle.base.specs.Choose.{pick}
 use Rattle.frames.specs.Limits.{textMost, atomsMost}
 use Rattle.frames.specs.Fields.{fieldPasses}
@@ -25,7 +23,7 @@ use Rattle.frames.specs.declared.first.Text.the-variants.{Query, Plan}
 use Rattle.frames.specs.declared.first.Reading.{Reading}
 use Rattle.frames.specs.declared.first.Reading.the-variants.{Accepted, Refused}
 use Rattle.reading.specs.Keys.{keyGiven}
-use Rattle.reading.specs.Walk.{taken-ends, taken-is, taken-within, taken-less, walk-line, line-less, frames-step, frames-none, frames-end, frames-before, frames-split, lines-before}
+use Rattle.reading.specs.Walk.{frames-end, frames-split, taken-within, taken-none, taken-line, taken-less, taken-step, taken-before, frames-before}
 use Rattle.reading.specs.Second.{headerCounts, countsOf, faultOf, secondFault, secondFrom, reading}
 use Rattle.reading.specs.Index.{givenBy, noted, entriesWith, Noting, Indexes, Indexed}
 use Rattle.reading.specs.IndexedReading.{indexSize, Blank, Framed, FirstRead, Rereads, ReadIndexed}
@@ -87,30 +85,26 @@ module _ (n : Counts) (x : List ℕ) (a : Reading) (at k : ℕ) (s : Reread n x 
   unfolding secondFrom
   all-read h = sym (s .is ∙ rw (frames-end x at h))
 
-  module _ (e : ℕ) (p : e ≡ endOf at (drop at x)) where
-    pub none-left : e ≡ length x → a ≡ secondFrom n [] 0 (framesOf x) a
+  module _ (l : List ℕ) (taken : l ≡ lineAt x at) where
+    pub none-left : at + length l ≡ length x → a ≡ secondFrom n [] 0 (framesOf x) a
     unfolding secondFrom
-    none-left z = sym (s .is ∙ rw (frames-none x at e p z))
+    none-left z = sym (s .is ∙ rw (taken-none x l at (s .within) taken z))
 
-    module _ (z : e ≡ length x → ⊥) where
-      line : Line x at e
-      line = walk-line x at e (s .within) p z
+    module _ (z : at + length l ≡ length x → ⊥) (v : ℕ) (q : v ≡ secondFault n (framesOf (take at x)) (bytesOf l)) where
+      line-says : secondFrom n [] 0 (framesOf x) a ≡ orElse v k (secondFrom n (framesOf (take at x) ++ bytesOf l ∷ []) (suc k) (framesOf (drop (at + length l + 1) x)) a)
+      unfolding secondFrom
+      line-says = s .is ∙ rw (taken-step x l at (s .within) taken z, ← q)
 
-      module _ (v : ℕ) (q : v ≡ secondFault n (framesOf (take at x)) (bytesOf (take (e - at) (drop at x)))) where
-        line-says : secondFrom n [] 0 (framesOf x) a ≡ orElse v k (secondFrom n (framesOf (take at x) ++ bytesOf (take (e - at) (drop at x)) ∷ []) (suc k) (framesOf (drop (e + 1) x)) a)
-        unfolding secondFrom
-        line-says = s .is ∙ rw (frames-step x at e line, ← q)
+      pub read-again : v ≡ 0 → Reread n x a (at + length l + 1) (k + 1)
+      read-again g = record {
+        few = omega (arith, s .few);
+        within = omega (arith, taken-line x l at (s .within) taken z .within);
+        whole = rw (taken-before x l at (s .within) taken z (s .whole));
+        is = line-says ∙ rw (g, frames-before x l at (s .within) taken z (s .whole), add-one k);
+      }
 
-        pub read-again : v ≡ 0 → Reread n x a (e + 1) (k + 1)
-        read-again g = record {
-          few = omega (arith, s .few, line .from);
-          within = omega (arith, line .within);
-          whole = rw (lines-before x at e (s .whole) line);
-          is = line-says ∙ rw (g, frames-before x at e (s .whole) line, add-one k);
-        }
-
-        pub line-refused : (v ≡ 0 → ⊥) → Refused v (k + 1) ≡ secondFrom n [] 0 (framesOf x) a
-        line-refused g = sym (line-says ∙ or-stops v k _ g ∙ rw (add-one k))
+      pub line-refused : (v ≡ 0 → ⊥) → Refused v (k + 1) ≡ secondFrom n [] 0 (framesOf x) a
+      line-refused g = sym (line-says ∙ or-stops v k _ g ∙ rw (add-one k))
 
 -- ---- the lines with their index
 
@@ -148,87 +142,63 @@ module _ (n : Counts) (x : List ℕ) (a : Reading) (i₀ i : List ℕ) (at k m :
   pub noting : Noting i at m
   noting = record { room = omega (arith, s .room, s .few, s .read .within); place = omega (arith, s .size, s .read .within); few = omega (arith, s .size, s .few, s .read .within) }
 
-  module _ (e : ℕ) (p : e ≡ endOf at (drop at x)) where
-    pub none-indexed : e ≡ length x → Rereads n x a i a
-    none-indexed z = record { is = none-left n x a at k (s .read) e p z; indexed = λ b c q. indexed-all (frames-none x at e p z) }
-
-    module _ (z : e ≡ length x → ⊥) (v : ℕ) (q : v ≡ faultOf n (bytesOf (take (e - at) (drop at x))) (givenBy x i (bytesOf (take (e - at) (drop at x))))) where
-      abbrev f : List ℕ
-      f = bytesOf (take (e - at) (drop at x))
-
-      l : Line x at e
-      l = walk-line x at e (s .read .within) p z
-
-      framed-here : length f ≡ frameLength f
-      framed-here = rw (frames-step x at e l) at (s .framed) 0 (omega arith)
-
-      given-here : givenBy x i f ≡ keyGiven (framesOf (take at x)) f
-      given-here = given-is x i f (framesOf (take at x)) m (s .index) (λ h. keyed-long f framed-here h .counts)
-
-      fault-here : v ≡ secondFault n (framesOf (take at x)) f
-      unfolding secondFault
-      fault-here = q ∙ rw given-here
-
-      pub refused-indexed : (v ≡ 0 → ⊥) → Rereads n x a i (Refused v (k + 1))
-      refused-indexed g = record {
-        is = line-refused n x a at k (s .read) e p z v fault-here g;
-        indexed = λ b c h. let y : _≡_ {A = ℕ} 0 1 = cc in absurd (omega arith);
-      }
-
-      line-length : length (take (e - at) (drop at x)) ≡ e - at
-      line-length = length-take-le (e - at) (drop at x) (omega (arith, length-drop at x, l .within, l .from))
-
-      few-still : entriesWith f m * 7 ≤ e + 1
-      few-still = go (eqb (kindOf f .key) 0) refl
-        where
-          go : (b : Bool) → eqb (kindOf f .key) 0 ≡ b → pick b m (m + 1) * 7 ≤ e + 1
-          go true h = omega (arith, s .few, l .from)
-          go false h =
-              let w = keyed-long f framed-here (eqb-false (kindOf f .key) 0 h) .three in
-              omega (arith, s .few, l .from, line-length, bytes-length (take (e - at) (drop at x)))
-
-      pub reread-again : v ≡ 0 → (j : List ℕ) (m′ : ℕ) → j ≡ noted i f at m → m′ ≡ entriesWith f m → Rereading n x a i₀ j (e + 1) (k + 1) m′
-      reread-again g j m′ u w =
-          let new : keyGiven (framesOf (take at x)) f ≡ false = sym given-here ∙ fresh-key n f (givenBy x i f) (sym q ∙ g) in
-          let o : length j ≡ length i = ap length u ∙ noted-length i f at m in
-          record {
-            read = read-again n x a at k (s .read) e p z v fault-here g;
-            index = rw (u, w, frames-before x at e (s .read .whole) l) (noted-line x i f (framesOf (take at x)) at m (s .index) (noting .room) (rw (← p)) new);
-            few = rw w few-still;
-            framed = λ d h. rw (frames-step x at e l) at (s .framed) (suc d) (omega arith);
-            size = s .size;
-            room = rw o (s .room);
-            same = o ∙ s .same;
-          }
-
   -- the line l that the reader takes at `at`
   module _ (l : List ℕ) (taken : l ≡ lineAt x at) where
-    line-end : at + length l ≡ endOf at (drop at x)
-    line-end = taken-ends x l at (s .read .within) taken
-
-    line-is : l ≡ take (at + length l - at) (drop at x)
-    line-is = taken-is x l at (s .read .within) taken
-
     pub end-fits : at + length l ≤ length x
     end-fits = taken-within x l at (s .read .within) taken
 
     pub no-end : at + length l ≡ length x → Rereads n x a i a
-    no-end = none-indexed (at + length l) line-end
+    no-end z = record { is = none-left n x a at k (s .read) l taken z; indexed = λ b c q. indexed-all (taken-none x l at (s .read .within) taken z) }
 
     module _ (z : at + length l ≡ length x → ⊥) where
       pub next-less : length x - (at + length l + 1) < length x - at
       next-less = taken-less x l at (s .read .within) taken z
 
+      step : framesOf (drop at x) ≡ bytesOf l ∷ framesOf (drop (at + length l + 1) x)
+      step = taken-step x l at (s .read .within) taken z
+
       module _ (v : ℕ) (q : v ≡ faultOf n (bytesOf l) (givenBy x i (bytesOf l))) where
-        same-fault : v ≡ faultOf n (bytesOf (take (at + length l - at) (drop at x))) (givenBy x i (bytesOf (take (at + length l - at) (drop at x))))
-        same-fault = subst (λ (y : List ℕ). v ≡ faultOf n (bytesOf y) (givenBy x i (bytesOf y))) line-is q
+        abbrev f : List ℕ
+        f = bytesOf l
+
+        framed-here : length f ≡ frameLength f
+        framed-here = rw step at (s .framed) 0 (omega arith)
+
+        given-here : givenBy x i f ≡ keyGiven (framesOf (take at x)) f
+        given-here = given-is x i f (framesOf (take at x)) m (s .index) (λ h. keyed-long f framed-here h .counts)
+
+        fault-here : v ≡ secondFault n (framesOf (take at x)) f
+        unfolding secondFault
+        fault-here = q ∙ rw given-here
 
         pub line-turned-back : (v ≡ 0 → ⊥) → Rereads n x a i (Refused v (k + 1))
-        line-turned-back = refused-indexed (at + length l) line-end z v same-fault
+        line-turned-back g = record {
+          is = line-refused n x a at k (s .read) l taken z v fault-here g;
+          indexed = λ b c h. let y : _≡_ {A = ℕ} 0 1 = cc in absurd (omega arith);
+        }
+
+        few-still : entriesWith f m * 7 ≤ at + length l + 1
+        few-still = go (eqb (kindOf f .key) 0) refl
+          where
+            go : (b : Bool) → eqb (kindOf f .key) 0 ≡ b → pick b m (m + 1) * 7 ≤ at + length l + 1
+            go true h = omega (arith, s .few)
+            go false h =
+                let w = keyed-long f framed-here (eqb-false (kindOf f .key) 0 h) .three in
+                omega (arith, s .few, bytes-length l)
 
         pub line-entered : v ≡ 0 → (j : List ℕ) (m′ : ℕ) → j ≡ noted i (bytesOf l) at m → m′ ≡ entriesWith (bytesOf l) m → Rereading n x a i₀ j (at + length l + 1) (k + 1) m′
         line-entered g j m′ u w =
-            reread-again (at + length l) line-end z v same-fault g j m′ (u ∙ ap (λ (y : List ℕ). noted i (bytesOf y) at m) line-is) (w ∙ ap (λ (y : List ℕ). entriesWith (bytesOf y) m) line-is)
+            let new : keyGiven (framesOf (take at x)) f ≡ false = sym given-here ∙ fresh-key n f (givenBy x i f) (sym q ∙ g) in
+            let o : length j ≡ length i = ap length u ∙ noted-length i f at m in
+            record {
+              read = read-again n x a at k (s .read) l taken z v fault-here g;
+              index = rw (u, w, frames-before x l at (s .read .within) taken z (s .read .whole)) (noted-line x i f (framesOf (take at x)) at m (s .index) (noting .room) (rw taken) new);
+              few = rw w few-still;
+              framed = λ d h. rw step at (s .framed) (suc d) (omega arith);
+              size = s .size;
+              room = rw o (s .room);
+              same = o ∙ s .same;
+            }
 
 -- ---- the whole
 
