@@ -162,7 +162,7 @@ pub fn hex_line(text: &[u8], at: usize) -> Found
 }
 
 // The place of the first 0a from `at` on, or the text's length.
-pub fn line_end(text: &[u8], at: usize) -> usize
+fn line_end(text: &[u8], at: usize) -> usize
     requires { ⌜ at ≤ length (now text) ⌝ }
     ensures { λ r. ⌜ (r ≡ endOf at (drop at (now (text .entry)))) × (r ≤ length (now (text .entry))) ⌝ }
 {
