@@ -4,9 +4,10 @@ use mathlib.Core.Path.{_≡_, refl, sym, ap, _∙_}
 use mathlib.Core.List.{List}
 use native.Mathlib.Omega.{arith}
 use borrow.Author.Tests.{ne-eqb, lt-ltb, le-ltb}
-use lib.ListN.{length, take, getD}
+use lib.ListN.{length, getD}
 use Rattle.hex.specs.Digits.{bytesOf}
-use Rattle.hex.specs.Lines.{endOf}
+use Rattle.hex.specs.Lines.{lineAt}
+use Rattle.frames.specs.First.{first-line}
 use Rattle.running.specs.Run.{Replies}
 use Rattle.writing.specs.Written.{written, Puts}
 use Rattle.runner.specs.Entries.{textIn}
@@ -29,15 +30,15 @@ module _ (x y o : List ℕ) (e : x ≡ y) where
   placed-all : (q : List ℕ) → length y ≤ length o → q ≡ written o 0 y → q ≡ placed x o
   placed-all q h w = rw (e, le-ltb _ _ h) w
 
-module _ (p o : List ℕ) (e n m need : ℕ) (env : Env) (a : e ≡ endOf 0 p) (b : n ≡ getD (bytesOf (take e p)) 1 0) (c : m ≡ getD (bytesOf (take e p)) 3 0) (d : need ≡ 3 + 4 * n + 10 * m) where
+module _ (p h o : List ℕ) (n m need : ℕ) (env : Env) (a : h ≡ lineAt p 0) (b : n ≡ getD (bytesOf h) 1 0) (c : m ≡ getD (bytesOf h) 3 0) (d : need ≡ 3 + 4 * n + 10 * m) where
   text-same : (t : List ℕ) → textIn p (envOf t env) ≡ textBy n m (envOf t env)
-  text-same t = rw (b, c, a)
+  text-same t = rw (b, c, a, first-line p)
 
   pub no-room : length o < need → (t : List ℕ) → o ≡ placed (textIn p (envOf t env)) o
-  no-room h t = placed-not _ _ o (text-same t) (omega (arith, text-length n m (envOf t env)))
+  no-room g t = placed-not _ _ o (text-same t) (omega (arith, text-length n m (envOf t env)))
 
   pub has-room : need ≤ length o → (q : List ℕ) (r : ℕ) → ((t : List ℕ) → Puts o 0 (textBy n m (envOf t env)) q r) → (t : List ℕ) → q ≡ placed (textIn p (envOf t env)) o
-  has-room h q r w t = placed-all _ _ o (text-same t) q (omega (arith, text-length n m (envOf t env))) (w t .is)
+  has-room g q r w t = placed-all _ _ o (text-same t) q (omega (arith, text-length n m (envOf t env))) (w t .is)
 
 -- ---- the reply
 

@@ -10,7 +10,7 @@ use super::runs::refusal;
 use entries::some::Reply;
 use entries::some::some_match;
 use hex::byte_at;
-use hex::line_end;
+use hex::reader::line_from;
 use runner::env::Env;
 use runner::lines::line_length;
 use runner::lines::write_match;
@@ -19,8 +19,7 @@ use runner::lines::write_match;
 fn place_line(plan: &[u8], env: Env, out: &mut [u8])
     ensures { λ r. ⌜ ((t : List ℕ) → now (out .exit) ≡ placed (textIn (now (plan .entry)) (envOf t env)) (now (out .entry))) ⌝ }
 {
-    let e = line_end(plan, 0);
-    let header = &plan[..e];
+    let header = line_from(plan, 0);
     let n = byte_at(header, 1);
     let m = byte_at(header, 3);
     let need = line_length(n, m);

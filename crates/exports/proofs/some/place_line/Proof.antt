@@ -1,16 +1,11 @@
 -- `exports::some::place_line` meets its contract: by the room that the line needs.
-use mathlib.Core.Path.{sym}
-use lib.Seq.{length-take-le}
 use Rattle.exports.proofs.ReplyLaws.{no-room, has-room}
 use borrow.Author.Needs.{needs}
 use Rattle.exports.proofs.some.place_line.Statement.{statement}
 use Rattle.exports.proofs.some.place_line.Tie as tie
 
-line-end-requires : tie.Need-line-end-requires
-line-end-requires c κs = search needs
-
-slice-aggregate-header : tie.Need-slice-aggregate-header
-slice-aggregate-header c = sym (length-take-le _ _ (c .before .line-end .ensures .1))
+line-from-requires : tie.Need-line-from-requires
+line-from-requires c κs = search needs
 
 byte-at-requires : tie.Need-byte-at-requires
 byte-at-requires c κs = search needs
@@ -22,7 +17,7 @@ line-length-requires : tie.Need-line-length-requires
 line-length-requires c κs = search needs
 
 returns : tie.Need-returns
-returns c = no-room _ _ _ _ _ _ _ (c .before .before .before .before .before .line-end .ensures .0) (c .before .before .before .byte-at .ensures) (c .before .before .byte-at2 .ensures) (c .before .line-length .ensures .0) (c .if1 .taken)
+returns c = no-room (c .before .before .before .before .before .before .before .args .plan .now) _ _ _ _ _ (c .before .before .before .before .before .before .before .args .env) (c .before .before .before .before .line-from .ensures) (c .before .before .before .byte-at .ensures) (c .before .before .byte-at2 .ensures) (c .before .line-length .ensures .0) (c .if1 .taken)
 
 write-match-requires : tie.Need-write-match-requires
 write-match-requires c κs = search needs
@@ -31,14 +26,13 @@ same-length : tie.Need-same-length
 same-length c = search needs
 
 returns-2 : tie.Need-returns-2
-returns-2 c = has-room _ _ _ _ _ _ _ (c .before .before .before .before .before .before .before .before .before .line-end .ensures .0) (c .before .before .before .before .before .before .before .byte-at .ensures) (c .before .before .before .before .before .before .byte-at2 .ensures) (c .before .before .before .before .before .line-length .ensures .0) (c .before .before .before .before .if1 .left) _ _ (c .before .before .write-match .ensures)
+returns-2 c = has-room (c .before .before .before .before .before .before .before .before .before .before .before .args .plan .now) _ _ _ _ _ _ (c .before .before .before .before .before .before .before .before .line-from .ensures) (c .before .before .before .before .before .before .before .byte-at .ensures) (c .before .before .before .before .before .before .byte-at2 .ensures) (c .before .before .before .before .before .line-length .ensures .0) (c .before .before .before .before .if1 .left) _ _ (c .before .before .write-match .ensures)
 
 pub place-line-spec : {M : Type 1} → statement M
 place-line-spec =
     tie.close
     (tie.spec
-    line-end-requires
-    slice-aggregate-header
+    line-from-requires
     byte-at-requires
     byte-at-requires-2
     line-length-requires
