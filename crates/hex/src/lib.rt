@@ -2,10 +2,12 @@
 ghost use mathlib.Core.Path.{_≡_};
 ghost use Prim.Native.Nat.{_+_, _*_, _-_, _%_, _<_, _≤_};
 ghost use lib.ListN.{length, getD, drop};
-ghost use Rattle.hex.specs.Digits.{digitValue, hexDigit, bytesOf, shortAt, wordAt, longAt};
-ghost use Rattle.hex.specs.Lines.{hexLineOf, endOf, lineAt};
+ghost use Rattle.hex.specs.Digits.{digitValue, hexDigit, shortAt, wordAt, longAt};
+ghost use Rattle.hex.specs.Lines.{endOf, lineAt};
 ghost use Rattle.hex.specs.Scan.{stoppedAt};
+ghost use Rattle.hex.specs.Decoding.{Room, Decodes};
 
+pub mod line;
 pub mod reader;
 
 pub enum Found {
@@ -35,21 +37,21 @@ const DIGITS: [u8; 16] = [
 
 // What a byte counts as a digit, of either letter case: 16 where it is none.
 fn digit_value(b: u8) -> u8
-    ensures { λ r. ⌜ r ≡ digitValue b ⌝ }
+    ensures { λ r. ⌜ (r ≡ digitValue b) × (r ≤ 16) ⌝ }
 {
-    if b < 48 {
-        return 16;
-    }
     if b < 58 {
+        if b < 48 {
+            return 16;
+        }
         return b - 48;
     }
-    if b < 65 {
-        return 16;
-    }
-    if b < 71 {
-        return b - 55;
-    }
     if b < 97 {
+        if b < 65 {
+            return 16;
+        }
+        if b < 71 {
+            return b - 55;
+        }
         return 16;
     }
     if b < 103 {
@@ -65,22 +67,14 @@ pub fn hex_digit(v: u8) -> u8
     DIGITS[(v % 16) as usize]
 }
 
-fn nibble(b: u8) -> u8
-    ensures { λ r. ⌜ (r ≡ digitValue b % 16) × (r < 16) ⌝ }
+// The i-th byte of a frame, and 0 past its end.
+pub fn byte_at(frame: &[u8], i: usize) -> u8
+    ensures { λ r. ⌜ r ≡ getD (now (frame .entry)) i 0 ⌝ }
 {
-    digit_value(b) % 16
-}
-
-// The i-th byte of a line, and 0 past its end.
-pub fn byte_at(line: &[u8], i: usize) -> u8
-    ensures { λ r. ⌜ r ≡ getD (bytesOf (now (line .entry))) i 0 ⌝ }
-{
-    if line.len() / 2 <= i {
+    if frame.len() <= i {
         return 0;
     }
-    let high = nibble(line[2 * i]);
-    let low = nibble(line[2 * i + 1]);
-    high * 16 + low
+    frame[i]
 }
 
 fn wide16(b: u8) -> u16
@@ -102,30 +96,42 @@ fn wide64(w: u32) -> u64
 }
 
 // The fields of two, four and eight bytes that begin at byte i, the highest byte first.
-pub fn short_at(line: &[u8], i: usize) -> u16
+pub fn short_at(frame: &[u8], i: usize) -> u16
     requires { ⌜ i < 65536 ⌝ }
-    ensures { λ r. ⌜ r ≡ shortAt (bytesOf (now (line .entry))) i ⌝ }
+    ensures { λ r. ⌜ r ≡ shortAt (now (frame .entry)) i ⌝ }
 {
-    let high = wide16(byte_at(line, i));
-    let low = wide16(byte_at(line, i + 1));
+    let high = wide16(byte_at(frame, i));
+    let low = wide16(byte_at(frame, i + 1));
     high * 0x100 + low
 }
 
-pub fn word_at(line: &[u8], i: usize) -> u32
-    requires { ⌜ i < 65500 ⌝ }
-    ensures { λ r. ⌜ r ≡ wordAt (bytesOf (now (line .entry))) i ⌝ }
+// Four bytes as one number.
+fn joined(a: u8, b: u8, c: u8, d: u8) -> u32
+    ensures { λ r. ⌜ (r ≡ (a * 0x100 + b) * 0x1_0000 + (c * 0x100 + d)) × (r < 4294967296) ⌝ }
 {
-    let high = wide32(short_at(line, i));
-    let low = wide32(short_at(line, i + 2));
+    let high = wide32(wide16(a) * 0x100 + wide16(b));
+    let low = wide32(wide16(c) * 0x100 + wide16(d));
     high * 0x1_0000 + low
 }
 
-pub fn long_at(line: &[u8], i: usize) -> u64
-    requires { ⌜ i < 65400 ⌝ }
-    ensures { λ r. ⌜ r ≡ longAt (bytesOf (now (line .entry))) i ⌝ }
+pub fn word_at(frame: &[u8], i: usize) -> u32
+    requires { ⌜ i < 65500 ⌝ }
+    ensures { λ r. ⌜ r ≡ wordAt (now (frame .entry)) i ⌝ }
 {
-    let high = wide64(word_at(line, i));
-    let low = wide64(word_at(line, i + 4));
+    if i + 4 <= frame.len() {
+        return joined(frame[i], frame[i + 1], frame[i + 2], frame[i + 3]);
+    }
+    let high = wide32(short_at(frame, i));
+    let low = wide32(short_at(frame, i + 2));
+    high * 0x1_0000 + low
+}
+
+pub fn long_at(frame: &[u8], i: usize) -> u64
+    requires { ⌜ i < 65400 ⌝ }
+    ensures { λ r. ⌜ r ≡ longAt (now (frame .entry)) i ⌝ }
+{
+    let high = wide64(word_at(frame, i));
+    let low = wide64(word_at(frame, i + 4));
     high * 0x1_0000_0000 + low
 }
 
@@ -146,17 +152,32 @@ fn stopped(at: usize, i: usize, b: u8) -> Found
     Found::Nothing
 }
 
-// The place of the 0a that ends the line at `at`, where that is a line of digits: one pass over the line.
-pub fn hex_line(text: &[u8], at: usize) -> Found
-    ensures { λ r. ⌜ r ≡ hexLineOf at (drop at (now (text .entry))) ⌝ }
+// The line of digits at `at` is laid as bytes on the sheet, from place `to` on: the place of the 0a that ends it. One pass over the line.
+pub fn decode_line(text: &[u8], at: usize, sheet: &mut [u8], to: usize) -> Found
+    requires { ⌜ Room (now text) at (now sheet) to ⌝ }
+    ensures { λ r. ⌜ Decodes (now (text .entry)) at (now (sheet .entry)) to (now (sheet .exit)) r ⌝ }
 {
+    if text.len() == 0 {
+        return Found::Nothing;
+    }
+    let last = text.len() - 1;
     let mut i = at;
-    while i < text.len() {
-        let b = text[i];
-        if digit_value(b) == 16 {
-            return stopped(at, i, b);
+    let mut j = to;
+    while i < last {
+        let high = digit_value(text[i]);
+        if high == 16 {
+            return stopped(at, i, text[i]);
         }
-        i += 1;
+        let low = digit_value(text[i + 1]);
+        if low == 16 {
+            return Found::Nothing;
+        }
+        sheet[j] = high * 16 + low;
+        i += 2;
+        j += 1;
+    }
+    if i < text.len() {
+        return stopped(at, i, text[i]);
     }
     Found::Nothing
 }

@@ -9,9 +9,8 @@ use lib.ListN.{length, getD, take, drop, set, length-set, length-drop, take-appe
 use lib.Seq.{getD-set-same, getD-set-other, getD-take, take-set-le, length-take-le, take-append-le, drop-append-le, take-at, drop-at}
 use lib.Ieee.{Float, binary64, mul}
 use borrow.Author.Tests.{ltb-true, ltb-false}
-use Rattle.hex.specs.Digits.{bytesOf}
-use Rattle.hex.specs.Lines.{lineAt}
-use Rattle.frames.specs.First.{framesOf}
+use Rattle.frames.specs.Sheet.{frameAt}
+use Rattle.frames.specs.Sheet.{framesIn}
 use Rattle.frames.specs.Kinds.{itemsOf}
 use Rattle.frames.specs.Frames.{kindOf}
 use Rattle.measure.specs.Selectivity.{zero64, pathSelectivity}
@@ -52,7 +51,7 @@ module _ (x from : List ℕ) (n : ℕ) (ps : List Float) (w : Priced x from n ps
   pub row-within : rowSize * k + rowSize ≤ length ps
   row-within = omega (arith, w .room)
 
-  pub row-priced : (i : ℕ) (l : List ℕ) → i ≡ k → l ≡ lineAt x (getD from k 0) → Row (framesOf x) (bytesOf l) i (take (rowSize * k + rowSize - rowSize * k) (drop (rowSize * k) ps))
+  pub row-priced : (i : ℕ) (l : List ℕ) → i ≡ k → l ≡ frameAt x (getD from k 0) → Row (framesIn x) l i (take (rowSize * k + rowSize - rowSize * k) (drop (rowSize * k) ps))
   row-priced i l hi hl =
       let e : rowSize * k + rowSize - rowSize * k ≡ rowSize = omega arith in
       rw (hi, hl, e) (w .rows k h)
@@ -154,11 +153,11 @@ module _ (x from : List ℕ) (n : ℕ) (ps₀ : List Float) where
           let e : rowSize * k + rowSize - rowSize * k ≡ rowSize = omega arith in
           rw e (length-take-le rowSize (drop (rowSize * k) ps) (omega (arith, row-ends, length-drop (rowSize * k) ps)))
 
-      module _ (l : List ℕ) (hl : l ≡ lineAt x (getD from k 0)) where
-        pub row-room : FewItems x from n → itemsOf (kindOf (bytesOf l)) (bytesOf l) + 2 ≤ length (take (rowSize * k + rowSize - rowSize * k) (drop (rowSize * k) ps))
+      module _ (l : List ℕ) (hl : l ≡ frameAt x (getD from k 0)) where
+        pub row-room : FewItems x from n → itemsOf (kindOf l) l + 2 ≤ length (take (rowSize * k + rowSize - rowSize * k) (drop (rowSize * k) ps))
         row-room z = rw (row-length, hl) (z .few k h)
 
-        module _ (r : List Float) (i : ℕ) (s : length r ≡ length (take (rowSize * k + rowSize - rowSize * k) (drop (rowSize * k) ps))) (hi : i ≡ k) (w : Row (framesOf x) (bytesOf l) i r) where
+        module _ (r : List Float) (i : ℕ) (s : length r ≡ length (take (rowSize * k + rowSize - rowSize * k) (drop (rowSize * k) ps))) (hi : i ≡ k) (w : Row (framesIn x) l i r) where
           abbrev behind : List Float
           behind = drop (rowSize * k + rowSize - rowSize * k) (drop (rowSize * k) ps)
 
@@ -183,7 +182,7 @@ module _ (x from : List ℕ) (n : ℕ) (ps₀ : List Float) where
             priced = record { room = omega (arith, e, row-ends); rows = λ j t. at j t (ltb j k) refl };
           }
             where
-              at : (j : ℕ) → j < k + 1 → (b : Bool) → ltb j k ≡ b → Row (framesOf x) (frameAt x from j) j (rowAt with-row j)
+              at : (j : ℕ) → j < k + 1 → (b : Bool) → ltb j k ≡ b → Row (framesIn x) (frameAt x from j) j (rowAt with-row j)
               at j t true b =
                   let a : j < k = ltb-true j k b in
                   rw (other-row j a) (m .priced .rows j a)

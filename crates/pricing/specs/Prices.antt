@@ -6,10 +6,9 @@ use mathlib.Core.List.{List}
 use lib.Dec.{ltb}
 use lib.ListN.{length, getD, take, drop}
 use lib.Ieee.{Float}
-use Rattle.hex.specs.Digits.{bytesOf}
-use Rattle.hex.specs.Lines.{lineAt}
+use Rattle.frames.specs.Sheet.{frameAt}
 use Rattle.frames.specs.Limits.{atomsMost}
-use Rattle.frames.specs.First.{framesOf}
+use Rattle.frames.specs.Sheet.{framesIn}
 use Rattle.frames.specs.Kinds.{itemsOf}
 use Rattle.frames.specs.Frames.{kindOf}
 use Rattle.measure.specs.Selectivity.{zero64, pathSelectivity}
@@ -60,7 +59,7 @@ rowAt ps k = take rowSize (drop (rowSize * k) ps)
 
 -- the frame of atom number k
 abbrev pub frameAt : List ℕ → List ℕ → ℕ → List ℕ
-frameAt x from k = bytesOf (lineAt x (getD from k 0))
+frameAt x from k = (frameAt x (getD from k 0))
 
 -- the items of each of the n atoms have room in a row
 pub record FewItems (x from : List ℕ) (n : ℕ) : Type 0 where
@@ -69,4 +68,4 @@ pub record FewItems (x from : List ℕ) (n : ℕ) : Type 0 where
 -- the rows of the first n atoms
 pub record Priced (x from : List ℕ) (n : ℕ) (ps : List Float) : Type 0 where
   pub room : rowSize * n ≤ length ps
-  pub rows : (k : ℕ) → k < n → Row (framesOf x) (frameAt x from k) k (rowAt ps k)
+  pub rows : (k : ℕ) → k < n → Row (framesIn x) (frameAt x from k) k (rowAt ps k)

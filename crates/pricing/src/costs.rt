@@ -1,10 +1,9 @@
-// The cost of an atom, read off its line. "Costs: each operation rounded once, in the order given by the Rust."
+// The cost of an atom, read off its frame. "Costs: each operation rounded once, in the order given by the Rust."
 ghost use mathlib.Core.Path.{_≡_};
 ghost use mathlib.Core.List.{map};
 ghost use Prim.Native.Nat.{_+_, _*_, _<_, _≤_};
 ghost use lib.ListN.{length, getD};
-ghost use Rattle.hex.specs.Digits.{bytesOf};
-ghost use Rattle.frames.specs.First.{framesOf};
+ghost use Rattle.frames.specs.Sheet.{framesIn};
 ghost use Rattle.reading.specs.Index.{Indexed};
 ghost use Rattle.measure.specs.Selectivity.{pathSelectivity};
 ghost use Rattle.measure.specs.declared.FanOut.the-variants.{Unmeasured};
@@ -111,9 +110,9 @@ fn unsampled(s: Tallies) -> Sample
 
 // The sample of a probe by the operand at byte j: a global, or a variable without emitter, is not sampled.
 pub fn sampled(
-    text: &[u8],
-    index: &[u32],
-    line: &[u8],
+    sheet: &[u8],
+    index: &[u16],
+    frame: &[u8],
     j: usize,
     em: &[u32],
     how: Sampled,
@@ -125,16 +124,16 @@ pub fn sampled(
     s: Tallies,
 ) -> Sample
     requires { ⌜ j < 65536 ⌝ }
-    requires { ⌜ Samples (framesOf (now text)) how (now draws) ⌝ }
-    requires { ⌜ Remembers (framesOf (now text)) how (now keys) (now valued) (now values) s ⌝ }
-    requires { ⌜ length (sampledOf (framesOf (now text)) (map decode (now em)) (operandAt (bytesOf (now line)) j) (q .op) (q .path) (q .place) (tallyAt (now keys) s) .tally .memo) ≤ length (now keys) ⌝ }
-    requires { ⌜ Indexed (now text) (now index) ⌝ }
-    ensures { λ r. ⌜ Gives (framesOf (now (text .entry))) how (now (keys .exit)) (now (valued .exit)) (now (values .exit)) r (sampledOf (framesOf (now (text .entry))) (map decode (now (em .entry))) (operandAt (bytesOf (now (line .entry))) j) (q .op) (q .path) (q .place) (tallyAt (now (keys .entry)) s)) ⌝ }
+    requires { ⌜ Samples (framesIn (now sheet)) how (now draws) ⌝ }
+    requires { ⌜ Remembers (framesIn (now sheet)) how (now keys) (now valued) (now values) s ⌝ }
+    requires { ⌜ length (sampledOf (framesIn (now sheet)) (map decode (now em)) (operandAt (now frame) j) (q .op) (q .path) (q .place) (tallyAt (now keys) s) .tally .memo) ≤ length (now keys) ⌝ }
+    requires { ⌜ Indexed (now sheet) (now index) ⌝ }
+    ensures { λ r. ⌜ Gives (framesIn (now (sheet .entry))) how (now (keys .exit)) (now (valued .exit)) (now (values .exit)) r (sampledOf (framesIn (now (sheet .entry))) (map decode (now (em .entry))) (operandAt (now (frame .entry)) j) (q .op) (q .path) (q .place) (tallyAt (now (keys .entry)) s)) ⌝ }
 {
-    if byte_at(line, j) != 0 {
+    if byte_at(frame, j) != 0 {
         return unsampled(s);
     }
-    let e = emitter_of(em, byte_at(line, j + 1));
+    let e = emitter_of(em, byte_at(frame, j + 1));
     if e == 0 {
         return unsampled(s);
     }
@@ -142,7 +141,7 @@ pub fn sampled(
         return unsampled(s);
     };
     let x = key_of(e, q);
-    estimate(text, index, cfg, x, keys, valued, values, draws, s)
+    estimate(sheet, index, cfg, x, keys, valued, values, draws, s)
 }
 
 // A child's position, or an element.
@@ -164,22 +163,22 @@ fn item_probe(x: Item) -> Probe
 }
 
 // The selectivity of an item: by its sample, else as its row has it.
-fn item_selectivity(text: &[u8], index: &[u32], row: &[f64], x: Item, drawn: FanOut) -> f64
-    requires { ⌜ Indexed (now text) (now index) ⌝ }
-    requires { ⌜ ItemPriced (framesOf (now text)) x (now row) ⌝ }
-    ensures { λ r. ⌜ r ≡ pathSelectivity (orFan drawn (itemFan (framesOf (now (text .entry))) (x .op) (x .element) (x .position))) (denominatorOf (framesOf (now (text .entry))) (x .op)) ⌝ }
+fn item_selectivity(sheet: &[u8], index: &[u16], row: &[f64], x: Item, drawn: FanOut) -> f64
+    requires { ⌜ Indexed (now sheet) (now index) ⌝ }
+    requires { ⌜ ItemPriced (framesIn (now sheet)) x (now row) ⌝ }
+    ensures { λ r. ⌜ r ≡ pathSelectivity (orFan drawn (itemFan (framesIn (now (sheet .entry))) (x .op) (x .element) (x .position))) (denominatorOf (framesIn (now (sheet .entry))) (x .op)) ⌝ }
 {
     match drawn {
-        FanOut::Measured(_) => path_selectivity(drawn, denominator(text, index, x.op)),
+        FanOut::Measured(_) => path_selectivity(drawn, denominator(sheet, index, x.op)),
         FanOut::Unmeasured => row[wide(x.position) + 2],
     }
 }
 
 // An item that is bound has its selectivity multiplied in.
 fn item_cost(
-    text: &[u8],
-    index: &[u32],
-    line: &[u8],
+    sheet: &[u8],
+    index: &[u16],
+    frame: &[u8],
     row: &[f64],
     x: Item,
     em: &[u32],
@@ -191,12 +190,12 @@ fn item_cost(
     c: Costed,
 ) -> Costed
     requires { ⌜ x .at < 65536 ⌝ }
-    requires { ⌜ Samples (framesOf (now text)) how (now draws) ⌝ }
-    requires { ⌜ Remembers (framesOf (now text)) how (now keys) (now valued) (now values) (c .tallies) ⌝ }
-    requires { ⌜ length (costBehind (framesOf (now text)) (map decode (now em)) (bytesOf (now line)) x (costAt (now keys) c) .tally .memo) ≤ length (now keys) ⌝ }
-    requires { ⌜ Indexed (now text) (now index) ⌝ }
-    requires { ⌜ ItemPriced (framesOf (now text)) x (now row) ⌝ }
-    ensures { λ r. ⌜ Stands (framesOf (now (text .entry))) how (now (keys .exit)) (now (valued .exit)) (now (values .exit)) r (costBehind (framesOf (now (text .entry))) (map decode (now (em .entry))) (bytesOf (now (line .entry))) x (costAt (now (keys .entry)) c)) ⌝ }
+    requires { ⌜ Samples (framesIn (now sheet)) how (now draws) ⌝ }
+    requires { ⌜ Remembers (framesIn (now sheet)) how (now keys) (now valued) (now values) (c .tallies) ⌝ }
+    requires { ⌜ length (costBehind (framesIn (now sheet)) (map decode (now em)) (now frame) x (costAt (now keys) c) .tally .memo) ≤ length (now keys) ⌝ }
+    requires { ⌜ Indexed (now sheet) (now index) ⌝ }
+    requires { ⌜ ItemPriced (framesIn (now sheet)) x (now row) ⌝ }
+    ensures { λ r. ⌜ Stands (framesIn (now (sheet .entry))) how (now (keys .exit)) (now (valued .exit)) (now (values .exit)) r (costBehind (framesIn (now (sheet .entry))) (map decode (now (em .entry))) (now (frame .entry)) x (costAt (now (keys .entry)) c)) ⌝ }
 {
     if !x.bound {
         return c;
@@ -205,9 +204,9 @@ fn item_cost(
     let t = c.tallies;
     let j = x.at;
     let s = sampled(
-        text,
+        sheet,
         index,
-        line,
+        frame,
         j,
         em,
         how,
@@ -220,29 +219,29 @@ fn item_cost(
     );
     let drawn = s.fan;
     let tallies = s.tallies;
-    let cost = c.cost * item_selectivity(text, index, row, x, drawn);
+    let cost = c.cost * item_selectivity(sheet, index, row, x, drawn);
     Costed { cost, tallies }
 }
 
 // The items of a frame, as the table of kinds has them.
-pub fn items_at(line: &[u8]) -> Items
-    ensures { λ r. ⌜ ItemsOf (bytesOf (now (line .entry))) r ⌝ }
+pub fn items_at(frame: &[u8]) -> Items
+    ensures { λ r. ⌜ ItemsOf (now (frame .entry)) r ⌝ }
 {
-    let kind = byte_at(line, 0);
+    let kind = byte_at(frame, 0);
     Items {
         first: fixed_length(kind),
         width: item_width(kind),
-        count: items_of(line),
-        op: byte_at(line, 2),
+        count: items_of(frame),
+        op: byte_at(frame, 2),
         elements: 6 < kind,
     }
 }
 
 // Item number k.
-fn item_at(line: &[u8], g: Items, k: usize, bound: &[bool]) -> Item
+fn item_at(frame: &[u8], g: Items, k: usize, bound: &[bool]) -> Item
     requires { ⌜ k < 256 ⌝ }
     requires { ⌜ g .first + g .width * k < 65536 ⌝ }
-    ensures { λ r. ⌜ r ≡ itemAt (bytesOf (now (line .entry))) g k (now (bound .entry)) ⌝ }
+    ensures { λ r. ⌜ r ≡ itemAt (now (frame .entry)) g k (now (bound .entry)) ⌝ }
 {
     let at = g.first + g.width * k;
     Item {
@@ -250,15 +249,15 @@ fn item_at(line: &[u8], g: Items, k: usize, bound: &[bool]) -> Item
         position: narrow(k),
         op: g.op,
         element: g.elements,
-        bound: pv_is_bound(line, at, bound),
+        bound: pv_is_bound(frame, at, bound),
     }
 }
 
 // The items of a frame, one behind the other.
 fn item_costs(
-    text: &[u8],
-    index: &[u32],
-    line: &[u8],
+    sheet: &[u8],
+    index: &[u16],
+    frame: &[u8],
     row: &[f64],
     bound: &[bool],
     em: &[u32],
@@ -269,23 +268,23 @@ fn item_costs(
     draws: &mut [f64],
     start: Costed,
 ) -> Costed
-    requires { ⌜ Samples (framesOf (now text)) how (now draws) ⌝ }
-    requires { ⌜ Remembers (framesOf (now text)) how (now keys) (now valued) (now values) (start .tallies) ⌝ }
-    requires { ⌜ length (frameCosts (framesOf (now text)) (map decode (now em)) (now bound) (bytesOf (now line)) (costAt (now keys) start) .tally .memo) ≤ length (now keys) ⌝ }
-    requires { ⌜ Indexed (now text) (now index) ⌝ }
-    requires { ⌜ RowItems (framesOf (now text)) (bytesOf (now line)) (now row) ⌝ }
-    ensures { λ r. ⌜ Stands (framesOf (now (text .entry))) how (now (keys .exit)) (now (valued .exit)) (now (values .exit)) r (frameCosts (framesOf (now (text .entry))) (map decode (now (em .entry))) (now (bound .entry)) (bytesOf (now (line .entry))) (costAt (now (keys .entry)) start)) ⌝ }
+    requires { ⌜ Samples (framesIn (now sheet)) how (now draws) ⌝ }
+    requires { ⌜ Remembers (framesIn (now sheet)) how (now keys) (now valued) (now values) (start .tallies) ⌝ }
+    requires { ⌜ length (frameCosts (framesIn (now sheet)) (map decode (now em)) (now bound) (now frame) (costAt (now keys) start) .tally .memo) ≤ length (now keys) ⌝ }
+    requires { ⌜ Indexed (now sheet) (now index) ⌝ }
+    requires { ⌜ RowItems (framesIn (now sheet)) (now frame) (now row) ⌝ }
+    ensures { λ r. ⌜ Stands (framesIn (now (sheet .entry))) how (now (keys .exit)) (now (valued .exit)) (now (values .exit)) r (frameCosts (framesIn (now (sheet .entry))) (map decode (now (em .entry))) (now (bound .entry)) (now (frame .entry)) (costAt (now (keys .entry)) start)) ⌝ }
 {
-    let g = items_at(line);
+    let g = items_at(frame);
     let n = g.count;
     let mut c = start;
     let mut k: usize = 0;
     while k < n {
-        let x = item_at(line, g, k, bound);
+        let x = item_at(frame, g, k, bound);
         c = item_cost(
-            text,
+            sheet,
             index,
-            line,
+            frame,
             row,
             x,
             em,
@@ -311,11 +310,11 @@ fn is_literal(kind: u8) -> bool
     kind == 3
 }
 
-// The cost of atom number k, by its line.
+// The cost of atom number k, by its frame.
 pub fn estimate_cost(
-    text: &[u8],
-    index: &[u32],
-    line: &[u8],
+    sheet: &[u8],
+    index: &[u16],
+    frame: &[u8],
     row: &[f64],
     k: u8,
     bound: &[bool],
@@ -327,33 +326,33 @@ pub fn estimate_cost(
     draws: &mut [f64],
     s: Tallies,
 ) -> Costed
-    requires { ⌜ AtomLine (bytesOf (now line)) ⌝ }
-    requires { ⌜ Samples (framesOf (now text)) how (now draws) ⌝ }
-    requires { ⌜ Remembers (framesOf (now text)) how (now keys) (now valued) (now values) s ⌝ }
-    requires { ⌜ length (estimateCost (framesOf (now text)) (map decode (now em)) (now bound) k (atomOfFrame (bytesOf (now line))) (tallyAt (now keys) s) .tally .memo) ≤ length (now keys) ⌝ }
-    requires { ⌜ Indexed (now text) (now index) ⌝ }
-    requires { ⌜ Row (framesOf (now text)) (bytesOf (now line)) k (now row) ⌝ }
-    ensures { λ r. ⌜ Stands (framesOf (now (text .entry))) how (now (keys .exit)) (now (valued .exit)) (now (values .exit)) r (estimateCost (framesOf (now (text .entry))) (map decode (now (em .entry))) (now (bound .entry)) k (atomOfFrame (bytesOf (now (line .entry)))) (tallyAt (now (keys .entry)) s)) ⌝ }
+    requires { ⌜ AtomLine (now frame) ⌝ }
+    requires { ⌜ Samples (framesIn (now sheet)) how (now draws) ⌝ }
+    requires { ⌜ Remembers (framesIn (now sheet)) how (now keys) (now valued) (now values) s ⌝ }
+    requires { ⌜ length (estimateCost (framesIn (now sheet)) (map decode (now em)) (now bound) k (atomOfFrame (now frame)) (tallyAt (now keys) s) .tally .memo) ≤ length (now keys) ⌝ }
+    requires { ⌜ Indexed (now sheet) (now index) ⌝ }
+    requires { ⌜ Row (framesIn (now sheet)) (now frame) k (now row) ⌝ }
+    ensures { λ r. ⌜ Stands (framesIn (now (sheet .entry))) how (now (keys .exit)) (now (valued .exit)) (now (values .exit)) r (estimateCost (framesIn (now (sheet .entry))) (map decode (now (em .entry))) (now (bound .entry)) k (atomOfFrame (now (frame .entry))) (tallyAt (now (keys .entry)) s)) ⌝ }
 {
-    if !scans(line) {
+    if !scans(frame) {
         return Costed {
             cost: 0.0,
             tallies: s,
         };
     }
     let cost = row[0];
-    if is_literal(byte_at(line, 0)) {
+    if is_literal(byte_at(frame, 0)) {
         return Costed { cost, tallies: s };
     }
-    if is_set(bound, byte_at(line, 1)) {
+    if is_set(bound, byte_at(frame, 1)) {
         let cost = row[1];
         return Costed { cost, tallies: s };
     }
     let c = Costed { cost, tallies: s };
     item_costs(
-        text,
+        sheet,
         index,
-        line,
+        frame,
         row,
         bound,
         em,

@@ -5,7 +5,7 @@ ghost use Prim.Native.Nat.{_<_, _≤_};
 ghost use lib.ListN.{length, getD};
 ghost use Rattle.measure.specs.Selectivity.{zero64};
 ghost use Rattle.measure.specs.declared.FanOut.the-variants.{Unmeasured};
-ghost use Rattle.frames.specs.First.{framesOf};
+ghost use Rattle.frames.specs.Sheet.{framesIn};
 ghost use Rattle.reading.specs.Index.{Indexed};
 ghost use Rattle.query.specs.declared.statistics.Sampled.the-variants.{On};
 ghost use Rattle.cost.specs.Sampling.{afterEstimate};
@@ -88,8 +88,8 @@ fn fan_value(f: FanOut) -> f64
 
 // The value of a key; one that is not known is measured, remembered and counted.
 pub fn estimate(
-    text: &[u8],
-    index: &[u32],
+    sheet: &[u8],
+    index: &[u16],
     cfg: SamplerConfig,
     x: Key,
     keys: &mut [u64],
@@ -98,11 +98,11 @@ pub fn estimate(
     draws: &mut [f64],
     s: Tallies,
 ) -> Sample
-    requires { ⌜ Samples (framesOf (now text)) (On cfg) (now draws) ⌝ }
-    requires { ⌜ Remembers (framesOf (now text)) (On cfg) (now keys) (now valued) (now values) s ⌝ }
-    requires { ⌜ length (afterEstimate (framesOf (now text)) cfg x (tallyAt (now keys) s) .memo) ≤ length (now keys) ⌝ }
-    requires { ⌜ Indexed (now text) (now index) ⌝ }
-    ensures { λ r. ⌜ Gives (framesOf (now (text .entry))) (On cfg) (now (keys .exit)) (now (valued .exit)) (now (values .exit)) r (estimateOf (framesOf (now (text .entry))) (On cfg) x (tallyAt (now (keys .entry)) s)) ⌝ }
+    requires { ⌜ Samples (framesIn (now sheet)) (On cfg) (now draws) ⌝ }
+    requires { ⌜ Remembers (framesIn (now sheet)) (On cfg) (now keys) (now valued) (now values) s ⌝ }
+    requires { ⌜ length (afterEstimate (framesIn (now sheet)) cfg x (tallyAt (now keys) s) .memo) ≤ length (now keys) ⌝ }
+    requires { ⌜ Indexed (now sheet) (now index) ⌝ }
+    ensures { λ r. ⌜ Gives (framesIn (now (sheet .entry))) (On cfg) (now (keys .exit)) (now (valued .exit)) (now (values .exit)) r (estimateOf (framesIn (now (sheet .entry))) (On cfg) x (tallyAt (now (keys .entry)) s)) ⌝ }
 {
     let key = pack_key(x);
     let c = s.count;
@@ -111,7 +111,7 @@ pub fn estimate(
         let fan = fan_at(valued, values, i);
         return Sample { fan, tallies: s };
     }
-    let m = measure_key(text, index, x, cfg, draws);
+    let m = measure_key(sheet, index, x, cfg, draws);
     let fan = measured_fan(m);
     keys[c] = key;
     valued[c] = is_measured(fan);

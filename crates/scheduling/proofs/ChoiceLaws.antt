@@ -11,9 +11,8 @@ use lib.Seq.{drop-cons}
 use lib.Ieee.{Float, lt}
 use borrow.Author.Tests.{not-true, not-false}
 use Rattle.base.specs.Choose.{pick}
-use Rattle.hex.specs.Digits.{bytesOf}
-use Rattle.hex.specs.Lines.{lineAt}
-use Rattle.frames.specs.First.{framesOf}
+use Rattle.frames.specs.Sheet.{frameAt}
+use Rattle.frames.specs.Sheet.{framesIn}
 use Rattle.model.specs.Atoms.{Atom}
 use Rattle.model.specs.Bound.{Bound, has}
 use Rattle.model.specs.Scheduling.{scans, atomOf, numbers}
@@ -105,33 +104,33 @@ numbers-drop qs i l = drop-cons (numbers qs) i 0 (rw (tabulate-length (length qs
 -- the atoms from number i on, from the best so far, give what all atoms give
 pub record Scanning (x : List ℕ) (em : Emitters) (U B : Bound) (how : Sampled) (n : ℕ) (keys₀ : List ℕ) (draws₀ : List Float) (b₀ : Best) (keys : List ℕ) (valued : List Bool) (values draws : List Float) (b : Best) (i : ℕ) : Type 0 where
   pub few : i ≤ n
-  pub is : candidates (framesOf x) em (atomsOf x) U B (drop i (numbers (atomsOf x))) (tallyAt keys (b .tallies)) (bidOf (b .found) (b .who) (b .price)) ≡ candidates (framesOf x) em (atomsOf x) U B (numbers (atomsOf x)) (tallyAt keys₀ (b₀ .tallies)) none
-  pub memo : Remembers (framesOf x) how keys valued values (b .tallies)
-  pub samples : Samples (framesOf x) how draws
+  pub is : candidates (framesIn x) em (atomsOf x) U B (drop i (numbers (atomsOf x))) (tallyAt keys (b .tallies)) (bidOf (b .found) (b .who) (b .price)) ≡ candidates (framesIn x) em (atomsOf x) U B (numbers (atomsOf x)) (tallyAt keys₀ (b₀ .tallies)) none
+  pub memo : Remembers (framesIn x) how keys valued values (b .tallies)
+  pub samples : Samples (framesIn x) how draws
   pub size : length keys ≡ length keys₀
   pub room : length draws ≡ length draws₀
 
-pub scanning-none : (x : List ℕ) (em : Emitters) (U B : Bound) (how : Sampled) (n : ℕ) (keys : List ℕ) (valued : List Bool) (values draws : List Float) (b : Best) → b .found ≡ false → Remembers (framesOf x) how keys valued values (b .tallies) → Samples (framesOf x) how draws → Scanning x em U B how n keys draws b keys valued values draws b 0
+pub scanning-none : (x : List ℕ) (em : Emitters) (U B : Bound) (how : Sampled) (n : ℕ) (keys : List ℕ) (valued : List Bool) (values draws : List Float) (b : Best) → b .found ≡ false → Remembers (framesIn x) how keys valued values (b .tallies) → Samples (framesIn x) how draws → Scanning x em U B how n keys draws b keys valued values draws b 0
 scanning-none x em U B how n keys valued values draws b h m d = record { few = omega arith; is = rw h; memo = m; samples = d; size = refl; room = refl }
 
 module _ (x from : List ℕ) (em : Emitters) (U B : Bound) (how : Sampled) (n : ℕ) (keys₀ : List ℕ) (draws₀ : List Float) (b₀ : Best) (keys : List ℕ) (valued : List Bool) (values draws : List Float) (b : Best) (i : ℕ) (r : Scanning x em U B how n keys₀ draws₀ b₀ keys valued values draws b i) (z : Located x from n) where
   module _ (h : i < n) where
-    module _ (s : List ℕ) (line : s ≡ lineAt x (getD from i 0)) where
+    module _ (s : List ℕ) (line : s ≡ frameAt x (getD from i 0)) where
       module _ (v : ℕ) (e : v ≡ i) where
         abbrev here : Scan Tally Float
-        here = considered (framesOf x) em U B v (atomOfFrame (bytesOf s)) (tallyAt keys (b .tallies)) (bidOf (b .found) (b .who) (b .price))
+        here = considered (framesIn x) em U B v (atomOfFrame s) (tallyAt keys (b .tallies)) (bidOf (b .found) (b .who) (b .price))
 
-        rest-is : candidates (framesOf x) em (atomsOf x) U B (drop (suc i) (numbers (atomsOf x))) (here .next) (here .best) ≡ candidates (framesOf x) em (atomsOf x) U B (numbers (atomsOf x)) (tallyAt keys₀ (b₀ .tallies)) none
+        rest-is : candidates (framesIn x) em (atomsOf x) U B (drop (suc i) (numbers (atomsOf x))) (here .next) (here .best) ≡ candidates (framesIn x) em (atomsOf x) U B (numbers (atomsOf x)) (tallyAt keys₀ (b₀ .tallies)) none
         unfolding candidates
         rest-is = rw (e, line, ← z .is i h) (rw (numbers-drop (atomsOf x) i (omega (arith, z .count))) at (r .is))
 
-        pub atom-room : length (candidates (framesOf x) em (atomsOf x) U B (numbers (atomsOf x)) (tallyAt keys₀ (b₀ .tallies)) none .next .memo) ≤ length keys₀ → length (here .next .memo) ≤ length keys
+        pub atom-room : length (candidates (framesIn x) em (atomsOf x) U B (numbers (atomsOf x)) (tallyAt keys₀ (b₀ .tallies)) none .next .memo) ≤ length keys₀ → length (here .next .memo) ≤ length keys
         atom-room l =
-            let g = candidates-more (framesOf x) em (atomsOf x) U B (drop (suc i) (numbers (atomsOf x))) (here .next) (here .best) in
+            let g = candidates-more (framesIn x) em (atomsOf x) U B (drop (suc i) (numbers (atomsOf x))) (here .next) (here .best) in
             let k = rw rest-is at g in
             omega (arith, r .size)
 
-        pub scanning-again : (keys′ : List ℕ) (valued′ : List Bool) (values′ draws′ : List Float) (c : Best) → Chose (framesOf x) how keys′ valued′ values′ c here → length keys′ ≡ length keys → length draws′ ≡ length draws → Scanning x em U B how n keys₀ draws₀ b₀ keys′ valued′ values′ draws′ c (i + 1)
+        pub scanning-again : (keys′ : List ℕ) (valued′ : List Bool) (values′ draws′ : List Float) (c : Best) → Chose (framesIn x) how keys′ valued′ values′ c here → length keys′ ≡ length keys → length draws′ ≡ length draws → Scanning x em U B how n keys₀ draws₀ b₀ keys′ valued′ values′ draws′ c (i + 1)
         scanning-again keys′ valued′ values′ draws′ c k p q = record {
           few = omega arith;
           is = rw (k .best, k .next, add-one i) rest-is;
@@ -141,7 +140,7 @@ module _ (x from : List ℕ) (em : Emitters) (U B : Bound) (how : Sampled) (n : 
           room = q ∙ r .room;
         }
 
-  pub scanned : n ≤ i → Chose (framesOf x) how keys valued values b (candidates (framesOf x) em (atomsOf x) U B (numbers (atomsOf x)) (tallyAt keys₀ (b₀ .tallies)) none)
+  pub scanned : n ≤ i → Chose (framesIn x) how keys valued values b (candidates (framesIn x) em (atomsOf x) U B (numbers (atomsOf x)) (tallyAt keys₀ (b₀ .tallies)) none)
   unfolding candidates
   scanned h =
       let g : length (numbers (atomsOf x)) ≤ i = omega (arith, z .count, tabulate-length (length (atomsOf x)) (λ k. k)) in

@@ -10,7 +10,7 @@ use lib.ListN.{length, take}
 use lib.Ieee.{Float, lt}
 use borrow.Author.Tests.{not-true, not-false}
 use Rattle.base.specs.Choose.{pick}
-use Rattle.frames.specs.First.{framesOf}
+use Rattle.frames.specs.Sheet.{framesIn}
 use Rattle.model.specs.Atoms.{Atom, Step}
 use Rattle.model.specs.Bound.{Bound, has, add, most, blank, has-blank}
 use Rattle.model.specs.Tabulate.{tabulate, tabulate-length, tabulate-mem}
@@ -82,7 +82,7 @@ mem-below n i m = let a = tabulate-mem n (λ (k : ℕ). k) i m in omega (arith, 
 
 module _ (x : List ℕ) where
   abbrev fs : List (List ℕ)
-  fs = framesOf x
+  fs = framesIn x
 
   abbrev qs : List Atom
   qs = atomsOf x
@@ -110,13 +110,13 @@ module _ (x : List ℕ) where
   -- c atoms are lowered; of the rounds up to number `last` a round and `left` others may follow
   pub record Rounding (how : Sampled) (keys₀ : List ℕ) (draws₀ : List Float) (last : ℕ) (U B b : Bound) (E : Emitters) (O keys : List ℕ) (valued : List Bool) (values draws : List Float) (c : ℕ) (s : Tallies) (left : ℕ) : Type 0 where
     pub steps : List Step
-    pub plans : roundsUpTo (atomOf (atomsOf x)) (numbers (atomsOf x)) (choose (framesOf x) (atomsOf x)) (suc last) fresh unplanned ≡ roundsUpTo (atomOf (atomsOf x)) (numbers (atomsOf x)) (choose (framesOf x) (atomsOf x)) (suc left) (record { emitters = E; before = b; tally = tallyAt keys s }) (state U B steps)
-    pub remembers : memoryLoop (framesOf x) (atomsOf x) (suc last) fresh unplanned ≡ memoryLoop (framesOf x) (atomsOf x) (suc left) (record { emitters = E; before = b; tally = tallyAt keys s }) (state U B steps)
-    pub round : roundOf (framesOf x) (atomsOf x) last ≡ roundFrom (framesOf x) (atomsOf x) left (record { emitters = E; before = b; tally = tallyAt keys s }) (state U B steps)
+    pub plans : roundsUpTo (atomOf (atomsOf x)) (numbers (atomsOf x)) (choose (framesIn x) (atomsOf x)) (suc last) fresh unplanned ≡ roundsUpTo (atomOf (atomsOf x)) (numbers (atomsOf x)) (choose (framesIn x) (atomsOf x)) (suc left) (record { emitters = E; before = b; tally = tallyAt keys s }) (state U B steps)
+    pub remembers : memoryLoop (framesIn x) (atomsOf x) (suc last) fresh unplanned ≡ memoryLoop (framesIn x) (atomsOf x) (suc left) (record { emitters = E; before = b; tally = tallyAt keys s }) (state U B steps)
+    pub round : roundOf (framesIn x) (atomsOf x) last ≡ roundFrom (framesIn x) (atomsOf x) left (record { emitters = E; before = b; tally = tallyAt keys s }) (state U B steps)
     pub sofar : Sofar steps U B O c
     pub before : length b ≡ most
-    pub memo : Remembers (framesOf x) how keys valued values s
-    pub samples : Samples (framesOf x) how draws
+    pub memo : Remembers (framesIn x) how keys valued values s
+    pub samples : Samples (framesIn x) how draws
     pub keys-size : length keys ≡ length keys₀
     pub draws-size : length draws ≡ length draws₀
 
@@ -147,7 +147,7 @@ module _ (x : List ℕ) where
     rounds-number : unlowered blank (numbers qs) ≡ n
     rounds-number = all-left (numbers qs) ∙ tabulate-length (length qs) (λ k. k) ∙ sym (z .count)
 
-    pub rounding-start : (how : Sampled) (last : ℕ) (U B b : Bound) (em O keys : List ℕ) (valued : List Bool) (values draws : List Float) (s : Tallies) → Unplanned U B b em → length O ≡ most → Samples (framesOf x) how draws → (length valued ≡ length keys) × ((length values ≡ length keys) × (length keys ≤ keysMost)) → s ≡ record { count = 0; tallied = 0; rejected = 0 }
+    pub rounding-start : (how : Sampled) (last : ℕ) (U B b : Bound) (em O keys : List ℕ) (valued : List Bool) (values draws : List Float) (s : Tallies) → Unplanned U B b em → length O ≡ most → Samples (framesIn x) how draws → (length valued ≡ length keys) × ((length values ≡ length keys) × (length keys ≤ keysMost)) → s ≡ record { count = 0; tallied = 0; rejected = 0 }
         → Rounding how keys draws last U B b (map decode em) O keys valued values draws 0 s last
     unfolding memoAt blank roundOf
     rounding-start how last U B b em O keys valued values draws s u o d k e = record {
@@ -173,7 +173,7 @@ module _ (x : List ℕ) where
     abbrev before : Memory
     before = memory E b (tallyAt keys s)
 
-    pub round-room : length (memoryLoop (framesOf x) (atomsOf x) (suc last) fresh unplanned .tally .memo) ≤ length keys₀ → RoundRoom x U B b E keys s
+    pub round-room : length (memoryLoop (framesIn x) (atomsOf x) (suc last) fresh unplanned .tally .memo) ≤ length keys₀ → RoundRoom x U B b E keys s
     round-room l =
         let g = choice-grows E b (tallyAt keys s) (state U B (r .steps)) left in
         record { steps = r .steps; room = omega (arith, subst (λ (m : Memory). length (choice fs qs E b (tallyAt keys s) (lowerEager (atomOf qs) (numbers qs) (state U B (r .steps))) .next .memo) ≤ length (m .tally .memo)) (sym (r .remembers)) g, r .keys-size) }

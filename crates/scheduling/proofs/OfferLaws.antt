@@ -11,9 +11,8 @@ use lib.Seq.{take-suc-set}
 use lib.Ieee.{Float}
 use borrow.Author.Tests.{not-true, not-false}
 use Rattle.base.specs.Choose.{pick}
-use Rattle.hex.specs.Digits.{bytesOf}
-use Rattle.hex.specs.Lines.{lineAt}
-use Rattle.frames.specs.First.{framesOf}
+use Rattle.frames.specs.Sheet.{frameAt}
+use Rattle.frames.specs.Sheet.{framesIn}
 use Rattle.model.specs.Atoms.{Atom}
 use Rattle.model.specs.Bound.{Bound, has}
 use Rattle.model.specs.Scheduling.{scans, atomOf, numbers}
@@ -62,13 +61,13 @@ next-same fs em U B i a t b = by (not (has U i) && scans a) b
 pub record Offering (x : List ℕ) (em : Emitters) (U B : Bound) (n : ℕ) (keys₀ : List ℕ) (costs₀ : List Float) (b₀ : Best) (keys : List ℕ) (costs : List Float) (b : Best) (i : ℕ) : Type 0 where
   pub room : n ≤ length costs
   pub size : length costs ≡ length costs₀
-  pub is : take i costs ++ offers (framesOf x) em (atomsOf x) U B (drop i (numbers (atomsOf x))) (tallyAt keys (b .tallies)) ≡ offers (framesOf x) em (atomsOf x) U B (numbers (atomsOf x)) (tallyAt keys₀ (b₀ .tallies))
+  pub is : take i costs ++ offers (framesIn x) em (atomsOf x) U B (drop i (numbers (atomsOf x))) (tallyAt keys (b .tallies)) ≡ offers (framesIn x) em (atomsOf x) U B (numbers (atomsOf x)) (tallyAt keys₀ (b₀ .tallies))
 
 pub offering-none : (x : List ℕ) (em : Emitters) (U B : Bound) (n : ℕ) (keys : List ℕ) (costs : List Float) (b : Best) → n ≤ length costs → Offering x em U B n keys costs b keys costs b 0
 offering-none x em U B n keys costs b h = record { room = h; size = refl; is = refl }
 
 module _ (x from : List ℕ) (em : Emitters) (U B : Bound) (n : ℕ) (keys₀ : List ℕ) (costs₀ : List Float) (b₀ : Best) (keys : List ℕ) (costs : List Float) (b : Best) (i : ℕ) (r : Offering x em U B n keys₀ costs₀ b₀ keys costs b i) (z : Located x from n) where
-  module _ (h : i < n) (s : List ℕ) (line : s ≡ lineAt x (getD from i 0)) (v : ℕ) (e : v ≡ i) where
+  module _ (h : i < n) (s : List ℕ) (line : s ≡ frameAt x (getD from i 0)) (v : ℕ) (e : v ≡ i) where
     pub cost-room : v < length costs
     cost-room = omega (arith, r .room)
 
@@ -79,27 +78,27 @@ module _ (x from : List ℕ) (em : Emitters) (U B : Bound) (n : ℕ) (keys₀ : 
     now = tallyAt keys (b .tallies)
 
     abbrev rest : Tally → List Float
-    rest = offers (framesOf x) em (atomsOf x) U B (drop (suc i) (numbers (atomsOf x)))
+    rest = offers (framesIn x) em (atomsOf x) U B (drop (suc i) (numbers (atomsOf x)))
 
-    split : offers (framesOf x) em (atomsOf x) U B (drop i (numbers (atomsOf x))) now ≡ offer (framesOf x) em U B i atom now ∷ rest (considered (framesOf x) em U B i atom now none .next)
+    split : offers (framesIn x) em (atomsOf x) U B (drop i (numbers (atomsOf x))) now ≡ offer (framesIn x) em U B i atom now ∷ rest (considered (framesIn x) em U B i atom now none .next)
     unfolding offers
     split = rw (numbers-drop (atomsOf x) i (omega (arith, z .count)))
 
-    pub offering-again : (how : Sampled) (keys′ : List ℕ) (valued′ : List Bool) (values′ costs′ : List Float) (c : Best) → Chose (framesOf x) how keys′ valued′ values′ c (considered (framesOf x) em U B v (atomOfFrame (bytesOf s)) now (bidOf (b .found) (b .who) (b .price)))
-        → costs′ ≡ set costs v (offer (framesOf x) em U B v (atomOfFrame (bytesOf s)) now) → Offering x em U B n keys₀ costs₀ b₀ keys′ costs′ c (i + 1)
+    pub offering-again : (how : Sampled) (keys′ : List ℕ) (valued′ : List Bool) (values′ costs′ : List Float) (c : Best) → Chose (framesIn x) how keys′ valued′ values′ c (considered (framesIn x) em U B v (atomOfFrame s) now (bidOf (b .found) (b .who) (b .price)))
+        → costs′ ≡ set costs v (offer (framesIn x) em U B v (atomOfFrame s) now) → Offering x em U B n keys₀ costs₀ b₀ keys′ costs′ c (i + 1)
     offering-again how keys′ valued′ values′ costs′ c k w =
-        let q : costs′ ≡ set costs i (offer (framesOf x) em U B i atom now) = rw (z .is i h, ← line, ← e) w in
-        let t : tallyAt keys′ (c .tallies) ≡ considered (framesOf x) em U B i atom now none .next = rw (z .is i h, ← line, ← e) (k .next ∙ next-same (framesOf x) em U B v (atomOfFrame (bytesOf s)) now (bidOf (b .found) (b .who) (b .price))) in
-        let l : length costs′ ≡ length costs = ap length q ∙ length-set costs i (offer (framesOf x) em U B i atom now) in
+        let q : costs′ ≡ set costs i (offer (framesIn x) em U B i atom now) = rw (z .is i h, ← line, ← e) w in
+        let t : tallyAt keys′ (c .tallies) ≡ considered (framesIn x) em U B i atom now none .next = rw (z .is i h, ← line, ← e) (k .next ∙ next-same (framesIn x) em U B v (atomOfFrame s) now (bidOf (b .found) (b .who) (b .price))) in
+        let l : length costs′ ≡ length costs = ap length q ∙ length-set costs i (offer (framesIn x) em U B i atom now) in
         record {
           room = omega (arith, l, r .room);
           size = l ∙ r .size;
           is =
-              rw (q, t, add-one i, take-suc-set costs i (offer (framesOf x) em U B i atom now) (omega (arith, r .room)), append-assoc (take i costs) (offer (framesOf x) em U B i atom now ∷ []) (rest (considered (framesOf x) em U B i atom now none .next)))
+              rw (q, t, add-one i, take-suc-set costs i (offer (framesIn x) em U B i atom now) (omega (arith, r .room)), append-assoc (take i costs) (offer (framesIn x) em U B i atom now ∷ []) (rest (considered (framesIn x) em U B i atom now none .next)))
               (rw split at (r .is));
         }
 
-  pub offered-all : i ≤ n → n ≤ i → take n costs ≡ offers (framesOf x) em (atomsOf x) U B (numbers (atomsOf x)) (tallyAt keys₀ (b₀ .tallies))
+  pub offered-all : i ≤ n → n ≤ i → take n costs ≡ offers (framesIn x) em (atomsOf x) U B (numbers (atomsOf x)) (tallyAt keys₀ (b₀ .tallies))
   unfolding offers
   offered-all f h =
       let g : length (numbers (atomsOf x)) ≤ i = omega (arith, z .count, tabulate-length (length (atomsOf x)) (λ k. k)) in

@@ -10,9 +10,8 @@ use lib.Dec.{T}
 use lib.ListN.{length, getD, take, set, length-set}
 use lib.Seq.{take-suc, take-suc-set, take-length}
 use lib.Ieee.{Float}
-use Rattle.hex.specs.Digits.{bytesOf}
-use Rattle.hex.specs.Lines.{lineAt}
-use Rattle.frames.specs.First.{framesOf}
+use Rattle.frames.specs.Sheet.{frameAt}
+use Rattle.frames.specs.Sheet.{framesIn}
 use Rattle.model.specs.Atoms.{Atom, Plain, Lit, LitBind, Eq, EqGlobal, Pred, Variadic}
 use Rattle.model.specs.Bound.{Bound, has, add, most}
 use Rattle.model.specs.Lowering.{Emitted, lower}
@@ -35,11 +34,11 @@ use Rattle.scheduling.specs.declared.choose.Best.{Best}
 -- ---- an eager round, and the choice
 
 module _ (x : List ℕ) (U B b : Bound) (E : Emitters) (O : List ℕ) (c : ℕ) (keys : List ℕ) (s : Tallies) (U′ C : Bound) (E′ : Emitters) (P : List ℕ) (d : ℕ) (w : LoweredEager x U B O c U′ C P d) (e : E′ ≡ recordEmitters b U′ 0 (atomsOf x) E) where
-  pub choice-room : RoundRoom x U B b E keys s → length (candidates (framesOf x) E′ (atomsOf x) U′ C (numbers (atomsOf x)) (tallyAt keys s) none .next .memo) ≤ length keys
+  pub choice-room : RoundRoom x U B b E keys s → length (candidates (framesIn x) E′ (atomsOf x) U′ C (numbers (atomsOf x)) (tallyAt keys s) none .next .memo) ≤ length keys
   choice-room r = rw e (subst (λ (st : State). length (roundTally x st b E keys s .memo) ≤ length keys) (w .is (r .steps)) (r .room))
 
-  pub chooses : (how : Sampled) (keys′ : List ℕ) (valued′ : List Bool) (values′ costs′ : List Float) (best : Best) (n : ℕ) → n ≡ length (atomsOf x) → Chose (framesOf x) how keys′ valued′ values′ best (candidates (framesOf x) E′ (atomsOf x) U′ C (numbers (atomsOf x)) (tallyAt keys s) none)
-      → take n costs′ ≡ offers (framesOf x) E′ (atomsOf x) U′ C (numbers (atomsOf x)) (tallyAt keys s) → Chooses x how U B b E O c keys s U′ C E′ P keys′ valued′ values′ costs′ (record { count = d; best = best })
+  pub chooses : (how : Sampled) (keys′ : List ℕ) (valued′ : List Bool) (values′ costs′ : List Float) (best : Best) (n : ℕ) → n ≡ length (atomsOf x) → Chose (framesIn x) how keys′ valued′ values′ best (candidates (framesIn x) E′ (atomsOf x) U′ C (numbers (atomsOf x)) (tallyAt keys s) none)
+      → take n costs′ ≡ offers (framesIn x) E′ (atomsOf x) U′ C (numbers (atomsOf x)) (tallyAt keys s) → Chooses x how U B b E O c keys s U′ C E′ P keys′ valued′ values′ costs′ (record { count = d; best = best })
   chooses how keys′ valued′ values′ costs′ best n a k o = record { went = w; emitters = e; chose = k; costs = ap (λ (k : ℕ). take k costs′) (sym a) ∙ o }
 
 -- ---- the atom chosen
@@ -104,20 +103,20 @@ module _ (x from : List ℕ) (n i : ℕ) (U B : Bound) (O : List ℕ) (c : ℕ) 
   pub next-room : c < length O
   next-room = omega (arith, unlowered-lt U i (numbers (atomsOf x)) new (number-among x from n z i h), y .room, y .order)
 
-  module _ (k : ℕ) (v : k ≡ i) (s : List ℕ) (l : s ≡ lineAt x (getD from k 0)) where
-    line : s ≡ lineAt x (getD from i 0)
+  module _ (k : ℕ) (v : k ≡ i) (s : List ℕ) (l : s ≡ frameAt x (getD from k 0)) where
+    line : s ≡ frameAt x (getD from i 0)
     line = rw v at l
 
-    pub next-line : AtomLine (bytesOf s)
+    pub next-line : AtomLine s
     next-line = line-ready x from n z i h s line
 
-    pub next-scans : scans (atomOfFrame (bytesOf s)) ≡ true
+    pub next-scans : scans (atomOfFrame s) ≡ true
     next-scans = rw (line, ← z .is i h) scan
 
-    pub takes-next : (U′ C b′ : Bound) (E E′ : Emitters) (P : List ℕ) (d : ℕ) → Takes (bytesOf s) i U B O c U′ C P d → E′ ≡ recordAtom E i (atomOfFrame (bytesOf s)) → b′ ≡ U′ → TakesNext x i U B E O c U′ C b′ E′ P d
+    pub takes-next : (U′ C b′ : Bound) (E E′ : Emitters) (P : List ℕ) (d : ℕ) → Takes s i U B O c U′ C P d → E′ ≡ recordAtom E i (atomOfFrame s) → b′ ≡ U′ → TakesNext x i U B E O c U′ C b′ E′ P d
     takes-next U′ C b′ E E′ P d t e g =
-        let q : atomOf (atomsOf x) i ≡ atomOfFrame (bytesOf s) = z .is i h ∙ ap (λ (l : List ℕ). atomOfFrame (bytesOf l)) (sym line) in
+        let q : atomOf (atomsOf x) i ≡ atomOfFrame s = z .is i h ∙ ap (λ (l : List ℕ). atomOfFrame l) (sym line) in
         record { went = t .went (atomOf (atomsOf x)) (numbers (atomsOf x)) q (number-among x from n z i h); used = t .used; emitters = e ∙ ap (recordAtom E i) (sym q); before = g }
 
-    pub bound-sized : (U′ C : Bound) (P : List ℕ) (d : ℕ) → Takes (bytesOf s) i U B O c U′ C P d → length U′ ≡ most
-    bound-sized U′ C P d t = t .went (atomOf (atomsOf x)) (numbers (atomsOf x)) (z .is i h ∙ ap (λ (l : List ℕ). atomOfFrame (bytesOf l)) (sym line)) (number-among x from n z i h) .used-size ∙ y .used
+    pub bound-sized : (U′ C : Bound) (P : List ℕ) (d : ℕ) → Takes s i U B O c U′ C P d → length U′ ≡ most
+    bound-sized U′ C P d t = t .went (atomOf (atomsOf x)) (numbers (atomsOf x)) (z .is i h ∙ ap (λ (l : List ℕ). atomOfFrame l) (sym line)) (number-among x from n z i h) .used-size ∙ y .used

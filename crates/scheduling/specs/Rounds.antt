@@ -7,7 +7,7 @@ use mathlib.Core.List.{List, List·Memᴰ}
 use lib.ListN.{length, take, replicate}
 use lib.Ieee.{Float}
 use Rattle.base.specs.Choose.{pick}
-use Rattle.frames.specs.First.{framesOf}
+use Rattle.frames.specs.Sheet.{framesIn}
 use Rattle.model.specs.Atoms.{Atom, Step}
 use Rattle.model.specs.Bound.{Bound, add, most, blank}
 use Rattle.model.specs.Lowering.{Lowered}
@@ -34,13 +34,13 @@ pub record Takes (f : List ℕ) (i : ℕ) (U B : Bound) (O : List ℕ) (c : ℕ)
 pub record Chooses (x : List ℕ) (how : Sampled) (U B b : Bound) (E : Emitters) (O : List ℕ) (c : ℕ) (keys : List ℕ) (s : Tallies) (U′ C : Bound) (E′ : Emitters) (P keys′ : List ℕ) (valued′ : List Bool) (values′ costs′ : List Float) (r : Round) : Type 0 where
   pub went : LoweredEager x U B O c U′ C P (r .count)
   pub emitters : E′ ≡ recordEmitters b U′ 0 (atomsOf x) E
-  pub chose : Chose (framesOf x) how keys′ valued′ values′ (r .best) (candidates (framesOf x) E′ (atomsOf x) U′ C (numbers (atomsOf x)) (tallyAt keys s) none)
-  pub costs : take (length (atomsOf x)) costs′ ≡ offers (framesOf x) E′ (atomsOf x) U′ C (numbers (atomsOf x)) (tallyAt keys s)
+  pub chose : Chose (framesIn x) how keys′ valued′ values′ (r .best) (candidates (framesIn x) E′ (atomsOf x) U′ C (numbers (atomsOf x)) (tallyAt keys s) none)
+  pub costs : take (length (atomsOf x)) costs′ ≡ offers (framesIn x) E′ (atomsOf x) U′ C (numbers (atomsOf x)) (tallyAt keys s)
 
 -- the tally behind a choice from the state st, with the emitters of what is new in it
 abbrev pub roundTally : List ℕ → State → Bound → Emitters → List ℕ → Tallies → Tally
 roundTally x st b E keys s =
-    candidates (framesOf x) (recordEmitters b (st .used) 0 (atomsOf x) E) (atomsOf x) (st .used) (st .bound) (numbers (atomsOf x)) (tallyAt keys s) none .next
+    candidates (framesIn x) (recordEmitters b (st .used) 0 (atomsOf x) E) (atomsOf x) (st .used) (st .bound) (numbers (atomsOf x)) (tallyAt keys s) none .next
 
 -- the memo has room for what the choice behind the eager round asks
 pub record RoundRoom (x : List ℕ) (U B b : Bound) (E : Emitters) (keys : List ℕ) (s : Tallies) : Type 0 where
@@ -75,7 +75,7 @@ pub record Ordering (x O : List ℕ) (st : State) (t : Tally) (r : Scheduled) : 
 
 -- the plan of the query x
 abbrev pub Scheduling : List ℕ → List ℕ → Scheduled → Type 0
-Scheduling x O r = Ordering x O (planned (framesOf x) (atomsOf x)) (remembered (framesOf x) (atomsOf x) .tally) r
+Scheduling x O r = Ordering x O (planned (framesIn x) (atomsOf x)) (remembered (framesIn x) (atomsOf x) .tally) r
 
 -- the atom chosen in the last round, where one was found
 abbrev pub chosenOf : Scheduled → Option ℕ
@@ -83,5 +83,5 @@ chosenOf r = pick (r .found) (some (r .who)) none
 
 -- the rounds of the query x up to number `last`, and the costs of that one
 pub record Rounded (x O : List ℕ) (last : ℕ) (costs : List Float) (r : Scheduled) : Type 0 where
-  pub order : Ordering x O (roundsUpTo (atomOf (atomsOf x)) (numbers (atomsOf x)) (choose (framesOf x) (atomsOf x)) (suc last) fresh unplanned) (memoryLoop (framesOf x) (atomsOf x) (suc last) fresh unplanned .tally) r
-  pub round : roundOf (framesOf x) (atomsOf x) last ≡ offered (take (length (atomsOf x)) costs) (chosenOf r)
+  pub order : Ordering x O (roundsUpTo (atomOf (atomsOf x)) (numbers (atomsOf x)) (choose (framesIn x) (atomsOf x)) (suc last) fresh unplanned) (memoryLoop (framesIn x) (atomsOf x) (suc last) fresh unplanned .tally) r
+  pub round : roundOf (framesIn x) (atomsOf x) last ≡ offered (take (length (atomsOf x)) costs) (chosenOf r)

@@ -4,8 +4,7 @@ ghost use mathlib.Core.Option.{none};
 ghost use mathlib.Core.List.{map};
 ghost use Prim.Native.Nat.{_+_, _<_, _≤_};
 ghost use lib.ListN.{length, set, take};
-ghost use Rattle.hex.specs.Digits.{bytesOf};
-ghost use Rattle.frames.specs.First.{framesOf};
+ghost use Rattle.frames.specs.Sheet.{framesIn};
 ghost use Rattle.reading.specs.Index.{Indexed};
 ghost use Rattle.model.specs.Scheduling.{numbers};
 ghost use Rattle.cost.specs.QueryAtoms.{atomOfFrame};
@@ -67,11 +66,11 @@ fn better(i: u8, c: Costed, b: Best) -> Best
 // What stands for an atom that is no candidate: a cost is never below 0.
 const NO_CANDIDATE: f64 = -1.0;
 
-// Atom number i, by its line, against the best so far; its cost is written.
+// Atom number i, by its frame, against the best so far; its cost is written.
 fn consider(
-    text: &[u8],
-    index: &[u32],
-    line: &[u8],
+    sheet: &[u8],
+    index: &[u16],
+    frame: &[u8],
     row: &[f64],
     i: u8,
     used: &[bool],
@@ -85,30 +84,30 @@ fn consider(
     costs: &mut [f64],
     b: Best,
 ) -> Best
-    requires { ⌜ AtomLine (bytesOf (now line)) ⌝ }
-    requires { ⌜ Samples (framesOf (now text)) how (now draws) ⌝ }
-    requires { ⌜ Remembers (framesOf (now text)) how (now keys) (now valued) (now values) (b .tallies) ⌝ }
-    requires { ⌜ length (considered (framesOf (now text)) (map decode (now em)) (now used) (now bound) i (atomOfFrame (bytesOf (now line))) (tallyAt (now keys) (b .tallies)) (bidOf (b .found) (b .who) (b .price)) .next .memo) ≤ length (now keys) ⌝ }
-    requires { ⌜ Indexed (now text) (now index) ⌝ }
-    requires { ⌜ Row (framesOf (now text)) (bytesOf (now line)) i (now row) ⌝ }
+    requires { ⌜ AtomLine (now frame) ⌝ }
+    requires { ⌜ Samples (framesIn (now sheet)) how (now draws) ⌝ }
+    requires { ⌜ Remembers (framesIn (now sheet)) how (now keys) (now valued) (now values) (b .tallies) ⌝ }
+    requires { ⌜ length (considered (framesIn (now sheet)) (map decode (now em)) (now used) (now bound) i (atomOfFrame (now frame)) (tallyAt (now keys) (b .tallies)) (bidOf (b .found) (b .who) (b .price)) .next .memo) ≤ length (now keys) ⌝ }
+    requires { ⌜ Indexed (now sheet) (now index) ⌝ }
+    requires { ⌜ Row (framesIn (now sheet)) (now frame) i (now row) ⌝ }
     requires { ⌜ i < length (now costs) ⌝ }
-    ensures { λ r. ⌜ Chose (framesOf (now (text .entry))) how (now (keys .exit)) (now (valued .exit)) (now (values .exit)) r (considered (framesOf (now (text .entry))) (map decode (now (em .entry))) (now (used .entry)) (now (bound .entry)) i (atomOfFrame (bytesOf (now (line .entry)))) (tallyAt (now (keys .entry)) (b .tallies)) (bidOf (b .found) (b .who) (b .price))) ⌝ }
-    ensures { λ _. ⌜ now (costs .exit) ≡ set (now (costs .entry)) i (offer (framesOf (now (text .entry))) (map decode (now (em .entry))) (now (used .entry)) (now (bound .entry)) i (atomOfFrame (bytesOf (now (line .entry)))) (tallyAt (now (keys .entry)) (b .tallies))) ⌝ }
+    ensures { λ r. ⌜ Chose (framesIn (now (sheet .entry))) how (now (keys .exit)) (now (valued .exit)) (now (values .exit)) r (considered (framesIn (now (sheet .entry))) (map decode (now (em .entry))) (now (used .entry)) (now (bound .entry)) i (atomOfFrame (now (frame .entry))) (tallyAt (now (keys .entry)) (b .tallies)) (bidOf (b .found) (b .who) (b .price))) ⌝ }
+    ensures { λ _. ⌜ now (costs .exit) ≡ set (now (costs .entry)) i (offer (framesIn (now (sheet .entry))) (map decode (now (em .entry))) (now (used .entry)) (now (bound .entry)) i (atomOfFrame (now (frame .entry))) (tallyAt (now (keys .entry)) (b .tallies))) ⌝ }
 {
     let at = wide(i);
     if is_set(used, i) {
         costs[at] = NO_CANDIDATE;
         return b;
     }
-    if !scans(line) {
+    if !scans(frame) {
         costs[at] = NO_CANDIDATE;
         return b;
     }
     let s = b.tallies;
     let c = estimate_cost(
-        text,
+        sheet,
         index,
-        line,
+        frame,
         row,
         i,
         bound,
@@ -126,8 +125,8 @@ fn consider(
 
 // The cheapest of the n atoms, of those that are not used and scan; the cost of each is written.
 pub fn cheapest(
-    text: &[u8],
-    index: &[u32],
+    sheet: &[u8],
+    index: &[u16],
     from: &[usize],
     n: usize,
     prices: &[f64],
@@ -142,15 +141,15 @@ pub fn cheapest(
     costs: &mut [f64],
     s: Tallies,
 ) -> Best
-    requires { ⌜ Located (now text) (now from) n ⌝ }
-    requires { ⌜ Samples (framesOf (now text)) how (now draws) ⌝ }
-    requires { ⌜ Remembers (framesOf (now text)) how (now keys) (now valued) (now values) s ⌝ }
-    requires { ⌜ length (candidates (framesOf (now text)) (map decode (now em)) (atomsOf (now text)) (now used) (now bound) (numbers (atomsOf (now text))) (tallyAt (now keys) s) none .next .memo) ≤ length (now keys) ⌝ }
-    requires { ⌜ Indexed (now text) (now index) ⌝ }
-    requires { ⌜ Priced (now text) (now from) n (now prices) ⌝ }
+    requires { ⌜ Located (now sheet) (now from) n ⌝ }
+    requires { ⌜ Samples (framesIn (now sheet)) how (now draws) ⌝ }
+    requires { ⌜ Remembers (framesIn (now sheet)) how (now keys) (now valued) (now values) s ⌝ }
+    requires { ⌜ length (candidates (framesIn (now sheet)) (map decode (now em)) (atomsOf (now sheet)) (now used) (now bound) (numbers (atomsOf (now sheet))) (tallyAt (now keys) s) none .next .memo) ≤ length (now keys) ⌝ }
+    requires { ⌜ Indexed (now sheet) (now index) ⌝ }
+    requires { ⌜ Priced (now sheet) (now from) n (now prices) ⌝ }
     requires { ⌜ n ≤ length (now costs) ⌝ }
-    ensures { λ r. ⌜ Chose (framesOf (now (text .entry))) how (now (keys .exit)) (now (valued .exit)) (now (values .exit)) r (candidates (framesOf (now (text .entry))) (map decode (now (em .entry))) (atomsOf (now (text .entry))) (now (used .entry)) (now (bound .entry)) (numbers (atomsOf (now (text .entry)))) (tallyAt (now (keys .entry)) s) none) ⌝ }
-    ensures { λ _. ⌜ take n (now (costs .exit)) ≡ offers (framesOf (now (text .entry))) (map decode (now (em .entry))) (atomsOf (now (text .entry))) (now (used .entry)) (now (bound .entry)) (numbers (atomsOf (now (text .entry)))) (tallyAt (now (keys .entry)) s) ⌝ }
+    ensures { λ r. ⌜ Chose (framesIn (now (sheet .entry))) how (now (keys .exit)) (now (valued .exit)) (now (values .exit)) r (candidates (framesIn (now (sheet .entry))) (map decode (now (em .entry))) (atomsOf (now (sheet .entry))) (now (used .entry)) (now (bound .entry)) (numbers (atomsOf (now (sheet .entry)))) (tallyAt (now (keys .entry)) s) none) ⌝ }
+    ensures { λ _. ⌜ take n (now (costs .exit)) ≡ offers (framesIn (now (sheet .entry))) (map decode (now (em .entry))) (atomsOf (now (sheet .entry))) (now (used .entry)) (now (bound .entry)) (numbers (atomsOf (now (sheet .entry)))) (tallyAt (now (keys .entry)) s) ⌝ }
 {
     let mut b = Best {
         found: false,
@@ -160,14 +159,14 @@ pub fn cheapest(
     };
     let mut i: usize = 0;
     while i < n {
-        let line = atom_line(text, from, i);
+        let frame = atom_line(sheet, from, i);
         let at = ROW_SIZE * i;
         let end = at + ROW_SIZE;
         let row = &prices[at..end];
         b = consider(
-            text,
+            sheet,
             index,
-            line,
+            frame,
             row,
             narrow(i),
             used,

@@ -5,8 +5,7 @@ ghost use mathlib.Core.Option.{none};
 ghost use mathlib.Core.List.{map};
 ghost use Prim.Native.Nat.{suc, _+_, _<_, _≤_};
 ghost use lib.ListN.{length};
-ghost use Rattle.hex.specs.Digits.{bytesOf};
-ghost use Rattle.frames.specs.First.{framesOf};
+ghost use Rattle.frames.specs.Sheet.{framesIn};
 ghost use Rattle.reading.specs.Index.{Indexed};
 ghost use Rattle.model.specs.Bound.{has, most};
 ghost use Rattle.model.specs.Scheduling.{scans, atomOf, unplanned};
@@ -48,8 +47,8 @@ pub struct Scheduled {
 
 // An eager round, the emitters of what it lowered, and the choice behind it with its costs.
 fn choose_next(
-    text: &[u8],
-    index: &[u32],
+    sheet: &[u8],
+    index: &[u16],
     from: &[usize],
     n: usize,
     prices: &[f64],
@@ -67,21 +66,21 @@ fn choose_next(
     costs: &mut [f64],
     s: Tallies,
 ) -> Round
-    requires { ⌜ Located (now text) (now from) n ⌝ }
-    requires { ⌜ Ready (now text) (now used) (now bound) (now order) count ⌝ }
+    requires { ⌜ Located (now sheet) (now from) n ⌝ }
+    requires { ⌜ Ready (now sheet) (now used) (now bound) (now order) count ⌝ }
     requires { ⌜ length (now em) ≡ most ⌝ }
-    requires { ⌜ Samples (framesOf (now text)) how (now draws) ⌝ }
-    requires { ⌜ Remembers (framesOf (now text)) how (now keys) (now valued) (now values) s ⌝ }
-    requires { ⌜ RoundRoom (now text) (now used) (now bound) (now before) (map decode (now em)) (now keys) s ⌝ }
-    requires { ⌜ Indexed (now text) (now index) ⌝ }
-    requires { ⌜ Priced (now text) (now from) n (now prices) ⌝ }
+    requires { ⌜ Samples (framesIn (now sheet)) how (now draws) ⌝ }
+    requires { ⌜ Remembers (framesIn (now sheet)) how (now keys) (now valued) (now values) s ⌝ }
+    requires { ⌜ RoundRoom (now sheet) (now used) (now bound) (now before) (map decode (now em)) (now keys) s ⌝ }
+    requires { ⌜ Indexed (now sheet) (now index) ⌝ }
+    requires { ⌜ Priced (now sheet) (now from) n (now prices) ⌝ }
     requires { ⌜ n ≤ length (now costs) ⌝ }
-    ensures { λ r. ⌜ Chooses (now (text .entry)) how (now (used .entry)) (now (bound .entry)) (now (before .entry)) (map decode (now (em .entry))) (now (order .entry)) count (now (keys .entry)) s (now (used .exit)) (now (bound .exit)) (map decode (now (em .exit))) (now (order .exit)) (now (keys .exit)) (now (valued .exit)) (now (values .exit)) (now (costs .exit)) r ⌝ }
+    ensures { λ r. ⌜ Chooses (now (sheet .entry)) how (now (used .entry)) (now (bound .entry)) (now (before .entry)) (map decode (now (em .entry))) (now (order .entry)) count (now (keys .entry)) s (now (used .exit)) (now (bound .exit)) (map decode (now (em .exit))) (now (order .exit)) (now (keys .exit)) (now (valued .exit)) (now (values .exit)) (now (costs .exit)) r ⌝ }
 {
-    let c = lower_eager(text, from, n, used, bound, order, count);
-    record_emitters(em, text, from, n, before, used);
+    let c = lower_eager(sheet, from, n, used, bound, order, count);
+    record_emitters(em, sheet, from, n, before, used);
     let best = cheapest(
-        text,
+        sheet,
         index,
         from,
         n,
@@ -100,24 +99,24 @@ fn choose_next(
     Round { count: c, best }
 }
 
-// Atom number i, by its line, is lowered; c atoms were before. How many now are.
+// Atom number i, by its frame, is lowered; c atoms were before. How many now are.
 fn take(
-    line: &[u8],
+    frame: &[u8],
     i: u8,
     used: &mut [bool],
     bound: &mut [bool],
     order: &mut [u8],
     c: usize,
 ) -> usize
-    requires { ⌜ AtomLine (bytesOf (now line)) ⌝ }
-    requires { ⌜ scans (atomOfFrame (bytesOf (now line))) ≡ true ⌝ }
+    requires { ⌜ AtomLine (now frame) ⌝ }
+    requires { ⌜ scans (atomOfFrame (now frame)) ≡ true ⌝ }
     requires { ⌜ has (now used) i ≡ false ⌝ }
     requires { ⌜ length (now bound) ≡ most ⌝ }
     requires { ⌜ i < length (now used) ⌝ }
     requires { ⌜ c < length (now order) ⌝ }
-    ensures { λ r. ⌜ Takes (bytesOf (now (line .entry))) i (now (used .entry)) (now (bound .entry)) (now (order .entry)) c (now (used .exit)) (now (bound .exit)) (now (order .exit)) r ⌝ }
+    ensures { λ r. ⌜ Takes (now (frame .entry)) i (now (used .entry)) (now (bound .entry)) (now (order .entry)) c (now (used .exit)) (now (bound .exit)) (now (order .exit)) r ⌝ }
 {
-    let _ = lower_bound(line, bound);
+    let _ = lower_bound(frame, bound);
     set_bound(used, i);
     order[c] = i;
     c + 1
@@ -137,7 +136,7 @@ fn copy_set(from: &[bool], to: &mut [bool])
 
 // The atom chosen, number i, is lowered, and its emitters recorded.
 fn take_next(
-    text: &[u8],
+    sheet: &[u8],
     from: &[usize],
     n: usize,
     i: u8,
@@ -148,18 +147,18 @@ fn take_next(
     order: &mut [u8],
     count: usize,
 ) -> usize
-    requires { ⌜ Located (now text) (now from) n ⌝ }
+    requires { ⌜ Located (now sheet) (now from) n ⌝ }
     requires { ⌜ i < n ⌝ }
-    requires { ⌜ scans (atomOf (atomsOf (now text)) i) ≡ true ⌝ }
+    requires { ⌜ scans (atomOf (atomsOf (now sheet)) i) ≡ true ⌝ }
     requires { ⌜ has (now used) i ≡ false ⌝ }
-    requires { ⌜ Ready (now text) (now used) (now bound) (now order) count ⌝ }
+    requires { ⌜ Ready (now sheet) (now used) (now bound) (now order) count ⌝ }
     requires { ⌜ length (now em) ≡ most ⌝ }
     requires { ⌜ length (now before) ≡ most ⌝ }
-    ensures { λ r. ⌜ TakesNext (now (text .entry)) i (now (used .entry)) (now (bound .entry)) (map decode (now (em .entry))) (now (order .entry)) count (now (used .exit)) (now (bound .exit)) (now (before .exit)) (map decode (now (em .exit))) (now (order .exit)) r ⌝ }
+    ensures { λ r. ⌜ TakesNext (now (sheet .entry)) i (now (used .entry)) (now (bound .entry)) (map decode (now (em .entry))) (now (order .entry)) count (now (used .exit)) (now (bound .exit)) (now (before .exit)) (map decode (now (em .exit))) (now (order .exit)) r ⌝ }
 {
-    let line = atom_line(text, from, wide(i));
-    let c = take(line, i, used, bound, order, count);
-    record_atom(em, line, i);
+    let frame = atom_line(sheet, from, wide(i));
+    let c = take(frame, i, used, bound, order, count);
+    record_atom(em, frame, i);
     copy_set(used, before);
     c
 }
@@ -180,8 +179,8 @@ fn ended(count: usize, b: Best) -> Scheduled
 // The order in which the atoms are lowered, by an eager round and the cheapest atom in turn, until no atom is left to choose, or behind
 // `last` rounds and one more; the costs of the last one.
 pub fn schedule(
-    text: &[u8],
-    index: &[u32],
+    sheet: &[u8],
+    index: &[u16],
     from: &[usize],
     n: usize,
     prices: &[f64],
@@ -198,16 +197,16 @@ pub fn schedule(
     last: usize,
     costs: &mut [f64],
 ) -> Scheduled
-    requires { ⌜ Located (now text) (now from) n ⌝ }
+    requires { ⌜ Located (now sheet) (now from) n ⌝ }
     requires { ⌜ Unplanned (now used) (now bound) (now before) (now em) ⌝ }
     requires { ⌜ length (now order) ≡ most ⌝ }
-    requires { ⌜ Samples (framesOf (now text)) how (now draws) ⌝ }
+    requires { ⌜ Samples (framesIn (now sheet)) how (now draws) ⌝ }
     requires { ⌜ (length (now valued) ≡ length (now keys)) × ((length (now values) ≡ length (now keys)) × (length (now keys) ≤ keysMost)) ⌝ }
-    requires { ⌜ length (memoryLoop (framesOf (now text)) (atomsOf (now text)) (suc last) fresh unplanned .tally .memo) ≤ length (now keys) ⌝ }
-    requires { ⌜ Indexed (now text) (now index) ⌝ }
-    requires { ⌜ Priced (now text) (now from) n (now prices) ⌝ }
+    requires { ⌜ length (memoryLoop (framesIn (now sheet)) (atomsOf (now sheet)) (suc last) fresh unplanned .tally .memo) ≤ length (now keys) ⌝ }
+    requires { ⌜ Indexed (now sheet) (now index) ⌝ }
+    requires { ⌜ Priced (now sheet) (now from) n (now prices) ⌝ }
     requires { ⌜ length (now costs) ≡ most ⌝ }
-    ensures { λ r. ⌜ Rounded (now (text .entry)) (now (order .exit)) last (now (costs .exit)) r ⌝ }
+    ensures { λ r. ⌜ Rounded (now (sheet .entry)) (now (order .exit)) last (now (costs .exit)) r ⌝ }
 {
     let mut count: usize = 0;
     let mut s = Tallies {
@@ -218,7 +217,7 @@ pub fn schedule(
     let mut left = last;
     loop {
         let r = choose_next(
-            text,
+            sheet,
             index,
             from,
             n,
@@ -243,7 +242,7 @@ pub fn schedule(
         if !b.found {
             return ended(count, b);
         }
-        count = take_next(text, from, n, b.who, used, bound, before, em, order, count);
+        count = take_next(sheet, from, n, b.who, used, bound, before, em, order, count);
         if left == 0 {
             return ended(count, b);
         }

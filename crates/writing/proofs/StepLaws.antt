@@ -6,8 +6,7 @@ use native.Mathlib.Omega.{arith}
 use native.Mathlib.Numerals.{add-one}
 use lib.ListN.{length, getD, take, drop, length-take, drop-of-length-le}
 use lib.Seq.{drop-cons, getD-take}
-use Rattle.hex.specs.Digits.{bytesOf}
-use Rattle.hex.specs.Lines.{lineAt}
+use Rattle.frames.specs.Sheet.{frameAt}
 use Rattle.model.specs.Atoms.{Atom}
 use Rattle.model.specs.Bound.{Bound, most}
 use Rattle.model.specs.Lowering.{lower}
@@ -33,15 +32,15 @@ module _ (x from : List ℕ) (n : ℕ) (O : List ℕ) (count c k v : ℕ) (z : L
   pub number : v < n
   number = rw (wide, is) (y .below c h)
 
-  module _ (l : List ℕ) (line : l ≡ lineAt x (getD from v 0)) where
-    pub line-ready : Emittable (bytesOf l)
+  module _ (l : List ℕ) (line : l ≡ frameAt x (getD from v 0)) where
+    pub line-ready : Emittable l
     line-ready = rw line (y .line v number)
 
-    pub atom-ready : AtomLine (bytesOf l)
+    pub atom-ready : AtomLine l
     atom-ready = line-ready .atom
 
-    atom-is : atomOf (atomsOf x) k ≡ atomOfFrame (bytesOf l)
-    atom-is = ap (atomOf (atomsOf x)) (sym wide) ∙ z .is v number ∙ ap (λ (s : List ℕ). atomOfFrame (bytesOf s)) (sym line)
+    atom-is : atomOf (atomsOf x) k ≡ atomOfFrame l
+    atom-is = ap (atomOf (atomsOf x)) (sym wide) ∙ z .is v number ∙ ap (λ (s : List ℕ). atomOfFrame s) (sym line)
 
 -- ---- how many steps
 
@@ -55,7 +54,7 @@ pub adding-none : (x O : List ℕ) (count : ℕ) → Adding x O count 0 0
 adding-none x O count = record { few = omega arith; small = omega arith; is = omega arith }
 
 module _ (x O : List ℕ) (count sum c : ℕ) (m : Adding x O count sum c) where
-  pub adding-again : (from : List ℕ) (n k v : ℕ) → Located x from n → Ordered x from n O count → c < count → k ≡ getD O c 0 → v ≡ k → (l : List ℕ) → l ≡ lineAt x (getD from v 0) → (r : ℕ) → r ≡ stepCount (atomOfFrame (bytesOf l)) → r ≤ 256 → Adding x O count (sum + r) (c + 1)
+  pub adding-again : (from : List ℕ) (n k v : ℕ) → Located x from n → Ordered x from n O count → c < count → k ≡ getD O c 0 → v ≡ k → (l : List ℕ) → l ≡ frameAt x (getD from v 0) → (r : ℕ) → r ≡ stepCount (atomOfFrame l) → r ≤ 256 → Adding x O count (sum + r) (c + 1)
   unfolding countAlong
   adding-again from n k v z y h is wide l line r e s =
       let g : countAlong (atomOf (atomsOf x)) (drop c (take count O)) ≡ r + countAlong (atomOf (atomsOf x)) (drop (c + 1) (take count O)) = rw (next-atom O count c k h (y .within) is, atom-is x from n O count c k v z y h is wide l line, e) in
@@ -97,7 +96,7 @@ module _ (x O : List ℕ) (count : ℕ) (B₀ : Bound) (o₀ : List ℕ) (start 
   pub bound-sized : length B₀ ≡ most → length B ≡ most
   bound-sized h = m .bound ∙ h
 
-  pub writing-again : (from : List ℕ) (n k v : ℕ) → Located x from n → Ordered x from n O count → c < count → k ≡ getD O c 0 → v ≡ k → (l : List ℕ) → l ≡ lineAt x (getD from v 0) → (C : Bound) (q : List ℕ) (r : ℕ) → length C ≡ length B → C ≡ boundBehind B (lower B k (atomOfFrame (bytesOf l))) → Emits B k (atomOfFrame (bytesOf l)) o at q r → Writing x O count B₀ o₀ start C q r (c + 1)
+  pub writing-again : (from : List ℕ) (n k v : ℕ) → Located x from n → Ordered x from n O count → c < count → k ≡ getD O c 0 → v ≡ k → (l : List ℕ) → l ≡ frameAt x (getD from v 0) → (C : Bound) (q : List ℕ) (r : ℕ) → length C ≡ length B → C ≡ boundBehind B (lower B k (atomOfFrame l)) → Emits B k (atomOfFrame l) o at q r → Writing x O count B₀ o₀ start C q r (c + 1)
   writing-again from n k v z y h is wide l line C q r s e u = record {
     few = omega arith;
     room = omega (arith, m .room, u .near);
@@ -109,10 +108,10 @@ module _ (x O : List ℕ) (count : ℕ) (B₀ : Bound) (o₀ : List ℕ) (start 
   }
     where
       F : List (List ℕ)
-      F = map frameOf (stepsOf (lower B k (atomOfFrame (bytesOf l))))
+      F = map frameOf (stepsOf (lower B k (atomOfFrame l)))
 
       more : linesOf x B (drop c (take count O)) ≡ F ++ linesOf x C (drop (c + 1) (take count O))
-      more = ap (linesOf x B) (next-atom O count c k h (y .within) is) ∙ along-more (atomOf (atomsOf x)) B C k (drop (c + 1) (take count O)) (atomOfFrame (bytesOf l)) (atom-is x from n O count c k v z y h is wide l line) e
+      more = ap (linesOf x B) (next-atom O count c k h (y .within) is) ∙ along-more (atomOf (atomsOf x)) B C k (drop (c + 1) (take count O)) (atomOfFrame l) (atom-is x from n O count c k v z y h is wide l line) e
 
   pub steps-put : (from : List ℕ) (n : ℕ) → Ordered x from n O count → count ≤ c → PutsSteps x B₀ (take count O) o₀ start o at
   unfolding stepsAlong

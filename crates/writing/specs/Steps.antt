@@ -6,8 +6,7 @@ use mathlib.Core.Option.{Option, none, some}
 use mathlib.Core.List.{List, [], _∷_, _++_, map}
 use native.Mathlib.Omega.{arith}
 use lib.ListN.{length, getD, length-append}
-use Rattle.hex.specs.Digits.{bytesOf}
-use Rattle.hex.specs.Lines.{lineAt}
+use Rattle.frames.specs.Sheet.{frameAt}
 use Rattle.model.specs.Atoms.{Operand, Atom, Plain, Lit, LitBind, Eq, EqGlobal, Pred, Variadic, Step}
 use Rattle.model.specs.Bound.{Bound, has, add, most}
 use Rattle.model.specs.Lowering.{Emitted, emitReadChildren, pvMarkBound, lowerEq, lowerEqGlobal, lower, Lowered, done, more}
@@ -87,7 +86,7 @@ pub record Ordered (x from : List ℕ) (n : ℕ) (O : List ℕ) (count : ℕ) : 
   pub within : count ≤ length O
   pub few : count ≤ most
   pub below : (c : ℕ) → c < count → getD O c 0 < n
-  pub line : (k : ℕ) → k < n → Emittable (bytesOf (lineAt x (getD from k 0)))
+  pub line : (k : ℕ) → k < n → Emittable (frameAt x (getD from k 0))
 
 -- the lines of their steps are put at `at` into o
 pub record PutsSteps (x : List ℕ) (B : Bound) (ks o : List ℕ) (at : ℕ) (p : List ℕ) (r : ℕ) : Type 0 where

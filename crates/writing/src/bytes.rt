@@ -1,4 +1,4 @@
-// Bytes as digits, and the end of a line.
+// Bytes as digits, and the end of a frame.
 ghost use mathlib.Core.Path.{_≡_};
 ghost use mathlib.Core.List.{[], _∷_};
 ghost use Prim.Native.Nat.{ℕ, _+_, _/_, _%_, _<_, _≤_};
@@ -9,7 +9,7 @@ ghost use Rattle.plans.specs.StepFrames.{wordBytes};
 ghost use Rattle.writing.specs.Written.{Puts, PutsBytes};
 use hex::hex_digit;
 
-// One byte of the text.
+// One byte of the sheet.
 fn put(out: &mut [u8], at: usize, b: u8) -> usize
     requires { ⌜ at < 0x8000_0000 ⌝ }
     ensures { λ r. ⌜ Puts (now (out .entry)) at (b ∷ []) (now (out .exit)) r ⌝ }

@@ -4,7 +4,6 @@ ghost use mathlib.Core.Bool.{false};
 ghost use mathlib.Core.List.{[], _∷_};
 ghost use Prim.Native.Nat.{ℕ, _+_, _<_, _≤_};
 ghost use lib.ListN.{length, getD};
-ghost use Rattle.hex.specs.Digits.{bytesOf};
 ghost use Rattle.writing.specs.Pieces.{itemBytes, itemsBytes, itemWidth};
 ghost use Rattle.writing.specs.Written.{PutsBytes, PutsFrames};
 use super::bytes::put_byte;
@@ -17,15 +16,15 @@ use frames::fields::wide;
 use hex::byte_at;
 
 // The operand at byte j, with its multiplicity where items have one.
-fn put_item(line: &[u8], counted: bool, j: usize, out: &mut [u8], at: usize) -> usize
+fn put_item(frame: &[u8], counted: bool, j: usize, out: &mut [u8], at: usize) -> usize
     requires { ⌜ j < 65536 ⌝ }
     requires { ⌜ at < 0x3000_0000 ⌝ }
-    ensures { λ r. ⌜ PutsBytes (now (out .entry)) at (itemBytes counted (bytesOf (now (line .entry))) j) (now (out .exit)) r ⌝ }
+    ensures { λ r. ⌜ PutsBytes (now (out .entry)) at (itemBytes counted (now (frame .entry)) j) (now (out .exit)) r ⌝ }
 {
-    let tag = tag_at(line, j);
-    let index = byte_at(line, j + 1);
+    let tag = tag_at(frame, j);
+    let index = byte_at(frame, j + 1);
     if counted {
-        return put_three(out, at, tag, index, byte_at(line, j + 2));
+        return put_three(out, at, tag, index, byte_at(frame, j + 2));
     }
     put_two(out, at, tag, index)
 }
@@ -40,19 +39,19 @@ fn item_width(counted: bool) -> usize
 }
 
 // n items, from byte i on.
-fn put_items(line: &[u8], counted: bool, i: usize, n: usize, out: &mut [u8], from: usize) -> usize
+fn put_items(frame: &[u8], counted: bool, i: usize, n: usize, out: &mut [u8], from: usize) -> usize
     requires { ⌜ i < 256 ⌝ }
     requires { ⌜ n < 256 ⌝ }
     requires { ⌜ from < 0x2800_0000 ⌝ }
     ensures { λ r. ⌜ r ≤ from + 2048 ⌝ }
-    ensures { λ r. ⌜ PutsBytes (now (out .entry)) from (itemsBytes counted (bytesOf (now (line .entry))) i n) (now (out .exit)) r ⌝ }
+    ensures { λ r. ⌜ PutsBytes (now (out .entry)) from (itemsBytes counted (now (frame .entry)) i n) (now (out .exit)) r ⌝ }
 {
     let w = item_width(counted);
     let mut at = from;
     let mut j = i;
     let mut k: usize = 0;
     while k < n {
-        at = put_item(line, counted, j, out, at);
+        at = put_item(frame, counted, j, out, at);
         j += w;
         k += 1;
     }
@@ -61,7 +60,7 @@ fn put_items(line: &[u8], counted: bool, i: usize, n: usize, out: &mut [u8], fro
 
 // 47 node flags pre suf n operands
 pub fn expand_a(
-    line: &[u8],
+    frame: &[u8],
     node: u8,
     flags: u8,
     pre: u8,
@@ -74,17 +73,17 @@ pub fn expand_a(
     requires { ⌜ i < 256 ⌝ }
     requires { ⌜ at < 0x2000_0000 ⌝ }
     ensures { λ r. ⌜ r ≤ at + 4096 ⌝ }
-    ensures { λ r. ⌜ PutsFrames (now (out .entry)) at ((0x47 ∷ node ∷ flags ∷ pre ∷ suf ∷ n ∷ itemsBytes false (bytesOf (now (line .entry))) i n) ∷ []) (now (out .exit)) r ⌝ }
+    ensures { λ r. ⌜ PutsFrames (now (out .entry)) at ((0x47 ∷ node ∷ flags ∷ pre ∷ suf ∷ n ∷ itemsBytes false (now (frame .entry)) i n) ∷ []) (now (out .exit)) r ⌝ }
 {
     let a = put_four(out, at, 0x47, node, flags, pre);
     let b = put_two(out, a, suf, n);
-    let c = put_items(line, false, i, wide(n), out, b);
+    let c = put_items(frame, false, i, wide(n), out, b);
     put_end(out, c)
 }
 
 // 48 and 49: node flag rest n, then operands, each with its multiplicity in a 48
 pub fn decompose(
-    line: &[u8],
+    frame: &[u8],
     counted: bool,
     step: u8,
     node: u8,
@@ -98,10 +97,10 @@ pub fn decompose(
     requires { ⌜ i < 256 ⌝ }
     requires { ⌜ at < 0x2000_0000 ⌝ }
     ensures { λ r. ⌜ r ≤ at + 4096 ⌝ }
-    ensures { λ r. ⌜ PutsFrames (now (out .entry)) at ((step ∷ node ∷ flag ∷ rest ∷ n ∷ itemsBytes counted (bytesOf (now (line .entry))) i n) ∷ []) (now (out .exit)) r ⌝ }
+    ensures { λ r. ⌜ PutsFrames (now (out .entry)) at ((step ∷ node ∷ flag ∷ rest ∷ n ∷ itemsBytes counted (now (frame .entry)) i n) ∷ []) (now (out .exit)) r ⌝ }
 {
     let a = put_four(out, at, step, node, flag, rest);
     let b = put_byte(out, a, n);
-    let c = put_items(line, counted, i, wide(n), out, b);
+    let c = put_items(frame, counted, i, wide(n), out, b);
     put_end(out, c)
 }

@@ -3,7 +3,6 @@ ghost use mathlib.Core.Path.{_≡_};
 ghost use mathlib.Core.List.{[], _∷_};
 ghost use Prim.Native.Nat.{ℕ, _+_, _<_, _≤_};
 ghost use lib.ListN.{length, getD};
-ghost use Rattle.hex.specs.Digits.{bytesOf};
 ghost use Rattle.model.specs.Atoms.{ByOp, ByRepr, Join};
 ghost use Rattle.model.specs.Bound.{has};
 ghost use Rattle.model.specs.Lowering.{joinLookups};
@@ -30,7 +29,7 @@ fn bound_join(node: u8, op: u8, k: u8, out: &mut [u8], at: usize) -> usize
 
 // The node is not bound: by the operator, and by the operands that are bound.
 fn free_join(
-    line: &[u8],
+    frame: &[u8],
     plain: bool,
     i: usize,
     w: usize,
@@ -46,18 +45,18 @@ fn free_join(
     requires { ⌜ w < 256 ⌝ }
     requires { ⌜ n < 255 ⌝ }
     requires { ⌜ at < 0x2000_0000 ⌝ }
-    ensures { λ r. ⌜ PutsStep (now (out .entry)) at (Join node k (ByOp op ∷ lookupsOf plain (now (bound .entry)) 0 (operandsFrom (bytesOf (now (line .entry))) i w n))) (now (out .exit)) r ⌝ }
+    ensures { λ r. ⌜ PutsStep (now (out .entry)) at (Join node k (ByOp op ∷ lookupsOf plain (now (bound .entry)) 0 (operandsFrom (now (frame .entry)) i w n))) (now (out .exit)) r ⌝ }
 {
-    let count = count_bound(line, plain, i, w, n, bound) + 1;
+    let count = count_bound(frame, plain, i, w, n, bound) + 1;
     let a = put_four(out, at, 0x40, node, k, count as u8);
     let b = put_four(out, a, 0, op, 0, 0);
-    let c = put_lookups(line, plain, i, w, n, bound, out, b);
+    let c = put_lookups(frame, plain, i, w, n, bound, out, b);
     put_end(out, c)
 }
 
 // The Join of atom k, whose n operands stand from byte i on, each w bytes behind the one before.
 pub fn join(
-    line: &[u8],
+    frame: &[u8],
     plain: bool,
     i: usize,
     w: usize,
@@ -71,12 +70,12 @@ pub fn join(
     requires { ⌜ w < 256 ⌝ }
     requires { ⌜ n < 255 ⌝ }
     requires { ⌜ at < 0x2000_0000 ⌝ }
-    ensures { λ r. ⌜ PutsStep (now (out .entry)) at (Join (getD (bytesOf (now (line .entry))) 1 0) k (joinLookups (has (now (bound .entry)) (getD (bytesOf (now (line .entry))) 1 0)) (getD (bytesOf (now (line .entry))) 1 0) (getD (bytesOf (now (line .entry))) 2 0) (lookupsOf plain (now (bound .entry)) 0 (operandsFrom (bytesOf (now (line .entry))) i w n)))) (now (out .exit)) r ⌝ }
+    ensures { λ r. ⌜ PutsStep (now (out .entry)) at (Join (getD (now (frame .entry)) 1 0) k (joinLookups (has (now (bound .entry)) (getD (now (frame .entry)) 1 0)) (getD (now (frame .entry)) 1 0) (getD (now (frame .entry)) 2 0) (lookupsOf plain (now (bound .entry)) 0 (operandsFrom (now (frame .entry)) i w n)))) (now (out .exit)) r ⌝ }
 {
-    let node = byte_at(line, 1);
-    let op = byte_at(line, 2);
+    let node = byte_at(frame, 1);
+    let op = byte_at(frame, 2);
     if is_set(bound, node) {
         return bound_join(node, op, k, out, at);
     }
-    free_join(line, plain, i, w, n, node, op, k, bound, out, at)
+    free_join(frame, plain, i, w, n, node, op, k, bound, out, at)
 }

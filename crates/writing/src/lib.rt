@@ -1,4 +1,4 @@
-// The plan's text, written into a lent output where there is room; the next place is told always.
+// The plan's sheet, written into a lent output where there is room; the next place is told always.
 pub mod atom;
 pub mod bytes;
 pub mod children;

@@ -3,7 +3,6 @@ ghost use mathlib.Core.Path.{_≡_};
 ghost use mathlib.Core.List.{[], _∷_, flatMap};
 ghost use Prim.Native.Nat.{ℕ, _+_, _*_, _<_, _≤_};
 ghost use lib.ListN.{length, getD};
-ghost use Rattle.hex.specs.Digits.{bytesOf};
 ghost use Rattle.model.specs.Lists.{one};
 ghost use Rattle.model.specs.Lowering.{pvIsBound};
 ghost use Rattle.cost.specs.QueryAtoms.{operandAt, operandsFrom};
@@ -16,18 +15,18 @@ use hex::byte_at;
 use lowering::operands::pv_is_bound;
 
 // How many of n operands are bound.
-pub fn count_bound(line: &[u8], plain: bool, i: usize, w: usize, n: usize, bound: &[bool]) -> usize
+pub fn count_bound(frame: &[u8], plain: bool, i: usize, w: usize, n: usize, bound: &[bool]) -> usize
     requires { ⌜ i < 256 ⌝ }
     requires { ⌜ w < 256 ⌝ }
     requires { ⌜ n < 256 ⌝ }
-    ensures { λ r. ⌜ (r ≡ length (lookupsOf plain (now (bound .entry)) 0 (operandsFrom (bytesOf (now (line .entry))) i w n))) × (r ≤ n) ⌝ }
+    ensures { λ r. ⌜ (r ≡ length (lookupsOf plain (now (bound .entry)) 0 (operandsFrom (now (frame .entry)) i w n))) × (r ≤ n) ⌝ }
 {
     let mut count: usize = 0;
     let mut k: usize = 0;
     while k < n {
         let j = i + w * k;
         k += 1;
-        if !pv_is_bound(line, j, bound) {
+        if !pv_is_bound(frame, j, bound) {
             continue;
         }
         count += 1;
@@ -37,7 +36,7 @@ pub fn count_bound(line: &[u8], plain: bool, i: usize, w: usize, n: usize, bound
 
 // The lookup by the operand at byte j, where it is bound.
 fn put_lookup(
-    line: &[u8],
+    frame: &[u8],
     j: usize,
     plain: bool,
     position: u8,
@@ -47,13 +46,13 @@ fn put_lookup(
 ) -> usize
     requires { ⌜ j < 65536 ⌝ }
     requires { ⌜ at < 0x3000_0000 ⌝ }
-    ensures { λ r. ⌜ PutsBytes (now (out .entry)) at (flatMap lookupBytes (one (pvIsBound (now (bound .entry)) (operandAt (bytesOf (now (line .entry))) j)) (lookupFor plain (operandAt (bytesOf (now (line .entry))) j) position))) (now (out .exit)) r ⌝ }
+    ensures { λ r. ⌜ PutsBytes (now (out .entry)) at (flatMap lookupBytes (one (pvIsBound (now (bound .entry)) (operandAt (now (frame .entry)) j)) (lookupFor plain (operandAt (now (frame .entry)) j) position))) (now (out .exit)) r ⌝ }
 {
-    if !pv_is_bound(line, j, bound) {
+    if !pv_is_bound(frame, j, bound) {
         return at;
     }
-    let tag = tag_at(line, j);
-    let index = byte_at(line, j + 1);
+    let tag = tag_at(frame, j);
+    let index = byte_at(frame, j + 1);
     if plain {
         return put_four(out, at, 1, tag, index, position);
     }
@@ -62,7 +61,7 @@ fn put_lookup(
 
 // The lookups by n operands, each w bytes behind the one before, from byte i on.
 pub fn put_lookups(
-    line: &[u8],
+    frame: &[u8],
     plain: bool,
     i: usize,
     w: usize,
@@ -76,12 +75,12 @@ pub fn put_lookups(
     requires { ⌜ n < 256 ⌝ }
     requires { ⌜ from < 0x2800_0000 ⌝ }
     ensures { λ r. ⌜ r ≤ from + 2048 ⌝ }
-    ensures { λ r. ⌜ PutsBytes (now (out .entry)) from (flatMap lookupBytes (lookupsOf plain (now (bound .entry)) 0 (operandsFrom (bytesOf (now (line .entry))) i w n))) (now (out .exit)) r ⌝ }
+    ensures { λ r. ⌜ PutsBytes (now (out .entry)) from (flatMap lookupBytes (lookupsOf plain (now (bound .entry)) 0 (operandsFrom (now (frame .entry)) i w n))) (now (out .exit)) r ⌝ }
 {
     let mut at = from;
     let mut k: usize = 0;
     while k < n {
-        at = put_lookup(line, i + w * k, plain, k as u8, bound, out, at);
+        at = put_lookup(frame, i + w * k, plain, k as u8, bound, out, at);
         k += 1;
     }
     at

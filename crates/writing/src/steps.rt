@@ -1,4 +1,4 @@
-// The steps of the atoms of a text, in an order: as lines, and how many they are.
+// The steps of the atoms of a sheet, in an order: as lines, and how many they are.
 ghost use mathlib.Core.Path.{_≡_};
 ghost use Prim.Native.Nat.{_<_, _≤_};
 ghost use lib.ListN.{length, take};
@@ -13,7 +13,7 @@ use lowering::eager::atom_line;
 
 // The lines of the first `count` atoms of the order.
 pub fn write_steps(
-    text: &[u8],
+    sheet: &[u8],
     from: &[usize],
     n: usize,
     order: &[u8],
@@ -22,34 +22,34 @@ pub fn write_steps(
     out: &mut [u8],
     at: usize,
 ) -> usize
-    requires { ⌜ Located (now text) (now from) n ⌝ }
-    requires { ⌜ Ordered (now text) (now from) n (now order) count ⌝ }
+    requires { ⌜ Located (now sheet) (now from) n ⌝ }
+    requires { ⌜ Ordered (now sheet) (now from) n (now order) count ⌝ }
     requires { ⌜ length (now bound) ≡ most ⌝ }
     requires { ⌜ at < 4096 ⌝ }
-    ensures { λ r. ⌜ PutsSteps (now (text .entry)) (now (bound .entry)) (take count (now (order .entry))) (now (out .entry)) at (now (out .exit)) r ⌝ }
+    ensures { λ r. ⌜ PutsSteps (now (sheet .entry)) (now (bound .entry)) (take count (now (order .entry))) (now (out .entry)) at (now (out .exit)) r ⌝ }
 {
     let mut next = at;
     let mut c: usize = 0;
     while c < count {
         let k = order[c];
-        let line = atom_line(text, from, wide(k));
-        next = emit_atom(line, k, bound, out, next);
+        let frame = atom_line(sheet, from, wide(k));
+        next = emit_atom(frame, k, bound, out, next);
         c += 1;
     }
     next
 }
 
 // How many steps they are, if each atom lowers in its turn.
-pub fn count_steps(text: &[u8], from: &[usize], n: usize, order: &[u8], count: usize) -> usize
-    requires { ⌜ Located (now text) (now from) n ⌝ }
-    requires { ⌜ Ordered (now text) (now from) n (now order) count ⌝ }
-    ensures { λ r. ⌜ (r ≡ countAlong (atomOf (atomsOf (now (text .entry)))) (take count (now (order .entry)))) × (r ≤ 0x4000) ⌝ }
+pub fn count_steps(sheet: &[u8], from: &[usize], n: usize, order: &[u8], count: usize) -> usize
+    requires { ⌜ Located (now sheet) (now from) n ⌝ }
+    requires { ⌜ Ordered (now sheet) (now from) n (now order) count ⌝ }
+    ensures { λ r. ⌜ (r ≡ countAlong (atomOf (atomsOf (now (sheet .entry)))) (take count (now (order .entry)))) × (r ≤ 0x4000) ⌝ }
 {
     let mut sum: usize = 0;
     let mut c: usize = 0;
     while c < count {
-        let line = atom_line(text, from, wide(order[c]));
-        sum += steps_of(line);
+        let frame = atom_line(sheet, from, wide(order[c]));
+        sum += steps_of(frame);
         c += 1;
     }
     sum

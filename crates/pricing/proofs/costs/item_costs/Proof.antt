@@ -1,8 +1,7 @@
 -- `pricing::costs::item_costs` meets its contract: the items left give what all give.
 use Prim.Native.Nat.{_-_}
 use mathlib.Core.List.{map}
-use Rattle.hex.specs.Digits.{bytesOf}
-use Rattle.frames.specs.First.{framesOf}
+use Rattle.frames.specs.Sheet.{framesIn}
 use Rattle.cost.specs.Emitters.{decode}
 use Rattle.pricing.proofs.ItemLaws.{Counting, counting-none, next-samples, next-small, next-at, next-room, counting-again, counting-all}
 use Rattle.pricing.proofs.PriceLaws.{item-priced}
@@ -12,7 +11,7 @@ use Rattle.pricing.proofs.costs.item_costs.Tie as tie
 
 abbrev Inv-loop : tie.InvT-loop
 Inv-loop text index line row bound em how keys₀ valued₀ values₀ draws₀ g n c₀ k₀ keys valued values draws c k =
-    Counting (framesOf text) (map decode em) bound (bytesOf line) g how keys₀ valued₀ values₀ draws₀ c₀ keys valued values draws c k
+    Counting (framesIn text) (map decode em) bound line g how keys₀ valued₀ values₀ draws₀ c₀ keys valued values draws c k
 
 abbrev μ-loop : tie.MeasureT-loop
 μ-loop text index line row bound em how keys₀ valued₀ values₀ draws₀ g n c₀ k₀ keys valued values draws c k = n - k

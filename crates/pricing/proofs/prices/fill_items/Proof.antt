@@ -2,13 +2,13 @@
 use borrow.Author.Needs.{needs}
 use Rattle.pricing.specs.Prices.{ItemsPriced}
 use Prim.Native.Nat.{_-_}
-use Rattle.frames.specs.First.{framesOf}
+use Rattle.frames.specs.Sheet.{framesIn}
 use Rattle.pricing.proofs.PriceLaws.{items-none, item-slot, items-again, items-all}
 use Rattle.pricing.proofs.prices.fill_items.Statement.{statement}
 use Rattle.pricing.proofs.prices.fill_items.Tie as tie
 
 abbrev Inv-loop : tie.InvT-loop
-Inv-loop text index g row₀ denom n j₀ row j = ItemsPriced (framesOf text) g j row₀ row
+Inv-loop text index g row₀ denom n j₀ row j = ItemsPriced (framesIn text) g j row₀ row
 
 abbrev μ-loop : tie.MeasureT-loop
 μ-loop text index g row₀ denom n j₀ row j = n - j

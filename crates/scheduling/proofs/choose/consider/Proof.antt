@@ -2,8 +2,7 @@
 use denote.Ref.{now}
 use mathlib.Core.List.{map}
 use native.Mathlib.Omega.{arith}
-use Rattle.hex.specs.Digits.{bytesOf}
-use Rattle.frames.specs.First.{framesOf}
+use Rattle.frames.specs.Sheet.{framesIn}
 use Rattle.cost.specs.QueryAtoms.{atomOfFrame}
 use Rattle.cost.specs.Emitters.{decode}
 use Rattle.cost.specs.Memo.{tallyAt}
@@ -29,7 +28,7 @@ same-length : tie.Need-same-length
 same-length c = search needs
 
 returns : tie.Need-returns
-returns c = (search considers-used, offers-used (framesOf (now (c .before .before .before .before .before .before .before .before .before .before .before .before .before .before .before .args .text))) (map decode (now (c .before .before .before .before .before .before .before .before .before .before .before .before .before .before .before .args .em))) (now (c .before .before .before .before .before .before .before .before .before .before .before .before .before .before .before .args .used)) (now (c .before .before .before .before .before .before .before .before .before .before .before .before .before .before .before .args .bound)) (c .before .before .before .before .before .before .before .before .before .before .before .before .before .before .before .args .i) (atomOfFrame (bytesOf (now (c .before .before .before .before .before .before .before .before .before .before .before .before .before .before .before .args .line)))) (tallyAt (now (c .before .before .before .before .before .before .before .before .before .before .before .before .before .before .before .args .keys)) (c .before .before .before .before .before .before .before .before .before .before .before .before .before .before .before .args .b .tallies)) (now (c .before .before .before .before .before .before .before .before .before .before .before .before .before .before .before .args .costs)) _ (c .before .before .wide .ensures .0) _ (c .before .is-set .ensures) (c .if1 .taken))
+returns c = (search considers-used, offers-used (framesIn (now (c .before .before .before .before .before .before .before .before .before .before .before .before .before .before .before .args .sheet))) (map decode (now (c .before .before .before .before .before .before .before .before .before .before .before .before .before .before .before .args .em))) (now (c .before .before .before .before .before .before .before .before .before .before .before .before .before .before .before .args .used)) (now (c .before .before .before .before .before .before .before .before .before .before .before .before .before .before .before .args .bound)) (c .before .before .before .before .before .before .before .before .before .before .before .before .before .before .before .args .i) (atomOfFrame (now (c .before .before .before .before .before .before .before .before .before .before .before .before .before .before .before .args .frame))) (tallyAt (now (c .before .before .before .before .before .before .before .before .before .before .before .before .before .before .before .args .keys)) (c .before .before .before .before .before .before .before .before .before .before .before .before .before .before .before .args .b .tallies)) (now (c .before .before .before .before .before .before .before .before .before .before .before .before .before .before .before .args .costs)) _ (c .before .before .wide .ensures .0) _ (c .before .is-set .ensures) (c .if1 .taken))
 
 scans-requires : tie.Need-scans-requires
 scans-requires c κs = search needs
@@ -44,7 +43,7 @@ same-length-2 : tie.Need-same-length-2
 same-length-2 c = search needs
 
 returns-2 : tie.Need-returns-2
-returns-2 c = (search considers-not, offers-not (framesOf (now (c .before .before .before .before .before .before .before .before .before .before .before .before .before .before .before .before .before .args .text))) (map decode (now (c .before .before .before .before .before .before .before .before .before .before .before .before .before .before .before .before .before .args .em))) (now (c .before .before .before .before .before .before .before .before .before .before .before .before .before .before .before .before .before .args .used)) (now (c .before .before .before .before .before .before .before .before .before .before .before .before .before .before .before .before .before .args .bound)) (c .before .before .before .before .before .before .before .before .before .before .before .before .before .before .before .before .before .args .i) (atomOfFrame (bytesOf (now (c .before .before .before .before .before .before .before .before .before .before .before .before .before .before .before .before .before .args .line)))) (tallyAt (now (c .before .before .before .before .before .before .before .before .before .before .before .before .before .before .before .before .before .args .keys)) (c .before .before .before .before .before .before .before .before .before .before .before .before .before .before .before .before .before .args .b .tallies)) (now (c .before .before .before .before .before .before .before .before .before .before .before .before .before .before .before .before .before .args .costs)) _ (c .before .before .before .before .wide .ensures .0) _ (c .before .before .before .is-set .ensures) (c .before .before .if1 .left) _ (c .before .scans .ensures) (c .if2 .taken))
+returns-2 c = (search considers-not, offers-not (framesIn (now (c .before .before .before .before .before .before .before .before .before .before .before .before .before .before .before .before .before .args .sheet))) (map decode (now (c .before .before .before .before .before .before .before .before .before .before .before .before .before .before .before .before .before .args .em))) (now (c .before .before .before .before .before .before .before .before .before .before .before .before .before .before .before .before .before .args .used)) (now (c .before .before .before .before .before .before .before .before .before .before .before .before .before .before .before .before .before .args .bound)) (c .before .before .before .before .before .before .before .before .before .before .before .before .before .before .before .before .before .args .i) (atomOfFrame (now (c .before .before .before .before .before .before .before .before .before .before .before .before .before .before .before .before .before .args .frame))) (tallyAt (now (c .before .before .before .before .before .before .before .before .before .before .before .before .before .before .before .before .before .args .keys)) (c .before .before .before .before .before .before .before .before .before .before .before .before .before .before .before .before .before .args .b .tallies)) (now (c .before .before .before .before .before .before .before .before .before .before .before .before .before .before .before .before .before .args .costs)) _ (c .before .before .before .before .wide .ensures .0) _ (c .before .before .before .is-set .ensures) (c .before .before .if1 .left) _ (c .before .scans .ensures) (c .if2 .taken))
 
 estimate-cost-requires : tie.Need-estimate-cost-requires
 estimate-cost-requires c κs = (search needs, (search needs, (search needs, (search considers-room, (search needs, search needs)))))
@@ -74,7 +73,7 @@ same-length-7 : tie.Need-same-length-7
 same-length-7 c = search needs
 
 returns-3 : tie.Need-returns-3
-returns-3 c = (considers-cost _ _ (now (c .before .before .before .before .before .before .before .before .before .before .before .before .before .before .before .before .before .before .before .before .before .before .before .before .before .before .before .before .before .before .before .before .args .used)) _ _ _ _ _ (now (c .before .before .before .before .before .before .before .before .before .before .before .before .before .before .before .before .before .before .before .before .before .before .before .before .before .before .before .before .before .before .before .before .args .valued)) (now (c .before .before .before .before .before .before .before .before .before .before .before .before .before .before .before .before .before .before .before .before .before .before .before .before .before .before .before .before .before .before .before .before .args .values)) (c .before .before .before .before .before .before .before .before .before .before .before .before .before .before .before .before .before .before .before .before .before .before .before .before .before .before .before .before .before .before .before .before .args .b) _ (c .before .before .before .before .before .before .before .before .before .before .before .before .before .before .before .before .before .before .is-set .ensures) (c .before .before .before .before .before .before .before .before .before .before .before .before .before .before .before .before .before .if1 .left) _ (c .before .before .before .before .before .before .before .before .before .before .before .before .before .before .before .before .scans .ensures) (c .before .before .before .before .before .before .before .before .before .before .before .before .before .before .before .if2 .left) _ _ _ _ _ (c .before .before .before .before .before .before .before .before .before .estimate-cost .ensures) (c .better .ensures), offers-cost (framesOf (now (c .before .before .before .before .before .before .before .before .before .before .before .before .before .before .before .before .before .before .before .before .before .before .before .before .before .before .before .before .before .before .before .before .args .text))) (map decode (now (c .before .before .before .before .before .before .before .before .before .before .before .before .before .before .before .before .before .before .before .before .before .before .before .before .before .before .before .before .before .before .before .before .args .em))) (now (c .before .before .before .before .before .before .before .before .before .before .before .before .before .before .before .before .before .before .before .before .before .before .before .before .before .before .before .before .before .before .before .before .args .used)) (now (c .before .before .before .before .before .before .before .before .before .before .before .before .before .before .before .before .before .before .before .before .before .before .before .before .before .before .before .before .before .before .before .before .args .bound)) (c .before .before .before .before .before .before .before .before .before .before .before .before .before .before .before .before .before .before .before .before .before .before .before .before .before .before .before .before .before .before .before .before .args .i) (atomOfFrame (bytesOf (now (c .before .before .before .before .before .before .before .before .before .before .before .before .before .before .before .before .before .before .before .before .before .before .before .before .before .before .before .before .before .before .before .before .args .line)))) (tallyAt (now (c .before .before .before .before .before .before .before .before .before .before .before .before .before .before .before .before .before .before .before .before .before .before .before .before .before .before .before .before .before .before .before .before .args .keys)) (c .before .before .before .before .before .before .before .before .before .before .before .before .before .before .before .before .before .before .before .before .before .before .before .before .before .before .before .before .before .before .before .before .args .b .tallies)) (now (c .before .before .before .before .before .before .before .before .before .before .before .before .before .before .before .before .before .before .before .before .before .before .before .before .before .before .before .before .before .before .before .before .args .costs)) _ (c .before .before .before .before .before .before .before .before .before .before .before .before .before .before .before .before .before .before .before .wide .ensures .0) _ (c .before .before .before .before .before .before .before .before .before .before .before .before .before .before .before .before .before .before .is-set .ensures) (c .before .before .before .before .before .before .before .before .before .before .before .before .before .before .before .before .before .if1 .left) _ (c .before .before .before .before .before .before .before .before .before .before .before .before .before .before .before .before .scans .ensures) (c .before .before .before .before .before .before .before .before .before .before .before .before .before .before .before .if2 .left) _ (c .before .before .before .before .before .before .before .before .before .estimate-cost .ensures .cost))
+returns-3 c = (considers-cost _ _ (now (c .before .before .before .before .before .before .before .before .before .before .before .before .before .before .before .before .before .before .before .before .before .before .before .before .before .before .before .before .before .before .before .before .args .used)) _ _ _ _ _ (now (c .before .before .before .before .before .before .before .before .before .before .before .before .before .before .before .before .before .before .before .before .before .before .before .before .before .before .before .before .before .before .before .before .args .valued)) (now (c .before .before .before .before .before .before .before .before .before .before .before .before .before .before .before .before .before .before .before .before .before .before .before .before .before .before .before .before .before .before .before .before .args .values)) (c .before .before .before .before .before .before .before .before .before .before .before .before .before .before .before .before .before .before .before .before .before .before .before .before .before .before .before .before .before .before .before .before .args .b) _ (c .before .before .before .before .before .before .before .before .before .before .before .before .before .before .before .before .before .before .is-set .ensures) (c .before .before .before .before .before .before .before .before .before .before .before .before .before .before .before .before .before .if1 .left) _ (c .before .before .before .before .before .before .before .before .before .before .before .before .before .before .before .before .scans .ensures) (c .before .before .before .before .before .before .before .before .before .before .before .before .before .before .before .if2 .left) _ _ _ _ _ (c .before .before .before .before .before .before .before .before .before .estimate-cost .ensures) (c .better .ensures), offers-cost (framesIn (now (c .before .before .before .before .before .before .before .before .before .before .before .before .before .before .before .before .before .before .before .before .before .before .before .before .before .before .before .before .before .before .before .before .args .sheet))) (map decode (now (c .before .before .before .before .before .before .before .before .before .before .before .before .before .before .before .before .before .before .before .before .before .before .before .before .before .before .before .before .before .before .before .before .args .em))) (now (c .before .before .before .before .before .before .before .before .before .before .before .before .before .before .before .before .before .before .before .before .before .before .before .before .before .before .before .before .before .before .before .before .args .used)) (now (c .before .before .before .before .before .before .before .before .before .before .before .before .before .before .before .before .before .before .before .before .before .before .before .before .before .before .before .before .before .before .before .before .args .bound)) (c .before .before .before .before .before .before .before .before .before .before .before .before .before .before .before .before .before .before .before .before .before .before .before .before .before .before .before .before .before .before .before .before .args .i) (atomOfFrame (now (c .before .before .before .before .before .before .before .before .before .before .before .before .before .before .before .before .before .before .before .before .before .before .before .before .before .before .before .before .before .before .before .before .args .frame))) (tallyAt (now (c .before .before .before .before .before .before .before .before .before .before .before .before .before .before .before .before .before .before .before .before .before .before .before .before .before .before .before .before .before .before .before .before .args .keys)) (c .before .before .before .before .before .before .before .before .before .before .before .before .before .before .before .before .before .before .before .before .before .before .before .before .before .before .before .before .before .before .before .before .args .b .tallies)) (now (c .before .before .before .before .before .before .before .before .before .before .before .before .before .before .before .before .before .before .before .before .before .before .before .before .before .before .before .before .before .before .before .before .args .costs)) _ (c .before .before .before .before .before .before .before .before .before .before .before .before .before .before .before .before .before .before .before .wide .ensures .0) _ (c .before .before .before .before .before .before .before .before .before .before .before .before .before .before .before .before .before .before .is-set .ensures) (c .before .before .before .before .before .before .before .before .before .before .before .before .before .before .before .before .before .if1 .left) _ (c .before .before .before .before .before .before .before .before .before .before .before .before .before .before .before .before .scans .ensures) (c .before .before .before .before .before .before .before .before .before .before .before .before .before .before .before .if2 .left) _ (c .before .before .before .before .before .before .before .before .before .estimate-cost .ensures .cost))
 
 pub consider-spec : {M : Type 1} → statement M
 consider-spec =

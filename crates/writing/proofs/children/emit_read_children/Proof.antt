@@ -1,13 +1,12 @@
 -- `writing::children::emit_read_children` meets its contract: the children left give what all give.
 use Prim.Native.Nat.{_-_}
-use Rattle.hex.specs.Digits.{bytesOf}
 use Rattle.writing.proofs.ChildLaws.{Reading, reading-none, child-below, reading-again, reading-all, children-marked, children-room}
 use borrow.Author.Needs.{needs}
 use Rattle.writing.proofs.children.emit_read_children.Statement.{statement}
 use Rattle.writing.proofs.children.emit_read_children.Tie as tie
 
 abbrev Inv-loop : tie.InvT-loop
-Inv-loop line n node bound₀ out₀ from at₀ k₀ bound out at k = Reading (bytesOf line) n node bound₀ out₀ from bound out at k
+Inv-loop line n node bound₀ out₀ from at₀ k₀ bound out at k = Reading line n node bound₀ out₀ from bound out at k
 
 abbrev μ-loop : tie.MeasureT-loop
 μ-loop line n node bound₀ out₀ from at₀ k₀ bound out at k = n - k

@@ -1,13 +1,12 @@
 -- `writing::items::put_items` meets its contract: the items left give what all give.
 use Prim.Native.Nat.{_-_}
-use Rattle.hex.specs.Digits.{bytesOf}
 use Rattle.writing.proofs.ItemLaws.{Listing, listing-none, listing-again, listed, listed-room}
 use borrow.Author.Needs.{needs}
 use Rattle.writing.proofs.items.put_items.Statement.{statement}
 use Rattle.writing.proofs.items.put_items.Tie as tie
 
 abbrev Inv-loop : tie.InvT-loop
-Inv-loop line counted i n out₀ from w at₀ j₀ k₀ out at j k = Listing (bytesOf line) counted i n out₀ from out at j k
+Inv-loop line counted i n out₀ from w at₀ j₀ k₀ out at j k = Listing line counted i n out₀ from out at j k
 
 abbrev μ-loop : tie.MeasureT-loop
 μ-loop line counted i n out₀ from w at₀ j₀ k₀ out at j k = n - k

@@ -1,13 +1,12 @@
 -- `writing::lookups::count_bound` meets its contract: the operands left give what all give.
 use Prim.Native.Nat.{_-_}
-use Rattle.hex.specs.Digits.{bytesOf}
 use Rattle.writing.proofs.LookupLaws.{Counting, counting-none, count-free, count-bound, counted}
 use borrow.Author.Needs.{needs}
 use Rattle.writing.proofs.lookups.count_bound.Statement.{statement}
 use Rattle.writing.proofs.lookups.count_bound.Tie as tie
 
 abbrev Inv-loop : tie.InvT-loop
-Inv-loop line plain i w n bound count₀ k₀ count k = Counting (bytesOf line) plain i w n bound count k
+Inv-loop line plain i w n bound count₀ k₀ count k = Counting line plain i w n bound count k
 
 abbrev μ-loop : tie.MeasureT-loop
 μ-loop line plain i w n bound count₀ k₀ count k = n - k

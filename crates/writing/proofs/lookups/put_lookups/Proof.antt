@@ -1,13 +1,12 @@
 -- `writing::lookups::put_lookups` meets its contract: the operands left give what all give.
 use Prim.Native.Nat.{_-_}
-use Rattle.hex.specs.Digits.{bytesOf}
 use Rattle.writing.proofs.LookupLaws.{Looking, looking-none, looking-again, looked}
 use borrow.Author.Needs.{needs}
 use Rattle.writing.proofs.lookups.put_lookups.Statement.{statement}
 use Rattle.writing.proofs.lookups.put_lookups.Tie as tie
 
 abbrev Inv-loop : tie.InvT-loop
-Inv-loop line plain i w n bound out₀ from at₀ k₀ out at k = Looking (bytesOf line) plain i w n bound out₀ from out at k
+Inv-loop line plain i w n bound out₀ from at₀ k₀ out at k = Looking line plain i w n bound out₀ from out at k
 
 abbrev μ-loop : tie.MeasureT-loop
 μ-loop line plain i w n bound out₀ from at₀ k₀ out at k = n - k
