@@ -40,7 +40,7 @@ module _ (x : Item) where
   pub child-probe : x .element ≡ false → _≡_ {A = Probe} (record { op = x .op; path = 0; place = x .position }) (itemProbe x)
   child-probe h = rw h
 
-pub items-are : (f : List ℕ) (k i w n o : ℕ) → k ≡ getD f 0 0 → (i ≡ fixedLength (kindAt k)) × (i < 256) → (w ≡ width (kindAt k .item)) × (w < 256) → (n ≡ itemsOf (kindOf f) f) × (n < 256) → o ≡ getD f 2 0 → ItemsOf f (record { first = i; width = w; count = n; op = o; elements = ltb 6 k })
+pub items-are : (f : List ℕ) (k i w n o : ℕ) → k ≡ getD f 0 0 → (i ≡ fixedLength (kindAt k)) × (i < 16) → (w ≡ width (kindAt k .item)) × (w < 16) → (n ≡ itemsOf (kindOf f) f) × (n < 256) → o ≡ getD f 2 0 → ItemsOf f (record { first = i; width = w; count = n; op = o; elements = ltb 6 k })
 items-are f k i w n o is hi hw hn ho = record { first = hi .0 ∙ rw is; width = hw .0 ∙ rw is; count = hn .0; op = ho; elements = rw is; early = hi .1; narrow = hw .1; few = hn .1 }
 
 pub item-is : (f : List ℕ) (g : Items) (k : ℕ) (B : Bound) (p : ℕ) (b : Bool) → p ≡ k → b ≡ pvIsBound B (operandAt f (g .first + g .width * k)) → _≡_ {A = Item} (record { at = g .first + g .width * k; position = p; op = g .op; element = g .elements; bound = b }) (itemAt f g k B)

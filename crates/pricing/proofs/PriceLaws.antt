@@ -9,8 +9,7 @@ use lib.ListN.{length, getD, take, drop, set, length-set, length-drop, take-appe
 use lib.Seq.{getD-set-same, getD-set-other, getD-take, take-set-le, length-take-le, take-append-le, drop-append-le, take-at, drop-at}
 use lib.Ieee.{Float, binary64, mul}
 use borrow.Author.Tests.{ltb-true, ltb-false}
-use Rattle.frames.specs.Sheet.{frameAt}
-use Rattle.frames.specs.Sheet.{framesIn}
+use Rattle.frames.specs.Sheet.{frameAt, framesIn}
 use Rattle.frames.specs.Kinds.{itemsOf}
 use Rattle.frames.specs.Frames.{kindOf}
 use Rattle.measure.specs.Selectivity.{zero64, pathSelectivity}
@@ -19,7 +18,7 @@ use Rattle.measure.specs.declared.FanOut.the-variants.{Measured, Unmeasured}
 use Rattle.query.specs.Statistics.{baseCard, denominator, byChildPos, byContains, byRepr, nodes}
 use Rattle.model.specs.Bound.{Bound}
 use Rattle.pricing.specs.Items.{itemFan, orFan, ItemsOf, itemAt, reprSelectivity, reprCost}
-use Rattle.pricing.specs.Prices.{rowSize, itemPrice, ItemPriced, ItemsPriced, RowItems, Row, rowAt, frameAt, FewItems, Priced}
+use Rattle.pricing.specs.Prices.{rowSize, itemPrice, ItemPriced, ItemsPriced, RowItems, Row, rowAt, atomFrame, FewItems, Priced}
 use Rattle.pricing.specs.declared.costs.Items.{Items}
 use Rattle.pricing.specs.declared.costs.Item.{Item}
 use Rattle.base.specs.Lists.{any-default}
@@ -182,7 +181,7 @@ module _ (x from : List ℕ) (n : ℕ) (ps₀ : List Float) where
             priced = record { room = omega (arith, e, row-ends); rows = λ j t. at j t (ltb j k) refl };
           }
             where
-              at : (j : ℕ) → j < k + 1 → (b : Bool) → ltb j k ≡ b → Row (framesIn x) (frameAt x from j) j (rowAt with-row j)
+              at : (j : ℕ) → j < k + 1 → (b : Bool) → ltb j k ≡ b → Row (framesIn x) (atomFrame x from j) j (rowAt with-row j)
               at j t true b =
                   let a : j < k = ltb-true j k b in
                   rw (other-row j a) (m .priced .rows j a)

@@ -74,8 +74,8 @@ pub record ItemsOf (f : List ℕ) (g : Items) : Type 0 where
   pub count : g .count ≡ itemsOf (kindOf f) f
   pub op : g .op ≡ getD f 2 0
   pub elements : g .elements ≡ ltb 6 (getD f 0 0)
-  pub early : g .first < 256
-  pub narrow : g .width < 256
+  pub early : g .first < 16
+  pub narrow : g .width < 16
   pub few : g .count < 256
 
 -- item number k of them

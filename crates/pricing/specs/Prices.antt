@@ -6,9 +6,8 @@ use mathlib.Core.List.{List}
 use lib.Dec.{ltb}
 use lib.ListN.{length, getD, take, drop}
 use lib.Ieee.{Float}
-use Rattle.frames.specs.Sheet.{frameAt}
 use Rattle.frames.specs.Limits.{atomsMost}
-use Rattle.frames.specs.Sheet.{framesIn}
+use Rattle.frames.specs.Sheet.{frameAt, framesIn}
 use Rattle.frames.specs.Kinds.{itemsOf}
 use Rattle.frames.specs.Frames.{kindOf}
 use Rattle.measure.specs.Selectivity.{zero64, pathSelectivity}
@@ -58,14 +57,14 @@ abbrev pub rowAt : List Float → ℕ → List Float
 rowAt ps k = take rowSize (drop (rowSize * k) ps)
 
 -- the frame of atom number k
-abbrev pub frameAt : List ℕ → List ℕ → ℕ → List ℕ
-frameAt x from k = (frameAt x (getD from k 0))
+abbrev pub atomFrame : List ℕ → List ℕ → ℕ → List ℕ
+atomFrame x from k = frameAt x (getD from k 0)
 
 -- the items of each of the n atoms have room in a row
 pub record FewItems (x from : List ℕ) (n : ℕ) : Type 0 where
-  pub few : (k : ℕ) → k < n → itemsOf (kindOf (frameAt x from k)) (frameAt x from k) + 2 ≤ rowSize
+  pub few : (k : ℕ) → k < n → itemsOf (kindOf (atomFrame x from k)) (atomFrame x from k) + 2 ≤ rowSize
 
 -- the rows of the first n atoms
 pub record Priced (x from : List ℕ) (n : ℕ) (ps : List Float) : Type 0 where
   pub room : rowSize * n ≤ length ps
-  pub rows : (k : ℕ) → k < n → Row (framesIn x) (frameAt x from k) k (rowAt ps k)
+  pub rows : (k : ℕ) → k < n → Row (framesIn x) (atomFrame x from k) k (rowAt ps k)

@@ -10,8 +10,7 @@ use lib.Dec.{T}
 use lib.ListN.{length, getD, take, set, length-set}
 use lib.Seq.{take-suc, take-suc-set, take-length}
 use lib.Ieee.{Float}
-use Rattle.frames.specs.Sheet.{frameAt}
-use Rattle.frames.specs.Sheet.{framesIn}
+use Rattle.frames.specs.Sheet.{frameAt, framesIn}
 use Rattle.model.specs.Atoms.{Atom, Plain, Lit, LitBind, Eq, EqGlobal, Pred, Variadic}
 use Rattle.model.specs.Bound.{Bound, has, add, most}
 use Rattle.model.specs.Lowering.{Emitted, lower}
