@@ -10,7 +10,8 @@ use lib.Seq.{length-take-le, getD-set-same, getD-set-other, getD-take, ext-getD}
 use lib.Ieee.{Float, binary64, lt, toBits}
 use borrow.Author.Tests.{not-true, not-false}
 use Rattle.base.specs.Lists.{map-at}
-use Rattle.frames.specs.First.{framesOf}
+use Rattle.frames.specs.Sheet.{framesIn}
+use Rattle.frames.specs.First.{Sheet}
 use Rattle.frames.specs.declared.first.Text.the-variants.{Query}
 use Rattle.frames.specs.declared.first.Reading.{Reading}
 use Rattle.frames.specs.declared.first.Reading.the-variants.{Accepted, Refused}
@@ -70,10 +71,10 @@ module _ (cs : List Float) (out₀ out : List ℕ) (i : ℕ) (f : Filling cs out
 
 module _ (x O : List ℕ) (round : ℕ) (costs : List Float) (s : Scheduled) (h : Rounded x O round costs s) (out o : List ℕ) where
   -- none was found
-  pub told-ended : not (s .found) ≡ true → o ≡ bitsIn (take 0 costs) (length out) → resultOf Ended o ≡ told (roundOf (framesOf x) (atomsOf x) round) out
+  pub told-ended : not (s .found) ≡ true → o ≡ bitsIn (take 0 costs) (length out) → resultOf Ended o ≡ told (roundOf (framesIn x) (atomsOf x) round) out
   told-ended l e = rw (h .round, not-true (s .found) l, e)
 
-  pub told-chosen : (n : ℕ) → n ≡ length (atomsOf x) → not (s .found) ≡ false → o ≡ bitsIn (take n costs) (length out) → resultOf (Chosen (s .who)) o ≡ told (roundOf (framesOf x) (atomsOf x) round) out
+  pub told-chosen : (n : ℕ) → n ≡ length (atomsOf x) → not (s .found) ≡ false → o ≡ bitsIn (take n costs) (length out) → resultOf (Chosen (s .who)) o ≡ told (roundOf (framesIn x) (atomsOf x) round) out
   told-chosen n c l e = rw (h .round, not-false (s .found) l, e) (ap (λ (k : ℕ). resultOf (Chosen (s .who)) (bitsIn (take k costs) (length out))) c)
 
 -- ---- the entry, by what the reading says
@@ -83,6 +84,6 @@ module _ (x : List ℕ) (round : ℕ) (o : List ℕ) (v : Reading) (is : v ≡ r
   unfolding roundCosts
   costs-back k l e = rw (← is, e)
 
-  pub costs-whole : (n c : ℕ) → v ≡ Accepted n c → (q : Result) → q ≡ told (roundOf (framesOf x) (atomsOf x) round) o → q ≡ roundCosts x round o
+  pub costs-whole : (n c : ℕ) → v ≡ Accepted n c → (s : List ℕ) → Sheet x s → (q : Result) → q ≡ told (roundOf (framesIn s) (atomsOf s) round) o → q ≡ roundCosts x round o
   unfolding roundCosts
-  costs-whole n c e q h = rw (← is, e) h
+  costs-whole n c e s g q h = rw (← is, e, ← g .frames) h

@@ -9,24 +9,34 @@ use lib.ListN.{length, getD, take, drop, replicate}
 use lib.Seq.{sets-eq, getD-take, length-take-le}
 use lib.Ieee.{Float}
 use borrow.Author.Tests.{lt-ltb, le-ltb, leb-true, leb-false, le-leb, not-true, not-false}
-use Rattle.frames.specs.First.{framesOf}
+use Rattle.frames.specs.Sheet.{frameAt, framesIn}
+use Rattle.frames.specs.First.{sheetSize, Sheet}
+use Rattle.frames.specs.declared.first.Text.{Text}
 use Rattle.frames.specs.declared.first.Text.the-variants.{Query}
 use Rattle.frames.specs.declared.first.Reading.{Reading}
 use Rattle.frames.specs.declared.first.Reading.the-variants.{Accepted, Refused}
-use Rattle.reading.specs.Second.{countsOf, reading}
+use Rattle.frames.specs.Limits.{itemsMost}
+use Rattle.frames.specs.Kinds.{itemsOf}
+use Rattle.frames.specs.Frames.{kindOf}
+use Rattle.reading.specs.Second.{countsIn, reading}
+use Rattle.reading.specs.Index.{Indexed}
+use Rattle.reading.specs.IndexedReading.{ReadIndexed}
 use Rattle.measure.specs.declared.SamplerConfig.{SamplerConfig}
 use Rattle.query.specs.Statistics.{settings}
 use Rattle.query.specs.declared.statistics.Sampled.the-variants.{On, Off}
+use Rattle.model.specs.Atoms.{Step}
 use Rattle.model.specs.Bound.{most, blank}
 use Rattle.model.specs.Lists.{getD-mem}
 use Rattle.model.specs.Tabulate.{tabulate-mem}
 use Rattle.model.specs.Scheduling.{State, unplanned, atomOf, numbers}
-use Rattle.cost.specs.Choice.{fresh, memoryLoop}
+use Rattle.cost.specs.QueryAtoms.{atomFrames}
+use Rattle.cost.specs.Choice.{fresh, planned, memoryLoop, remembered}
 use Rattle.plans.specs.StepFrames.{frameOf, headerOf}
 use Rattle.plans.specs.PlanText.{textOf, textLength, planText}
 use Rattle.plans.specs.PlanRead.{plan-length}
 use Rattle.plans.specs.Longest.{planMost}
-use Rattle.plan_facts.specs.Remembered.{keysMost, never, nothing-sampled}
+use Rattle.plan_facts.specs.Remembered.{keysMost, FewKeys, never, nothing-sampled}
+use Rattle.lowering.specs.AtomLines.{AtomLine}
 use Rattle.lowering.specs.Eager.{Located, atomsOf}
 use Rattle.lowering.specs.Places.{Places, located}
 use Rattle.pricing.specs.Prices.{rowSize, tableSize, FewItems}
@@ -36,11 +46,52 @@ use Rattle.scheduling.specs.declared.schedule.Scheduled.{Scheduled}
 use Rattle.writing.specs.Steps.{stepsAlong, countAlong, lowered-steps, lowered-count, Ordered, PutsSteps}
 use Rattle.writing.specs.Written.{written, PutsFrames}
 use Rattle.writing.proofs.PutLaws.{frames-then}
-use Rattle.planner.specs.Planner.{Result, stepsOf, talliedOf, rejectedOf, planOf, fitted, plan}
+use Rattle.planner.specs.Planner.{Plan, Result, stepsOf, talliedOf, rejectedOf, planIn, planOf, fitted, plan}
 use Rattle.planner.specs.Promised.{read-back}
-use Rattle.planner.specs.Entry.{resultOf, Accepts}
-use Rattle.planner.specs.Accepted.{frames-few, atom-lines, atom-items, rounds-keys, few-keys, small-settings}
+use Rattle.planner.specs.Entry.{planOn, resultOf, Accepts}
+use Rattle.planner.specs.Accepted.{Small, frames-few, atom-lines, atom-items, rounds-keys, few-keys, small-settings}
 use Rattle.planner.specs.declared.entry.Planned.the-variants.{Written as Wrote, Refused as TurnsBack}
+
+-- ---- the sheet and the index of a text that was read and accepted
+
+module _ (t : Text) (x s i : List ℕ) (r : Reading) (p : ReadIndexed t x s i r) (n c : ℕ) (e : r ≡ Accepted n c) (z : ℕ) (u : z ≡ sheetSize (length x) n) where
+  pub read-within : z ≤ length s
+  read-within = rw u (p .fits n c e)
+
+  pub read-fits : z ≡ length (take z s)
+  read-fits = sym (length-take-le z s read-within)
+
+  pub read-sheet : Sheet x (take z s)
+  read-sheet = rw u (p .sheet n c e)
+
+  pub read-index : Indexed (take z s) i
+  read-index = rw u (p .indexed n c e)
+
+-- ---- the sheet of an accepted query
+
+module _ (s : List ℕ) (a : Accepts s) where
+  pub sheet-few : length (atomFrames (framesIn s)) ≤ most
+  sheet-few = rw (a .sheet .frames) (frames-few (a .text) (a .lines) (a .atoms) (a .is))
+
+  sheet-lines : (k : ℕ) → k < length (atomFrames (framesIn s)) → AtomLine (getD (atomFrames (framesIn s)) k [])
+  sheet-lines = rw (a .sheet .frames) (atom-lines (a .text) (a .lines) (a .atoms) (a .is))
+
+  sheet-items : (k : ℕ) → k < length (atomFrames (framesIn s)) → itemsOf (kindOf (getD (atomFrames (framesIn s)) k [])) (getD (atomFrames (framesIn s)) k []) ≤ itemsMost
+  sheet-items = rw (a .sheet .frames) (atom-items (a .text) (a .lines) (a .atoms) (a .is))
+
+  sheet-rounds : (f : ℕ) → FewKeys (memoryLoop (framesIn s) (atomsOf s) f fresh unplanned .tally)
+  sheet-rounds = rw (a .sheet .frames) (rounds-keys (a .text) (a .lines) (a .atoms) (a .is))
+
+  sheet-keys : FewKeys (remembered (framesIn s) (atomsOf s) .tally)
+  sheet-keys = rw (a .sheet .frames) (few-keys (a .text) (a .lines) (a .atoms) (a .is))
+
+  sheet-settings : (cfg : SamplerConfig) → settings (framesIn s) ≡ On cfg → Small cfg
+  sheet-settings = rw (a .sheet .frames) (small-settings (a .text) (a .lines) (a .atoms) (a .is))
+
+-- its plan is that of the text
+pub plan-on : (x s : List ℕ) → Sheet x s → planOn s ≡ planOf x
+unfolding planOf
+plan-on x s h = rw (h .header, h .frames)
 
 -- ---- the order
 
@@ -51,19 +102,19 @@ all-unplanned = record { used = refl; bound = refl; before = refl; emitters = re
 pub samples-nothing : (fs : List (List ℕ)) (draws : List Float) → settings fs ≡ Off → Samples fs Off draws
 samples-nothing fs draws e = record { set = sym e; nodes = λ cfg h. never cfg h; resamples = λ cfg h. never cfg h; room = λ cfg h. never cfg h }
 
-pub remembers-nothing : (x : List ℕ) (f : ℕ) → settings (framesOf x) ≡ Off → length (memoryLoop (framesOf x) (atomsOf x) f fresh unplanned .tally .memo) ≤ 1
-remembers-nothing x f e = rw (nothing-sampled (framesOf x) (atomsOf x) f e) (omega arith)
+pub remembers-nothing : (x : List ℕ) (f : ℕ) → settings (framesIn x) ≡ Off → length (memoryLoop (framesIn x) (atomsOf x) f fresh unplanned .tally .memo) ≤ 1
+remembers-nothing x f e = rw (nothing-sampled (framesIn x) (atomsOf x) f e) (omega arith)
 
-pub samples-some : (x : List ℕ) (cfg : SamplerConfig) (draws : List Float) → Accepts x → settings (framesOf x) ≡ On cfg → length draws ≡ 64 → Samples (framesOf x) (On cfg) draws
+pub samples-some : (x : List ℕ) (cfg : SamplerConfig) (draws : List Float) → Accepts x → settings (framesIn x) ≡ On cfg → length draws ≡ 64 → Samples (framesIn x) (On cfg) draws
 samples-some x cfg draws a e d = record {
   set = sym e;
-  nodes = λ c h. small-settings x (a .lines) (a .atoms) (a .is) c (e ∙ h) .draws;
-  resamples = λ c h. small-settings x (a .lines) (a .atoms) (a .is) c (e ∙ h) .rounds;
-  room = λ c h. rw d (small-settings x (a .lines) (a .atoms) (a .is) c (e ∙ h) .draws);
+  nodes = λ c h. sheet-settings x a c (e ∙ h) .draws;
+  resamples = λ c h. sheet-settings x a c (e ∙ h) .rounds;
+  room = λ c h. rw d (sheet-settings x a c (e ∙ h) .draws);
 }
 
-pub remembers-some : (x : List ℕ) (f : ℕ) → Accepts x → length (memoryLoop (framesOf x) (atomsOf x) f fresh unplanned .tally .memo) ≤ keysMost
-remembers-some x f a = rounds-keys x (a .lines) (a .atoms) (a .is) f .memo-few
+pub remembers-some : (x : List ℕ) (f : ℕ) → Accepts x → length (memoryLoop (framesIn x) (atomsOf x) f fresh unplanned .tally .memo) ≤ keysMost
+remembers-some x f a = sheet-rounds x a f .memo-few
 
 -- ---- the text
 
@@ -71,9 +122,9 @@ pub size-is : (x ks o p : List ℕ) (r : ℕ) → PutsSteps x (replicate 64 fals
 unfolding blank
 size-is x ks o p r s = s .puts .next
 
-pub plan-is : (x ks : List ℕ) (steps tallied rejected v g l a b c at r : ℕ) (o p q : List ℕ) → v ≡ countsOf Query x 0 .variables → g ≡ countsOf Query x 0 .globals → l ≡ countsOf Query x 0 .literals → a ≡ steps → b ≡ tallied → c ≡ rejected
+pub plan-is : (x ks : List ℕ) (steps tallied rejected v g l a b c at r : ℕ) (o p q : List ℕ) → v ≡ countsIn Query x 0 .variables → g ≡ countsIn Query x 0 .globals → l ≡ countsIn Query x 0 .literals → a ≡ steps → b ≡ tallied → c ≡ rejected
     → PutsFrames o 0 (headerOf v g l a b c ∷ []) p at → PutsSteps x (replicate 64 false) ks p at q r
-    → PutsFrames o 0 (headerOf (countsOf Query x 0 .variables) (countsOf Query x 0 .globals) (countsOf Query x 0 .literals) steps tallied rejected ∷ map frameOf (stepsAlong (atomOf (atomsOf x)) blank ks)) q r
+    → PutsFrames o 0 (headerOf (countsIn Query x 0 .variables) (countsIn Query x 0 .globals) (countsIn Query x 0 .literals) steps tallied rejected ∷ map frameOf (stepsAlong (atomOf (atomsOf x)) blank ks)) q r
 unfolding blank
 plan-is x ks steps tallied rejected v g l a b c at r o p q hv hg hl ha hb hc u w = rw (← hv, ← hg, ← hl, ← ha, ← hb, ← hc) (frames-then (headerOf v g l a b c ∷ []) (map frameOf (stepsAlong (atomOf (atomsOf x)) blank ks)) u (w .puts))
 
@@ -81,17 +132,22 @@ pub header-near : (v g l a b c at : ℕ) (o p : List ℕ) → PutsFrames o 0 (he
 unfolding textLength
 header-near v g l a b c at o p u = omega (arith, u .next)
 
+-- the longest plan has room
+fits-text : (x : List ℕ) (n c : ℕ) → reading Query x ≡ Accepted n c → (room : ℕ) → planMost ≤ room → true ≡ leb (length (planOf x .text)) room
+unfolding planOf stepsOf
+fits-text x n c ok room l = sym (le-leb (length (planOf x .text)) room (let b = read-back x n c ok .short in omega arith))
+
 -- ---- the plan in the order that was found
 
 -- the pieces of the answer: where the plan does not fit, and where it was written
 pub places-located : (x from : List ℕ) (n : ℕ) → Accepts x → Places x from n → Located x from n
 places-located x from n a p =
-    let f = frames-few x (a .lines) (a .atoms) (a .is) in
-    located x from n p (omega (arith, p .count)) (λ k h. atom-lines x (a .lines) (a .atoms) (a .is) k (omega (arith, p .count)))
+    let f = sheet-few x a in
+    located x from n p (omega (arith, p .count)) (λ k h. sheet-lines x a k (omega (arith, p .count)))
 
 -- "items 16": each atom's items have room in its row of the table
 pub items-fit : (x from : List ℕ) (n : ℕ) → Accepts x → Places x from n → FewItems x from n
-items-fit x from n a p = record { few = λ k h. rw (p .is k h) (let i = atom-items x (a .lines) (a .atoms) (a .is) k (omega (arith, p .count)) in omega arith) }
+items-fit x from n a p = record { few = λ k h. rw (p .is k h) (let i = sheet-items x a k (omega (arith, p .count)) in omega arith) }
 
 -- "atoms 64": as many rows
 pub rows-fit : (x from : List ℕ) (n : ℕ) → Accepts x → Places x from n → rowSize * n ≤ tableSize
@@ -101,21 +157,23 @@ module _ (x from : List ℕ) (n : ℕ) (O : List ℕ) (s : Scheduled) (a : Accep
   z : Located x from n
   z = places-located x from n a y
 
-  steps-are : stepsOf x ≡ h .steps
-  unfolding stepsOf
+  abbrev steps-on : List Step
+  steps-on = planned (framesIn x) (atomsOf x) .steps
+
+  steps-are : steps-on ≡ h .steps
   steps-are = ap (λ (st : State). st .steps) (h .is)
 
-  along : stepsAlong (atomOf (atomsOf x)) blank (take (s .count) O) ≡ stepsOf x
+  along : stepsAlong (atomOf (atomsOf x)) blank (take (s .count) O) ≡ steps-on
   along = lowered-steps (h .lowered) ∙ sym steps-are
 
-  counted : countAlong (atomOf (atomsOf x)) (take (s .count) O) ≡ length (stepsOf x)
+  counted : countAlong (atomOf (atomsOf x)) (take (s .count) O) ≡ length steps-on
   counted = lowered-count (h .lowered) ∙ ap length (sym steps-are)
 
   abbrev text : List ℕ
-  text = planText (countsOf Query x 0 .variables) (countsOf Query x 0 .globals) (countsOf Query x 0 .literals) (talliedOf x) (rejectedOf x) (stepsOf x)
+  text = planText (countsIn Query x 0 .variables) (countsIn Query x 0 .globals) (countsIn Query x 0 .literals) (remembered (framesIn x) (atomsOf x) .tally .tallied) (remembered (framesIn x) (atomsOf x) .tally .rejected) steps-on
 
   text-size : length text ≡ 21 + textLength (map frameOf (stepsAlong (atomOf (atomsOf x)) blank (take (s .count) O)))
-  text-size = rw along (plan-length (countsOf Query x 0 .variables) (countsOf Query x 0 .globals) (countsOf Query x 0 .literals) (talliedOf x) (rejectedOf x) (stepsOf x))
+  text-size = rw along (plan-length (countsIn Query x 0 .variables) (countsIn Query x 0 .globals) (countsIn Query x 0 .literals) (remembered (framesIn x) (atomsOf x) .tally .tallied) (remembered (framesIn x) (atomsOf x) .tally .rejected) steps-on)
 
   -- the order is one of atoms, each of which can be emitted
   pub in-order : length O ≡ most → Ordered x from n O (s .count)
@@ -126,38 +184,36 @@ module _ (x from : List ℕ) (n : ℕ) (O : List ℕ) (s : Scheduled) (a : Accep
         within = w;
         few = h .few;
         below = λ c k. let i = tabulate-mem (length (atomsOf x)) (λ (j : ℕ). j) (getD O c 0) (subst (λ (j : ℕ). List·Memᴰ j (numbers (atomsOf x))) (getD-take (s .count) O c 0 k) (h .known (getD (take (s .count) O) c 0) (getD-mem (take (s .count) O) c 0 (rw taken k)))) in omega (arith, i .below, i .is, z .count);
-        line = λ k l. record { atom = z .line k l; few = rw (y .is k l) (let i = atom-items x (a .lines) (a .atoms) (a .is) k (omega (arith, y .count)) in omega arith) };
+        line = λ k l. record { atom = z .line k l; few = rw (y .is k l) (let i = sheet-items x a k (omega (arith, y .count)) in omega arith) };
       }
 
   pub tallied-few : s .tallied < 65536
-  tallied-few = let k = few-keys x (a .lines) (a .atoms) (a .is) in omega (arith, k .tallied-few, h .tallied)
+  tallied-few = let k = sheet-keys x a in omega (arith, k .tallied-few, h .tallied)
 
   pub rejected-few : s .rejected < 65536
-  rejected-few = let k = few-keys x (a .lines) (a .atoms) (a .is) in omega (arith, k .rejected-few, h .rejected)
+  rejected-few = let k = sheet-keys x a in omega (arith, k .rejected-few, h .rejected)
 
-  text-is : planOf x .text ≡ text
-  unfolding planOf
+  text-is : planOn x .text ≡ text
   text-is = refl
 
-  pub fits-always : (room : ℕ) → planMost ≤ room → true ≡ leb (length (planOf x .text)) room
-  fits-always room l = rw text-is (sym (le-leb (length text) room (let b = read-back x (a .lines) (a .atoms) (a .is) .short in omega arith)))
+  pub fits-always : (room : ℕ) → planMost ≤ room → true ≡ leb (length (planOn x .text)) room
+  fits-always room l = subst (λ (p : Plan). true ≡ leb (length (p .text)) room) (sym (plan-on (a .text) x (a .sheet))) (fits-text (a .text) (a .lines) (a .atoms) (a .is) room l)
 
-  pub fits-measured : (room r : ℕ) → r ≡ 21 + textLength (map frameOf (stepsAlong (atomOf (atomsOf x)) blank (take (s .count) O))) → leb r room ≡ leb (length (planOf x .text)) room
+  pub fits-measured : (room r : ℕ) → r ≡ 21 + textLength (map frameOf (stepsAlong (atomOf (atomsOf x)) blank (take (s .count) O))) → leb r room ≡ leb (length (planOn x .text)) room
   fits-measured room r e = rw (text-is, text-size, e)
 
-  pub not-fitting : (t : Bool) (o : List ℕ) → t ≡ leb (length (planOf x .text)) (length o) → not t ≡ true → resultOf (TurnsBack 8 0) o ≡ fitted (planOf x) o
-  unfolding planOf
+  pub not-fitting : (t : Bool) (o : List ℕ) → t ≡ leb (length (planOn x .text)) (length o) → not t ≡ true → resultOf (TurnsBack 8 0) o ≡ fitted (planOn x) o
   not-fitting t o e l =
       let k : length o < length text = leb-false (length text) (length o) (sym e ∙ not-true t l) in
       rw (lt-ltb (length o) (length text) k)
 
-  module _ (o p : List ℕ) (steps r : ℕ) (c : steps ≡ countAlong (atomOf (atomsOf x)) (take (s .count) O)) (w : PutsFrames o 0 (headerOf (countsOf Query x 0 .variables) (countsOf Query x 0 .globals) (countsOf Query x 0 .literals) steps (s .tallied) (s .rejected) ∷ map frameOf (stepsAlong (atomOf (atomsOf x)) blank (take (s .count) O))) p r) where
-    is-text : textOf (headerOf (countsOf Query x 0 .variables) (countsOf Query x 0 .globals) (countsOf Query x 0 .literals) steps (s .tallied) (s .rejected) ∷ map frameOf (stepsAlong (atomOf (atomsOf x)) blank (take (s .count) O))) ≡ text
+  module _ (o p : List ℕ) (steps r : ℕ) (c : steps ≡ countAlong (atomOf (atomsOf x)) (take (s .count) O)) (w : PutsFrames o 0 (headerOf (countsIn Query x 0 .variables) (countsIn Query x 0 .globals) (countsIn Query x 0 .literals) steps (s .tallied) (s .rejected) ∷ map frameOf (stepsAlong (atomOf (atomsOf x)) blank (take (s .count) O))) p r) where
+    is-text : textOf (headerOf (countsIn Query x 0 .variables) (countsIn Query x 0 .globals) (countsIn Query x 0 .literals) steps (s .tallied) (s .rejected) ∷ map frameOf (stepsAlong (atomOf (atomsOf x)) blank (take (s .count) O))) ≡ text
     unfolding planText
     is-text = rw (along, c ∙ counted, ← h .tallied, ← h .rejected)
 
-    pub fitting : (t : Bool) → t ≡ leb (length (planOf x .text)) (length o) → not t ≡ false → resultOf (Wrote r steps (s .tallied) (s .rejected)) p ≡ fitted (planOf x) o
-    unfolding planOf written textLength
+    pub fitting : (t : Bool) → t ≡ leb (length (planOn x .text)) (length o) → not t ≡ false → resultOf (Wrote r steps (s .tallied) (s .rejected)) p ≡ fitted (planOn x) o
+    unfolding written textLength
     fitting t g k =
         let l : length text ≤ length o = leb-true (length text) (length o) (sym g ∙ not-false t k) in
         let e : r ≡ length text = omega (arith, w .next, text-size) in
@@ -168,13 +224,14 @@ module _ (x from : List ℕ) (n : ℕ) (O : List ℕ) (s : Scheduled) (a : Accep
 -- ---- the entry, by what the reading says
 
 module _ (x o : List ℕ) (v : Reading) (is : v ≡ reading Query x) where
-  pub accepts : (n c : ℕ) → v ≡ Accepted n c → Accepts x
-  accepts n c e = record { lines = n; atoms = c; is = sym is ∙ e }
-
   pub planned-back : (k l : ℕ) → v ≡ Refused k l → resultOf (TurnsBack k l) o ≡ plan x o
   unfolding plan
   planned-back k l e = rw (← is, e)
 
-  pub planned-whole : (n c : ℕ) → v ≡ Accepted n c → (q : Result) → q ≡ fitted (planOf x) o → q ≡ plan x o
-  unfolding plan
-  planned-whole n c e q h = rw (← is, e) h
+  module _ (n c : ℕ) (e : v ≡ Accepted n c) (s : List ℕ) (h : Sheet x s) where
+    pub accepts : Accepts s
+    accepts = record { text = x; lines = n; atoms = c; is = sym is ∙ e; sheet = h }
+
+    pub planned-whole : (q : Result) → q ≡ fitted (planOn s) o → q ≡ plan x o
+    unfolding plan
+    planned-whole q r = rw (← is, e) (r ∙ ap (λ (p : Plan). fitted p o) (plan-on x s h))

@@ -2,10 +2,12 @@
 use Prim.Native.Nat.{ℕ}
 use mathlib.Core.Path.{_≡_}
 use mathlib.Core.List.{List}
+use Rattle.frames.specs.Sheet.{frameAt, framesIn}
+use Rattle.frames.specs.First.{Sheet}
 use Rattle.frames.specs.declared.first.Text.the-variants.{Query}
 use Rattle.frames.specs.declared.first.Reading.the-variants.{Accepted}
 use Rattle.reading.specs.Second.{reading}
-use Rattle.planner.specs.Planner.{Answer, Written, TurnedBack, Result}
+use Rattle.planner.specs.Planner.{Plan, planIn, Answer, Written, TurnedBack, Result}
 use Rattle.planner.specs.declared.entry.Planned.{Planned}
 use Rattle.planner.specs.declared.entry.Planned.the-variants.{Written as Wrote, Refused}
 
@@ -18,8 +20,14 @@ answerOf (Refused k l) = TurnedBack k l
 abbrev pub resultOf : Planned → List ℕ → Result
 resultOf r o = record { answer = answerOf r; output = o }
 
--- the query text x is accepted
-pub record Accepts (x : List ℕ) : Type 0 where
+-- s is the sheet of an accepted query text
+pub record Accepts (s : List ℕ) : Type 0 where
+  pub text : List ℕ
   pub lines : ℕ
   pub atoms : ℕ
-  pub is : reading Query x ≡ Accepted lines atoms
+  pub is : reading Query text ≡ Accepted lines atoms
+  pub sheet : Sheet text s
+
+-- the plan of a sheet's frames
+abbrev pub planOn : List ℕ → Plan
+planOn s = planIn (frameAt s 0) (framesIn s)

@@ -2,7 +2,7 @@
 ghost use mathlib.Core.Path.{_≡_};
 ghost use Prim.Native.Nat.{suc, _≤_};
 ghost use lib.ListN.{length};
-ghost use Rattle.frames.specs.First.{framesOf};
+ghost use Rattle.frames.specs.Sheet.{framesIn};
 ghost use Rattle.reading.specs.Index.{Indexed};
 ghost use Rattle.model.specs.Bound.{most};
 ghost use Rattle.model.specs.Scheduling.{unplanned};
@@ -23,8 +23,8 @@ use scheduling::schedule::schedule;
 
 // The prices that no sample changes, then the rounds. The arrays lent are for what is remembered, and for the draws.
 fn order_by(
-    text: &[u8],
-    index: &[u32],
+    sheet: &[u8],
+    index: &[u16],
     from: &[usize],
     n: usize,
     how: Sampled,
@@ -36,24 +36,24 @@ fn order_by(
     last: usize,
     costs: &mut [f64],
 ) -> Scheduled
-    requires { ⌜ Accepts (now text) ⌝ }
-    requires { ⌜ Places (now text) (now from) n ⌝ }
-    requires { ⌜ Indexed (now text) (now index) ⌝ }
-    requires { ⌜ Samples (framesOf (now text)) how (now draws) ⌝ }
+    requires { ⌜ Accepts (now sheet) ⌝ }
+    requires { ⌜ Places (now sheet) (now from) n ⌝ }
+    requires { ⌜ Indexed (now sheet) (now index) ⌝ }
+    requires { ⌜ Samples (framesIn (now sheet)) how (now draws) ⌝ }
     requires { ⌜ (length (now valued) ≡ length (now keys)) × ((length (now values) ≡ length (now keys)) × (length (now keys) ≤ keysMost)) ⌝ }
-    requires { ⌜ length (memoryLoop (framesOf (now text)) (atomsOf (now text)) (suc last) fresh unplanned .tally .memo) ≤ length (now keys) ⌝ }
+    requires { ⌜ length (memoryLoop (framesIn (now sheet)) (atomsOf (now sheet)) (suc last) fresh unplanned .tally .memo) ≤ length (now keys) ⌝ }
     requires { ⌜ length (now order) ≡ most ⌝ }
     requires { ⌜ length (now costs) ≡ most ⌝ }
-    ensures { λ r. ⌜ Rounded (now (text .entry)) (now (order .exit)) last (now (costs .exit)) r ⌝ }
+    ensures { λ r. ⌜ Rounded (now (sheet .entry)) (now (order .exit)) last (now (costs .exit)) r ⌝ }
 {
     let mut prices = [0.0; TABLE_SIZE];
-    fill_prices(text, index, from, n, &mut prices);
+    fill_prices(sheet, index, from, n, &mut prices);
     let mut used = [false; 64];
     let mut bound = [false; 64];
     let mut before = [false; 64];
     let mut em = [0u32; 64];
     schedule(
-        text,
+        sheet,
         index,
         from,
         n,
@@ -75,28 +75,28 @@ fn order_by(
 
 // Where sampling is off nothing is remembered; where it is on there is a key for each item of each atom at most.
 pub fn find_order(
-    text: &[u8],
-    index: &[u32],
+    sheet: &[u8],
+    index: &[u16],
     from: &[usize],
     n: usize,
     order: &mut [u8],
     last: usize,
     costs: &mut [f64],
 ) -> Scheduled
-    requires { ⌜ Accepts (now text) ⌝ }
-    requires { ⌜ Places (now text) (now from) n ⌝ }
+    requires { ⌜ Accepts (now sheet) ⌝ }
+    requires { ⌜ Places (now sheet) (now from) n ⌝ }
     requires { ⌜ length (now order) ≡ most ⌝ }
     requires { ⌜ length (now costs) ≡ most ⌝ }
-    requires { ⌜ Indexed (now text) (now index) ⌝ }
-    ensures { λ r. ⌜ Rounded (now (text .entry)) (now (order .exit)) last (now (costs .exit)) r ⌝ }
+    requires { ⌜ Indexed (now sheet) (now index) ⌝ }
+    ensures { λ r. ⌜ Rounded (now (sheet .entry)) (now (order .exit)) last (now (costs .exit)) r ⌝ }
 {
-    let Sampled::On(cfg) = settings(text, index) else {
+    let Sampled::On(cfg) = settings(sheet, index) else {
         let mut keys = [0u64; 1];
         let mut valued = [false; 1];
         let mut values = [0.0; 1];
         let mut draws = [0.0; 1];
         return order_by(
-            text,
+            sheet,
             index,
             from,
             n,
@@ -115,7 +115,7 @@ pub fn find_order(
     let mut values = [0.0; KEYS_MOST];
     let mut draws = [0.0; 64];
     order_by(
-        text,
+        sheet,
         index,
         from,
         n,

@@ -3,9 +3,9 @@ ghost use mathlib.Core.Path.{_≡_};
 ghost use mathlib.Core.List.{map};
 ghost use Prim.Native.Nat.{_≤_};
 ghost use lib.ListN.{length, getD, take};
-ghost use Rattle.frames.specs.First.{framesOf};
+ghost use Rattle.frames.specs.Sheet.{framesIn};
 ghost use Rattle.reading.specs.Index.{Indexed};
-ghost use Rattle.reading.specs.IndexedReading.{Blank};
+ghost use Rattle.reading.specs.IndexedReading.{Lent};
 ghost use Rattle.lowering.specs.Eager.{atomsOf};
 ghost use Rattle.scheduling.specs.Offers.{roundOf};
 ghost use Rattle.planner.specs.Entry.{Accepts};
@@ -14,9 +14,15 @@ use super::order::find_order;
 use frames::first::Reading;
 use frames::first::Text;
 use lowering::places::atom_places;
+use frames::first::sheet_size;
 use reading::second::LONG_INDEX;
+use reading::second::LONG_SHEET;
 use reading::second::SHORT_INDEX;
+use reading::second::SHORT_SHEET;
 use reading::second::SHORT_TEXT;
+use reading::second::TINY_INDEX;
+use reading::second::TINY_SHEET;
+use reading::second::TINY_TEXT;
 use reading::second::read_indexed;
 use sqrt::bits_of;
 
@@ -63,16 +69,16 @@ fn put_costs(costs: &[f64], n: usize, out: &mut [u64])
     }
 }
 
-fn costs_accepted(text: &[u8], index: &[u32], round: usize, out: &mut [u64]) -> RoundCosts
-    requires { ⌜ Accepts (now text) ⌝ }
-    requires { ⌜ Indexed (now text) (now index) ⌝ }
-    ensures { λ r. ⌜ resultOf r (now (out .exit)) ≡ told (roundOf (framesOf (now (text .entry))) (atomsOf (now (text .entry))) round) (now (out .entry)) ⌝ }
+fn costs_accepted(sheet: &[u8], index: &[u16], round: usize, out: &mut [u64]) -> RoundCosts
+    requires { ⌜ Accepts (now sheet) ⌝ }
+    requires { ⌜ Indexed (now sheet) (now index) ⌝ }
+    ensures { λ r. ⌜ resultOf r (now (out .exit)) ≡ told (roundOf (framesIn (now (sheet .entry))) (atomsOf (now (sheet .entry))) round) (now (out .entry)) ⌝ }
 {
     let mut from = [0usize; 128];
-    let n = atom_places(text, &mut from);
+    let n = atom_places(sheet, &mut from);
     let mut order = [0u8; 64];
     let mut costs = [0.0; 64];
-    let s = find_order(text, index, &from, n, &mut order, round, &mut costs);
+    let s = find_order(sheet, index, &from, n, &mut order, round, &mut costs);
     if !s.found {
         put_costs(&costs, 0, out);
         return RoundCosts::Ended;
@@ -81,14 +87,23 @@ fn costs_accepted(text: &[u8], index: &[u32], round: usize, out: &mut [u64]) -> 
     RoundCosts::Chosen(s.who)
 }
 
-// The costs, by an index that is lent for the query's keyed lines.
-fn costs_by(text: &[u8], index: &mut [u32], round: usize, costs: &mut [u64]) -> RoundCosts
-    requires { ⌜ Blank (now text) (now index) ⌝ }
+// The costs, by a sheet for the query's frames and an index of them that are lent.
+fn costs_by(
+    text: &[u8],
+    sheet: &mut [u8],
+    index: &mut [u16],
+    round: usize,
+    costs: &mut [u64],
+) -> RoundCosts
+    requires { ⌜ Lent (now text) (now sheet) (now index) ⌝ }
     ensures { λ r. ⌜ resultOf r (now (costs .exit)) ≡ roundCosts (now (text .entry)) round (now (costs .entry)) ⌝ }
 {
-    match read_indexed(Text::Query, text, index) {
+    match read_indexed(Text::Query, text, sheet, index) {
         Reading::Refused(k, line) => RoundCosts::Refused(k, line),
-        Reading::Accepted(_, _) => costs_accepted(text, index, round, costs),
+        Reading::Accepted(lines, _) => {
+            let size = sheet_size(text.len(), lines);
+            costs_accepted(&sheet[..size], index, round, costs)
+        }
     }
 }
 
@@ -96,10 +111,17 @@ fn costs_by(text: &[u8], index: &mut [u32], round: usize, costs: &mut [u64]) -> 
 pub fn round_costs(text: &[u8], round: usize, costs: &mut [u64]) -> RoundCosts
     ensures { λ r. ⌜ resultOf r (now (costs .exit)) ≡ roundCosts (now (text .entry)) round (now (costs .entry)) ⌝ }
 {
-    if text.len() <= SHORT_TEXT {
-        let mut index = [0u32; SHORT_INDEX];
-        return costs_by(text, &mut index, round, costs);
+    if text.len() <= TINY_TEXT {
+        let mut sheet = [0u8; TINY_SHEET];
+        let mut index = [0u16; TINY_INDEX];
+        return costs_by(text, &mut sheet, &mut index, round, costs);
     }
-    let mut index = [0u32; LONG_INDEX];
-    costs_by(text, &mut index, round, costs)
+    if text.len() <= SHORT_TEXT {
+        let mut sheet = [0u8; SHORT_SHEET];
+        let mut index = [0u16; SHORT_INDEX];
+        return costs_by(text, &mut sheet, &mut index, round, costs);
+    }
+    let mut sheet = [0u8; LONG_SHEET];
+    let mut index = [0u16; LONG_INDEX];
+    costs_by(text, &mut sheet, &mut index, round, costs)
 }

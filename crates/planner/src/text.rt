@@ -1,4 +1,4 @@
-// The plan's text, by the order of the atoms.
+// The plan's sheet, by the order of the atoms.
 ghost use mathlib.Core.Path.{_≡_};
 ghost use mathlib.Core.List.{_∷_, map};
 ghost use Prim.Native.Nat.{_+_, _<_, _≤_};
@@ -6,7 +6,7 @@ ghost use lib.ListN.{length, take};
 ghost use Rattle.model.specs.Bound.{blank};
 ghost use Rattle.model.specs.Scheduling.{atomOf};
 ghost use Rattle.frames.specs.declared.first.Text.the-variants.{Query};
-ghost use Rattle.reading.specs.Second.{countsOf};
+ghost use Rattle.reading.specs.Second.{countsIn};
 ghost use Rattle.plans.specs.PlanText.{textLength};
 ghost use Rattle.plans.specs.StepFrames.{frameOf, headerOf};
 ghost use Rattle.lowering.specs.Eager.{Located, atomsOf};
@@ -25,19 +25,19 @@ fn narrow(x: usize) -> u16
 }
 
 // The length of the plan of the first `count` atoms of the order.
-pub fn plan_size(text: &[u8], from: &[usize], n: usize, order: &[u8], count: usize) -> usize
-    requires { ⌜ Located (now text) (now from) n ⌝ }
-    requires { ⌜ Ordered (now text) (now from) n (now order) count ⌝ }
-    ensures { λ r. ⌜ r ≡ 21 + textLength (map frameOf (stepsAlong (atomOf (atomsOf (now (text .entry)))) blank (take count (now (order .entry))))) ⌝ }
+pub fn plan_size(sheet: &[u8], from: &[usize], n: usize, order: &[u8], count: usize) -> usize
+    requires { ⌜ Located (now sheet) (now from) n ⌝ }
+    requires { ⌜ Ordered (now sheet) (now from) n (now order) count ⌝ }
+    ensures { λ r. ⌜ r ≡ 21 + textLength (map frameOf (stepsAlong (atomOf (atomsOf (now (sheet .entry)))) blank (take count (now (order .entry))))) ⌝ }
 {
     let mut bound = [false; 64];
     let mut none = [0u8; 1];
-    write_steps(text, from, n, order, count, &mut bound, &mut none, 21)
+    write_steps(sheet, from, n, order, count, &mut bound, &mut none, 21)
 }
 
 // The plan, written from the beginning of the output on; its length.
 pub fn write_plan(
-    text: &[u8],
+    sheet: &[u8],
     from: &[usize],
     n: usize,
     order: &[u8],
@@ -47,14 +47,14 @@ pub fn write_plan(
     rejected: usize,
     out: &mut [u8],
 ) -> usize
-    requires { ⌜ Located (now text) (now from) n ⌝ }
-    requires { ⌜ Ordered (now text) (now from) n (now order) count ⌝ }
+    requires { ⌜ Located (now sheet) (now from) n ⌝ }
+    requires { ⌜ Ordered (now sheet) (now from) n (now order) count ⌝ }
     requires { ⌜ steps < 65536 ⌝ }
     requires { ⌜ tallied < 65536 ⌝ }
     requires { ⌜ rejected < 65536 ⌝ }
-    ensures { λ r. ⌜ PutsFrames (now (out .entry)) 0 (headerOf (countsOf Query (now (text .entry)) 0 .variables) (countsOf Query (now (text .entry)) 0 .globals) (countsOf Query (now (text .entry)) 0 .literals) steps tallied rejected ∷ map frameOf (stepsAlong (atomOf (atomsOf (now (text .entry)))) blank (take count (now (order .entry))))) (now (out .exit)) r ⌝ }
+    ensures { λ r. ⌜ PutsFrames (now (out .entry)) 0 (headerOf (countsIn Query (now (sheet .entry)) 0 .variables) (countsIn Query (now (sheet .entry)) 0 .globals) (countsIn Query (now (sheet .entry)) 0 .literals) steps tallied rejected ∷ map frameOf (stepsAlong (atomOf (atomsOf (now (sheet .entry)))) blank (take count (now (order .entry))))) (now (out .exit)) r ⌝ }
 {
-    let counts = counts_of(Text::Query, text, 0);
+    let counts = counts_of(Text::Query, sheet, 0);
     let at = header(
         out,
         0,
@@ -66,5 +66,5 @@ pub fn write_plan(
         narrow(rejected),
     );
     let mut bound = [false; 64];
-    write_steps(text, from, n, order, count, &mut bound, out, at)
+    write_steps(sheet, from, n, order, count, &mut bound, out, at)
 }
