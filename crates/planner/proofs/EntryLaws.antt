@@ -46,7 +46,7 @@ use Rattle.scheduling.specs.declared.schedule.Scheduled.{Scheduled}
 use Rattle.writing.specs.Steps.{stepsAlong, countAlong, lowered-steps, lowered-count, Ordered, PutsSteps}
 use Rattle.writing.specs.Written.{written, PutsFrames}
 use Rattle.writing.proofs.PutLaws.{frames-then}
-use Rattle.planner.specs.Planner.{Plan, Result, stepsOf, talliedOf, rejectedOf, planIn, planOf, fitted, plan}
+use Rattle.planner.specs.Planner.{Plan, Result, stepsOf, talliedOf, rejectedOf, planOf, fitted, plan}
 use Rattle.planner.specs.Promised.{read-back}
 use Rattle.planner.specs.Entry.{planOn, resultOf, Accepts}
 use Rattle.planner.specs.Accepted.{Small, frames-few, atom-lines, atom-items, rounds-keys, few-keys, small-settings}
@@ -90,7 +90,7 @@ module _ (s : List ℕ) (a : Accepts s) where
 
 -- its plan is that of the text
 pub plan-on : (x s : List ℕ) → Sheet x s → planOn s ≡ planOf x
-unfolding planOf
+unfolding planOf stepsOf
 plan-on x s h = rw (h .header, h .frames)
 
 -- ---- the order
@@ -134,7 +134,7 @@ header-near v g l a b c at o p u = omega (arith, u .next)
 
 -- the longest plan has room
 fits-text : (x : List ℕ) (n c : ℕ) → reading Query x ≡ Accepted n c → (room : ℕ) → planMost ≤ room → true ≡ leb (length (planOf x .text)) room
-unfolding planOf stepsOf
+unfolding planOf
 fits-text x n c ok room l = sym (le-leb (length (planOf x .text)) room (let b = read-back x n c ok .short in omega arith))
 
 -- ---- the plan in the order that was found

@@ -7,7 +7,9 @@ use Rattle.frames.specs.First.{Sheet}
 use Rattle.frames.specs.declared.first.Text.the-variants.{Query}
 use Rattle.frames.specs.declared.first.Reading.the-variants.{Accepted}
 use Rattle.reading.specs.Second.{reading}
-use Rattle.planner.specs.Planner.{Plan, planIn, Answer, Written, TurnedBack, Result}
+use Rattle.cost.specs.QueryAtoms.{atomsIn}
+use Rattle.cost.specs.Choice.{planned, remembered}
+use Rattle.planner.specs.Planner.{Plan, planBy, Answer, Written, TurnedBack, Result}
 use Rattle.planner.specs.declared.entry.Planned.{Planned}
 use Rattle.planner.specs.declared.entry.Planned.the-variants.{Written as Wrote, Refused}
 
@@ -30,4 +32,4 @@ pub record Accepts (s : List ℕ) : Type 0 where
 
 -- the plan of a sheet's frames
 abbrev pub planOn : List ℕ → Plan
-planOn s = planIn (frameAt s 0) (framesIn s)
+planOn s = planBy (frameAt s 0) (planned (framesIn s) (atomsIn (framesIn s)) .steps) (remembered (framesIn s) (atomsIn (framesIn s)) .tally .tallied) (remembered (framesIn s) (atomsIn (framesIn s)) .tally .rejected)
