@@ -23,13 +23,13 @@ use Rattle.model.specs.Bools.{both, true-false}
 use Rattle.model.specs.Lists.{Pairs, from, into}
 use Rattle.model.specs.Bound.{Bound, has}
 use Rattle.model.specs.Lowering.{pvIsBound}
-use Rattle.model.specs.Scheduling.{State, Chosen, atomOf, numbers, lowerEager, emitAt, unplanned}
+use Rattle.model.specs.Scheduling.{State, Chosen, atomOf, numbers, lowerEager, emitAt, goOn, roundsUpTo, unplanned}
 use Rattle.model.specs.Cheapest.{Priced, Bid, Scan, scan, cheapest, better, wants}
 use Rattle.cost.specs.declared.probes.Key.{Key}
 use Rattle.cost.specs.Emitters.{Emitter, Emitters, emitterOf}
 use Rattle.cost.specs.Sampling.{Tally, sameKey, isKnown, measure, tallyOf, afterEstimate}
 use Rattle.cost.specs.Costs.{Costed, sampled, sampledBy, estimate, childCosts, elementCosts, estimateCost}
-use Rattle.cost.specs.Choice.{Memory, fresh, recorded, cost, emittedBy, byCost, choose, rememberOn, memoryLoop}
+use Rattle.cost.specs.Choice.{Memory, fresh, recorded, cost, emittedBy, byCost, choose, roundsFrom, rounds}
 use Rattle.plans.specs.StepFrames.{Each}
 use Rattle.plan_facts.specs.Emitted.{Keeps, atom-keeps, record-keeps}
 use Rattle.plan_facts.specs.Pigeonhole.{no-longer}
@@ -131,8 +131,8 @@ module _ (fs : List (List ℕ)) (qs : List Atom) (P : Memory → Type 0)
     (noted : (m : Memory) (s : State) → P m → P (recorded fs qs m s))
     (priced : (m : Memory) (s : State) (i : ℕ) → P m → P (cost fs qs m s i .next))
     (emitted : (o : Option ℕ) (s : State) (m : Memory) → P m → P (emittedBy fs qs o s m)) where
-  pub loop-keeps : (n : ℕ) (m : Memory) (st : State) → P m → P (memoryLoop fs qs n m st)
-  unfolding memoryLoop cheapest
+  pub loop-keeps : (n : ℕ) (m : Memory) (st : State) → P m → P (roundsFrom fs qs n m st .memory)
+  unfolding roundsUpTo cheapest
   loop-keeps zero m st p = p
   loop-keeps (suc n) m st p =
       on (choose fs qs m s .at) (choose fs qs m s .next) (λ x r. loop-keeps n x r)
@@ -144,7 +144,7 @@ module _ (fs : List (List ℕ)) (qs : List Atom) (P : Memory → Type 0)
       c : Chosen Memory
       c = byCost fs qs (recorded fs qs m s) s
 
-      on : (o : Option ℕ) (x : Memory) → ((y : Memory) (r : State) → P y → P (memoryLoop fs qs n y r)) → P x → P (rememberOn fs qs (memoryLoop fs qs n) o x s)
+      on : (o : Option ℕ) (x : Memory) → ((y : Memory) (r : State) → P y → P (roundsFrom fs qs n y r .memory)) → P x → P (goOn (atomOf qs) (numbers qs) (roundsFrom fs qs n) o x s .memory)
       on none x k q = q
       on (some i) x k q = k x (emitAt (atomOf qs) (numbers qs) i s) q
 
@@ -193,7 +193,7 @@ module _ (fs : List (List ℕ)) where
   cost-grows em B i a t = cost-grows-from em B i a t t (grows-self t)
 
   module _ (qs : List Atom) where
-    pub loop-grows : (n : ℕ) (m : Memory) (st : State) → Grows (m .tally) (memoryLoop fs qs n m st .tally)
+    pub loop-grows : (n : ℕ) (m : Memory) (st : State) → Grows (m .tally) (roundsFrom fs qs n m st .memory .tally)
     loop-grows n m st =
         loop-keeps fs qs (λ x. Grows (m .tally) (x .tally)) (λ x s h. h) (λ x s i. cost-grows-from (x .emitters) (s .bound) i (atomOf qs i) (m .tally) (x .tally)) same n m st (grows-self (m .tally))
       where
@@ -201,11 +201,11 @@ module _ (fs : List (List ℕ)) where
         same none s x h = h
         same (some i) s x h = h
 
-    pub rounds-tame : (f : ℕ) → Tame (memoryLoop fs qs f fresh unplanned .tally)
+    pub rounds-tame : (f : ℕ) → Tame (rounds fs qs f .memory .tally)
     rounds-tame f = loop-grows f fresh unplanned .tame (record { tallied-few = omega arith; rejected-few = omega arith })
 
     -- where sampling is off nothing is remembered
-    pub nothing-sampled : (f : ℕ) → settings fs ≡ Off → memoryLoop fs qs f fresh unplanned .tally .memo ≡ []
+    pub nothing-sampled : (f : ℕ) → settings fs ≡ Off → rounds fs qs f .memory .tally .memo ≡ []
     nothing-sampled f off = loop-keeps fs qs (λ m. m .tally .memo ≡ []) (λ m s h. h) (λ m s i h. cost-keeps fs any (λ t. t .memo ≡ []) (λ cfg k t on _ _. never cfg (sym off ∙ on)) (m .emitters) (s .bound) i (atomOf qs i) (m .tally) (λ _ _. tt) h) same f fresh unplanned refl
       where
         same : (o : Option ℕ) (s : State) (m : Memory) → m .tally .memo ≡ [] → emittedBy fs qs o s m .tally .memo ≡ []
@@ -361,7 +361,7 @@ module _ (fs : List (List ℕ)) (qs : List Atom) where
   asked-emitted none s m a = a
   asked-emitted (some i) s m a = asked-more (m .emitters) _ (m .tally) (atom-keeps (m .emitters) i (atomOf qs i)) a
 
-  all-asked : (f : ℕ) → AllAsked (memoryLoop fs qs f fresh unplanned)
+  all-asked : (f : ℕ) → AllAsked (rounds fs qs f .memory)
   all-asked f = loop-keeps fs qs AllAsked
       (λ m s a. asked-more (m .emitters) _ (m .tally) (record-keeps (m .before) (s .used) 0 qs (m .emitters)) a)
       (λ m s i a. cost-keeps fs (λ k. List·Memᴰ k (keysOf (m .emitters) qs)) (Asked (keysOf (m .emitters) qs)) (λ cfg k t _. asked-after (keysOf (m .emitters) qs) cfg k t) (m .emitters) (s .bound) i (atomOf qs i) (m .tally) (key-of (m .emitters) qs i) a)
@@ -369,9 +369,9 @@ module _ (fs : List (List ℕ)) (qs : List Atom) where
       (record { apart = tt; among = λ k i. absurd (List·Memᴰ·not-nil i) })
 
   -- "atoms 64, items 16": whatever the costs, after any number of rounds
-  pub rounds-few : (f : ℕ) → length qs ≤ atomsMost → Each FewOperands qs → FewKeys (memoryLoop fs qs f fresh unplanned .tally)
+  pub rounds-few : (f : ℕ) → length qs ≤ atomsMost → Each FewOperands qs → FewKeys (rounds fs qs f .memory .tally)
   rounds-few f n h =
-      let m = memoryLoop fs qs f fresh unplanned in
+      let m = rounds fs qs f .memory in
       let a = all-asked f in
       let l = no-longer (m .tally .memo) (keysOf (m .emitters) qs) (a .apart) (a .among) in
       let b = keys-few (m .emitters) qs h in

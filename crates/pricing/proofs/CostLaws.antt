@@ -21,7 +21,7 @@ use Rattle.cost.specs.Emitters.{Emitters}
 use Rattle.cost.specs.Memo.{tallyAt}
 use Rattle.cost.specs.QueryAtoms.{operandsFrom, atomOfFrame}
 use Rattle.cost.specs.Costs.{Costed as Cost, childCosts, elementCosts, byReprCost, estimateCost}
-use Rattle.cost.specs.declared.memo.Tallies.{Tallies}
+use Rattle.cost.specs.declared.memo.Sampling.{Sampling}
 use Rattle.lowering.specs.AtomLines.{AtomLine, itemOperands}
 use Rattle.lowering.proofs.AtomLaws.{by-kind}
 use Rattle.pricing.specs.Items.{itemCosts, frameCosts, literalKind}
@@ -75,20 +75,20 @@ module _ (fs : List (List ℕ)) (em : Emitters) (B : Bound) (i : ℕ) (t : Tally
 
 -- ---- a line by its kind
 
-module _ (fs : List (List ℕ)) (em : Emitters) (B : Bound) (i : ℕ) (f ks : List ℕ) (s : Tallies) (b : Bool) (hb : b ≡ scans (atomOfFrame f)) where
-  pub test-stands : (how : Sampled) (vs : List Bool) (xs : List Float) → not b ≡ true → Remembers fs how ks vs xs s → Stands fs how ks vs xs (record { cost = zero64; tallies = s }) (estimateCost fs em B i (atomOfFrame f) (tallyAt ks s))
-  test-stands how vs xs h m = rw (test-cost fs em B i (tallyAt ks s) (atomOfFrame f) (sym hb ∙ not-true b h)) record { cost = refl; tally = refl; memo = m }
+module _ (fs : List (List ℕ)) (em : Emitters) (B : Bound) (i : ℕ) (f ks : List ℕ) (s : Sampling) (b : Bool) (hb : b ≡ scans (atomOfFrame f)) where
+  pub test-stands : (how : Sampled) (xs : List Float) → not b ≡ true → Remembers fs how ks xs s → Stands fs how ks xs (record { cost = zero64; tallies = s }) (estimateCost fs em B i (atomOfFrame f) (tallyAt ks s))
+  test-stands how xs h m = rw (test-cost fs em B i (tallyAt ks s) (atomOfFrame f) (sym hb ∙ not-true b h)) record { cost = refl; tally = refl; memo = m }
 
   module _ (line : AtomLine f) (ps : List Float) (w : Row fs f i ps) (d : Float) (k : ℕ) (hk : k ≡ getD f 0 0) (l : Bool) (hl : l ≡ literalKind k) where
-    pub literal-stands : (how : Sampled) (vs : List Bool) (xs : List Float) → l ≡ true → Remembers fs how ks vs xs s → Stands fs how ks vs xs (record { cost = getD ps 0 d; tallies = s }) (estimateCost fs em B i (atomOfFrame f) (tallyAt ks s))
-    literal-stands how vs xs h m = rw (literal-cost fs em B i (tallyAt ks s) f (line .kind) (rw (← hk) (sym hl ∙ h))) record { cost = row-base fs f i ps w d; tally = refl; memo = m }
+    pub literal-stands : (how : Sampled) (xs : List Float) → l ≡ true → Remembers fs how ks xs s → Stands fs how ks xs (record { cost = getD ps 0 d; tallies = s }) (estimateCost fs em B i (atomOfFrame f) (tallyAt ks s))
+    literal-stands how xs h m = rw (literal-cost fs em B i (tallyAt ks s) f (line .kind) (rw (← hk) (sym hl ∙ h))) record { cost = row-base fs f i ps w d; tally = refl; memo = m }
 
     module _ (hs : not b ≡ false) (h : l ≡ false) (v : ℕ) (hv : v ≡ getD f 1 0) (u : Bool) (hu : u ≡ has B v) where
       by-node : estimateCost fs em B i (atomOfFrame f) (tallyAt ks s) ≡ pick u (byReprCost fs (getD f 2 0) i (tallyAt ks s)) (frameCosts fs em B f (record { cost = baseCard fs (getD f 2 0) i; tally = tallyAt ks s }))
       by-node = scan-cost fs em B i (tallyAt ks s) f (line .kind) (sym hb ∙ not-false b hs) (rw (← hk) (sym hl ∙ h)) ∙ rw (hu, hv)
 
-      pub node-stands : (how : Sampled) (vs : List Bool) (xs : List Float) → u ≡ true → Remembers fs how ks vs xs s → Stands fs how ks vs xs (record { cost = getD ps 1 d; tallies = s }) (estimateCost fs em B i (atomOfFrame f) (tallyAt ks s))
-      node-stands how vs xs g m = rw (by-node, g) record { cost = row-node fs f i ps w d; tally = refl; memo = m }
+      pub node-stands : (how : Sampled) (xs : List Float) → u ≡ true → Remembers fs how ks xs s → Stands fs how ks xs (record { cost = getD ps 1 d; tallies = s }) (estimateCost fs em B i (atomOfFrame f) (tallyAt ks s))
+      node-stands how xs g m = rw (by-node, g) record { cost = row-node fs f i ps w d; tally = refl; memo = m }
 
       module _ (g : u ≡ false) where
         by-items : estimateCost fs em B i (atomOfFrame f) (tallyAt ks s) ≡ frameCosts fs em B f (costAt ks (record { cost = getD ps 0 d; tallies = s }))
@@ -97,5 +97,5 @@ module _ (fs : List (List ℕ)) (em : Emitters) (B : Bound) (i : ℕ) (f ks : Li
         pub items-room : length (estimateCost fs em B i (atomOfFrame f) (tallyAt ks s) .tally .memo) ≤ length ks → length (frameCosts fs em B f (costAt ks (record { cost = getD ps 0 d; tallies = s })) .tally .memo) ≤ length ks
         items-room z = rw by-items at z
 
-        pub items-stand : (how : Sampled) (ks′ : List ℕ) (vs : List Bool) (xs : List Float) (r : Costed) → Stands fs how ks′ vs xs r (frameCosts fs em B f (costAt ks (record { cost = getD ps 0 d; tallies = s }))) → Stands fs how ks′ vs xs r (estimateCost fs em B i (atomOfFrame f) (tallyAt ks s))
-        items-stand how ks′ vs xs r a = rw by-items a
+        pub items-stand : (how : Sampled) (ks′ : List ℕ) (xs : List Float) (r : Costed) → Stands fs how ks′ xs r (frameCosts fs em B f (costAt ks (record { cost = getD ps 0 d; tallies = s }))) → Stands fs how ks′ xs r (estimateCost fs em B i (atomOfFrame f) (tallyAt ks s))
+        items-stand how ks′ xs r a = rw by-items a

@@ -1,6 +1,6 @@
 -- The cost of the items of an atom, one at a time. Proved by what one item's sample gives, and by induction on how many.
 use Prim.Native.Nat.{ℕ, suc, _+_, _-_, _*_, _<_, _≤_}
-use mathlib.Core.Path.{_≡_, refl, sym, _∙_}
+use mathlib.Core.Path.{_≡_, refl, sym, _∙_, subst}
 use mathlib.Core.Bool.{Bool, true, false, not}
 use mathlib.Core.Option.{Option, none, some}
 use mathlib.Core.List.{List, [], _∷_}
@@ -37,17 +37,17 @@ or-measured none f = refl
 or-measured (some x) f = refl
 
 module _ (fs : List (List ℕ)) (em : Emitters) (f : List ℕ) (x : Item) (ks : List ℕ) (c : Costed) where
-  pub unbound-stands : (how : Sampled) (vs : List Bool) (xs : List Float) → not (x .bound) ≡ true → Remembers fs how ks vs xs (c .tallies) → Stands fs how ks vs xs c (costBehind fs em f x (costAt ks c))
-  unbound-stands how vs xs h m = rw (not-true (x .bound) h) record { cost = refl; tally = refl; memo = m }
+  pub unbound-stands : (how : Sampled) (xs : List Float) → not (x .bound) ≡ true → Remembers fs how ks xs (c .tallies) → Stands fs how ks xs c (costBehind fs em f x (costAt ks c))
+  unbound-stands how xs h m = rw (not-true (x .bound) h) record { cost = refl; tally = refl; memo = m }
 
   module _ (h : not (x .bound) ≡ false) (q : Probe) (hq : q ≡ itemProbe x) where
     pub item-room : length (costBehind fs em f x (costAt ks c) .tally .memo) ≤ length ks → length (sampled fs em (operandAt f (x .at)) (q .op) (q .path) (q .place) (tallyAt ks (c .tallies)) .tally .memo) ≤ length ks
     unfolding itemCost
     item-room l = rw hq (rw (not-false (x .bound) h) at l)
 
-    pub item-stands : (how : Sampled) (ks′ : List ℕ) (vs : List Bool) (xs : List Float) (s : Sample) (e : Float) → Gives fs how ks′ vs xs s (sampled fs em (operandAt f (x .at)) (q .op) (q .path) (q .place) (tallyAt ks (c .tallies))) → e ≡ pathSelectivity (orFan (s .fan) (itemFan fs (x .op) (x .element) (x .position))) (denominator fs (x .op)) → Stands fs how ks′ vs xs (record { cost = mul binary64 (c .cost) e; tallies = s .tallies }) (costBehind fs em f x (costAt ks c))
+    pub item-stands : (how : Sampled) (ks′ : List ℕ) (xs : List Float) (s : Sample) (e : Float) → Gives fs how ks′ xs s (sampled fs em (operandAt f (x .at)) (q .op) (q .path) (q .place) (tallyAt ks (c .tallies))) → e ≡ pathSelectivity (orFan (s .fan) (itemFan fs (x .op) (x .element) (x .position))) (denominator fs (x .op)) → Stands fs how ks′ xs (record { cost = mul binary64 (c .cost) e; tallies = s .tallies }) (costBehind fs em f x (costAt ks c))
     unfolding itemCost
-    item-stands how ks′ vs xs s e a he = rw (not-false (x .bound) h) record {
+    item-stands how ks′ xs s e a he = rw (not-false (x .bound) h) record {
       cost = rw (he, a .fan, or-measured, hq);
       tally = a .tally ∙ rw hq;
       memo = a .memo;
@@ -72,41 +72,36 @@ module _ (fs : List (List ℕ)) (em : Emitters) (B : Bound) (o : ℕ) where
 
 -- ---- n items
 
--- as many places for the draws
-pub samples-still : (fs : List (List ℕ)) (how : Sampled) (ds ds′ : List Float) → Samples fs how ds → length ds′ ≡ length ds → Samples fs how ds′
-samples-still fs how ds ds′ z e = record { set = z .set; nodes = z .nodes; resamples = z .resamples; room = λ cfg w. rw e (z .room cfg w) }
-
-stands-cost : (fs : List (List ℕ)) (how : Sampled) (ks : List ℕ) (vs : List Bool) (xs : List Float) (r : Costed) (c : Cost) → Stands fs how ks vs xs r c → costAt ks r ≡ c
-stands-cost fs how ks vs xs r c a = rw (a .cost, a .tally)
+stands-cost : (fs : List (List ℕ)) (how : Sampled) (ks : List ℕ) (xs : List Float) (r : Costed) (c : Cost) → Stands fs how ks xs r c → costAt ks r ≡ c
+stands-cost fs how ks xs r c a = rw (a .cost, a .tally)
 
 items-none : (fs : List (List ℕ)) (em : Emitters) (B : Bound) (f : List ℕ) (o p i w : ℕ) (t : Bool) (c : Cost) → itemCosts fs em B o t p (operandsFrom f i w 0) c ≡ c
 unfolding itemCosts operandsFrom
 items-none fs em B f o p i w t c = refl
 
-stands-at : (fs : List (List ℕ)) (how : Sampled) (ks : List ℕ) (vs : List Bool) (xs : List Float) (r : Costed) (c : Cost) → Remembers fs how ks vs xs (r .tallies) → costAt ks r ≡ c → Stands fs how ks vs xs r c
-stands-at fs how ks vs xs r c m e = rw (← e) record { cost = refl; tally = refl; memo = m }
+stands-at : (fs : List (List ℕ)) (how : Sampled) (ks : List ℕ) (xs : List Float) (r : Costed) (c : Cost) → Remembers fs how ks xs (r .tallies) → costAt ks r ≡ c → Stands fs how ks xs r c
+stands-at fs how ks xs r c m e = rw (← e) record { cost = refl; tally = refl; memo = m }
 
 -- k items are counted, and those left give the rest
-pub record Counting (fs : List (List ℕ)) (em : Emitters) (B : Bound) (f : List ℕ) (g : Items) (how : Sampled) (ks₀ : List ℕ) (vs₀ : List Bool) (xs₀ ds₀ : List Float) (c₀ : Costed) (ks : List ℕ) (vs : List Bool) (xs ds : List Float) (c : Costed) (k : ℕ) : Type 0 where
+pub record Counting (fs : List (List ℕ)) (em : Emitters) (B : Bound) (f : List ℕ) (g : Items) (how : Sampled) (ks₀ : List ℕ) (xs₀ : List Float) (c₀ : Costed) (ks : List ℕ) (xs : List Float) (c : Costed) (k : ℕ) : Type 0 where
   pub few : k ≤ g .count
   pub place : g .first + g .width * k ≤ 255 + 255 * k
   pub keys : length ks ≡ length ks₀
-  pub flags : length vs ≡ length vs₀
   pub places : length xs ≡ length xs₀
-  pub draws : length ds ≡ length ds₀
-  pub memo : Remembers fs how ks vs xs (c .tallies)
+  pub memo : Remembers fs how ks xs (c .tallies)
   pub is : itemCosts fs em B (g .op) (g .elements) k (operandsFrom f (g .first + g .width * k) (g .width) (g .count - k)) (costAt ks c) ≡ frameCosts fs em B f (costAt ks₀ c₀)
 
-module _ (fs : List (List ℕ)) (em : Emitters) (B : Bound) (f : List ℕ) (g : Items) (how : Sampled) (ks₀ : List ℕ) (vs₀ : List Bool) (xs₀ ds₀ : List Float) (c₀ : Costed) where
-  pub counting-none : ItemsOf f g → Remembers fs how ks₀ vs₀ xs₀ (c₀ .tallies) → Counting fs em B f g how ks₀ vs₀ xs₀ ds₀ c₀ ks₀ vs₀ xs₀ ds₀ c₀ 0
+module _ (fs : List (List ℕ)) (em : Emitters) (B : Bound) (f : List ℕ) (g : Items) (how : Sampled) (ks₀ : List ℕ) (xs₀ : List Float) (c₀ : Costed) where
+  pub counting-none : ItemsOf f g → Remembers fs how ks₀ xs₀ (c₀ .tallies) → Counting fs em B f g how ks₀ xs₀ c₀ ks₀ xs₀ c₀ 0
   counting-none z m =
       let e : g .count - 0 ≡ g .count = omega arith in
       let p : g .first + g .width * 0 ≡ g .first = omega arith in
-      record { few = omega arith; place = omega (arith, z .early); keys = refl; flags = refl; places = refl; draws = refl; memo = m; is = rw (e, p, z .first, z .width, z .count, z .op, z .elements) }
+      record { few = omega arith; place = omega (arith, z .early); keys = refl; places = refl; memo = m; is = rw (e, p, z .first, z .width, z .count, z .op, z .elements) }
 
-  module _ (ks : List ℕ) (vs : List Bool) (xs ds : List Float) (c : Costed) (k : ℕ) (m : Counting fs em B f g how ks₀ vs₀ xs₀ ds₀ c₀ ks vs xs ds c k) where
-    pub next-samples : Samples fs how ds₀ → Samples fs how ds
-    next-samples z = samples-still fs how ds₀ ds z (m .draws)
+  module _ (ks : List ℕ) (xs : List Float) (c : Costed) (k : ℕ) (m : Counting fs em B f g how ks₀ xs₀ c₀ ks xs c k) where
+    -- by the settings that it has itself
+    pub next-own : Samples fs how → Samples fs (c .tallies .how) × Remembers fs (c .tallies .how) ks xs (c .tallies)
+    next-own z = (subst (Samples fs) (sym (m .memo .set)) z, subst (λ (h : Sampled). Remembers fs h ks xs (c .tallies)) (sym (m .memo .set)) (m .memo))
 
     next-is : k < g .count → itemCosts fs em B (g .op) (g .elements) (k + 1) (operandsFrom f (g .first + g .width * (k + 1)) (g .width) (g .count - (k + 1))) (costBehind fs em f (itemAt f g k B) (costAt ks c)) ≡ frameCosts fs em B f (costAt ks₀ c₀)
     unfolding itemCosts
@@ -123,16 +118,14 @@ module _ (fs : List (List ℕ)) (em : Emitters) (B : Bound) (f : List ℕ) (g : 
       next-room l =
           rw hx (omega (arith, m .keys, l, rw (next-is h) at (items-grow fs em B (g .op) (g .elements) (k + 1) (operandsFrom f (g .first + g .width * (k + 1)) (g .width) (g .count - (k + 1))) (costBehind fs em f (itemAt f g k B) (costAt ks c)))))
 
-      pub counting-again : (ks′ : List ℕ) (vs′ : List Bool) (xs′ ds′ : List Float) (r : Costed) → ItemsOf f g → length ks′ ≡ length ks → length vs′ ≡ length vs → length xs′ ≡ length xs → length ds′ ≡ length ds → Stands fs how ks′ vs′ xs′ r (costBehind fs em f x (costAt ks c)) → Counting fs em B f g how ks₀ vs₀ xs₀ ds₀ c₀ ks′ vs′ xs′ ds′ r (k + 1)
-      counting-again ks′ vs′ xs′ ds′ r z q1 q2 q3 q4 a = record {
+      pub counting-again : (ks′ : List ℕ) (xs′ : List Float) (r : Costed) → ItemsOf f g → length ks′ ≡ length ks → length xs′ ≡ length xs → Stands fs (c .tallies .how) ks′ xs′ r (costBehind fs em f x (costAt ks c)) → Counting fs em B f g how ks₀ xs₀ c₀ ks′ xs′ r (k + 1)
+      counting-again ks′ xs′ r z q1 q3 b = let a : Stands fs how ks′ xs′ r (costBehind fs em f x (costAt ks c)) = subst (λ (h : Sampled). Stands fs h ks′ xs′ r (costBehind fs em f x (costAt ks c))) (m .memo .set) b in record {
         few = omega arith;
         place = omega (arith, m .place, z .narrow);
         keys = q1 ∙ m .keys;
-        flags = q2 ∙ m .flags;
         places = q3 ∙ m .places;
-        draws = q4 ∙ m .draws;
         memo = a .memo;
-        is = rw (stands-cost fs how ks′ vs′ xs′ r _ a, hx) (next-is h);
+        is = rw (stands-cost fs how ks′ xs′ r _ a, hx) (next-is h);
       }
 
     none-left : g .count ≤ k → costAt ks c ≡ frameCosts fs em B f (costAt ks₀ c₀)
@@ -140,5 +133,5 @@ module _ (fs : List (List ℕ)) (em : Emitters) (B : Bound) (f : List ℕ) (g : 
         let e : g .count - k ≡ 0 = omega arith in
         sym (items-none fs em B f (g .op) k (g .first + g .width * k) (g .width) (g .elements) (costAt ks c)) ∙ rw e at (m .is)
 
-    pub counting-all : g .count ≤ k → Stands fs how ks vs xs c (frameCosts fs em B f (costAt ks₀ c₀))
-    counting-all h = stands-at fs how ks vs xs c _ (m .memo) (none-left h)
+    pub counting-all : g .count ≤ k → Stands fs how ks xs c (frameCosts fs em B f (costAt ks₀ c₀))
+    counting-all h = stands-at fs how ks xs c _ (m .memo) (none-left h)

@@ -12,7 +12,7 @@ use borrow.Author.Tests.{eqb-true, lt-ltb, le-ltb}
 use Rattle.base.specs.Choose.{pick}
 use Rattle.model.specs.Bools.{first, second}
 use Rattle.cost.specs.Sampling.{sameKey, isKnown}
-use Rattle.cost.specs.Memo.{unpackKey, memoAt}
+use Rattle.cost.specs.Memo.{unpackKey, entryKey, memoAt}
 use Rattle.plan_facts.specs.Remembered.{same-self}
 use Rattle.pricing.specs.Remembering.{Placed}
 
@@ -67,19 +67,19 @@ pub searching-all : (ks : List ℕ) (m key : ℕ) → Searching ks m key m
 searching-all ks m key = record { few = omega arith; is = refl }
 
 module _ (ks : List ℕ) (m key i : ℕ) (s : Searching ks m key i) where
-  one-less : 0 < i → pick (sameKey (unpackKey key) (unpackKey (getD ks (i - 1) 0))) true (isKnown (memoAt ks (i - 1)) (unpackKey key)) ≡ isKnown (memoAt ks m) (unpackKey key)
+  one-less : 0 < i → pick (sameKey (unpackKey key) (entryKey (getD ks (i - 1) 0))) true (isKnown (memoAt ks (i - 1)) (unpackKey key)) ≡ isKnown (memoAt ks m) (unpackKey key)
   unfolding isKnown memoAt
   one-less h =
       let e : i ≡ suc (i - 1) = omega arith in
       rw e at (s .is)
 
-  pub searching-found : 0 < i → getD ks (i - 1) 0 ≡ key → Placed ks m key (i - 1)
+  pub searching-found : 0 < i → getD ks (i - 1) 0 / 2 ≡ key → Placed ks m key (i - 1)
   searching-found h e =
       let l : i - 1 < m = omega (arith, s .few) in
       record { few = omega arith; known = rw (lt-ltb (i - 1) m l) (sym (rw (e, same-self (unpackKey key)) at (one-less h))); is = λ g. e }
 
-  pub searching-again : 0 < i → (getD ks (i - 1) 0 ≡ key → ⊥) → Searching ks m key (i - 1)
-  searching-again h z = record { few = omega (arith, s .few); is = rw (other-number (getD ks (i - 1) 0) key z) at (one-less h) }
+  pub searching-again : 0 < i → (getD ks (i - 1) 0 / 2 ≡ key → ⊥) → Searching ks m key (i - 1)
+  searching-again h z = record { few = omega (arith, s .few); is = rw (other-number (getD ks (i - 1) 0 / 2) key z) at (one-less h) }
 
   pub searching-none : i ≤ 0 → Placed ks m key m
   unfolding isKnown memoAt
@@ -95,6 +95,6 @@ unfolding memoAt
 memo-below ks c key zero h = refl
 memo-below ks c key (suc i) h = rw (getD-set-other ks c i key 0 (λ e. absurd (omega arith)), memo-below ks c key i (omega arith))
 
-pub memo-more : (ks : List ℕ) (c key : ℕ) → c < length ks → memoAt (set ks c key) (c + 1) ≡ unpackKey key ∷ memoAt ks c
+pub memo-more : (ks : List ℕ) (c key : ℕ) → c < length ks → memoAt (set ks c key) (c + 1) ≡ entryKey key ∷ memoAt ks c
 unfolding memoAt
 memo-more ks c key h = rw (add-one c, getD-set-same ks c key 0 h, memo-below ks c key c (omega arith))

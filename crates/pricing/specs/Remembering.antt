@@ -1,5 +1,5 @@
--- What the costs remember, in arrays: the key of each measurement as a number, whether it gave a value, and the value.
-use Prim.Native.Nat.{ℕ, _<_, _≤_}
+-- What the costs remember, in arrays: an entry for each measurement, its key and whether it gave a value, and the value.
+use Prim.Native.Nat.{ℕ, _+_, _*_, _/_, _<_, _≤_}
 use mathlib.Core.Path.{_≡_}
 use mathlib.Core.Bool.{Bool, true, false}
 use mathlib.Core.Option.{Option, none, some}
@@ -15,11 +15,11 @@ use Rattle.query.specs.Statistics.{settings}
 use Rattle.query.specs.declared.statistics.Sampled.{Sampled}
 use Rattle.query.specs.declared.statistics.Sampled.the-variants.{On}
 use Rattle.cost.specs.Sampling.{measure, valueOf, isKnown}
-use Rattle.cost.specs.Memo.{unpackKey, memoAt, tallyAt}
+use Rattle.cost.specs.Memo.{unpackKey, entryKey, hasValue, memoAt, tallyAt}
 use Rattle.cost.specs.Costs.{Sampled′, Costed as Cost, orMeasured}
 use Rattle.cost.specs.declared.draws.Measurement.{Measurement}
 use Rattle.cost.specs.declared.draws.Measurement.the-variants.{NoDraws, Accepted, Rejected}
-use Rattle.cost.specs.declared.memo.Tallies.{Tallies}
+use Rattle.cost.specs.declared.memo.Sampling.{Sampling}
 use Rattle.plan_facts.specs.Remembered.{keysMost}
 use Rattle.pricing.specs.declared.memo.Sample.{Sample}
 use Rattle.pricing.specs.declared.costs.Costed.{Costed}
@@ -34,50 +34,54 @@ measuredFan NoDraws = Unmeasured
 measuredFan (Accepted m) = Measured m
 measuredFan Rejected = Unmeasured
 
--- a fan-out in two arrays: whether there is one, and its value
+-- a fan-out in two parts: whether there is one, and its value
 abbrev pub isMeasured : FanOut → Bool
 isMeasured (Measured x) = true
 isMeasured Unmeasured = false
+
+-- the entry of a key's number with that fan-out
+abbrev pub entryOf : ℕ → FanOut → ℕ
+entryOf key (Measured x) = key * 2 + 1
+entryOf key Unmeasured = key * 2
 
 abbrev pub fanValue : FanOut → Float
 fanValue (Measured x) = x
 fanValue Unmeasured = zero64
 
--- the settings are the query's, and there is room for the draws
-pub record Samples (fs : List (List ℕ)) (how : Sampled) (draws : List Float) : Type 0 where
+-- the settings are the query's, and small: "k 64, bootstrap 256"
+pub record Samples (fs : List (List ℕ)) (how : Sampled) : Type 0 where
   pub set : how ≡ settings fs
   pub nodes : (cfg : SamplerConfig) → how ≡ On cfg → cfg .k ≤ 64
   pub resamples : (cfg : SamplerConfig) → how ≡ On cfg → cfg .bootstrap ≤ 256
-  pub room : (cfg : SamplerConfig) → how ≡ On cfg → cfg .k ≤ length draws
 
 -- the first entries of the arrays are what was measured
-pub record Remembers (fs : List (List ℕ)) (how : Sampled) (keys : List ℕ) (valued : List Bool) (values : List Float) (s : Tallies) : Type 0 where
+pub record Remembers (fs : List (List ℕ)) (how : Sampled) (keys : List ℕ) (values : List Float) (s : Sampling) : Type 0 where
+  pub set : s .how ≡ how
   pub fits : s .count ≤ length keys
   pub small : length keys ≤ keysMost
-  pub flags : length valued ≡ length keys
   pub places : length values ≡ length keys
   pub tallied : s .tallied ≤ s .count
   pub rejected : s .rejected ≤ s .count
-  pub is : (cfg : SamplerConfig) → how ≡ On cfg → (j : ℕ) → j < s .count → memoValue (getD valued j false) (getD values j zero64) ≡ valueOf (measure fs cfg (unpackKey (getD keys j 0)))
+  pub is : (cfg : SamplerConfig) → how ≡ On cfg → (j : ℕ) → j < s .count → memoValue (hasValue (getD keys j 0)) (getD values j zero64) ≡ valueOf (measure fs cfg (entryKey (getD keys j 0)))
 
 -- r is where the key stands among the first m, m where it does not
 pub record Placed (keys : List ℕ) (m key r : ℕ) : Type 0 where
   pub few : r ≤ m
   pub known : isKnown (memoAt keys m) (unpackKey key) ≡ ltb r m
-  pub is : r < m → getD keys r 0 ≡ key
+  pub is : r < m → getD keys r 0 / 2 ≡ key
 
 -- r is the sampled value o, and the arrays are what is remembered behind it
-pub record Gives (fs : List (List ℕ)) (how : Sampled) (keys : List ℕ) (valued : List Bool) (values : List Float) (r : Sample) (o : Sampled′) : Type 0 where
+pub record Gives (fs : List (List ℕ)) (how : Sampled) (keys : List ℕ) (values : List Float) (r : Sample) (o : Sampled′) : Type 0 where
   pub fan : r .fan ≡ orMeasured (o .value) Unmeasured
   pub tally : tallyAt keys (r .tallies) ≡ o .tally
-  pub memo : Remembers fs how keys valued values (r .tallies)
+  pub memo : Remembers fs how keys values (r .tallies)
 
 -- what a cost and an array of keys stand for
 abbrev pub costAt : List ℕ → Costed → Cost
 costAt keys c = record { cost = c .cost; tally = tallyAt keys (c .tallies) }
 
 -- r is the cost c, and the arrays are what is remembered behind it
-pub record Stands (fs : List (List ℕ)) (how : Sampled) (keys : List ℕ) (valued : List Bool) (values : List Float) (r : Costed) (c : Cost) : Type 0 where
+pub record Stands (fs : List (List ℕ)) (how : Sampled) (keys : List ℕ) (values : List Float) (r : Costed) (c : Cost) : Type 0 where
   pub cost : r .cost ≡ c .cost
   pub tally : tallyAt keys (r .tallies) ≡ c .tally
-  pub memo : Remembers fs how keys valued values (r .tallies)
+  pub memo : Remembers fs how keys values (r .tallies)

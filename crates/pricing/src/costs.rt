@@ -18,7 +18,7 @@ ghost use Rattle.pricing.specs.Prices.{ItemPriced, RowItems, Row};
 ghost use Rattle.pricing.specs.Remembering.{Samples, Remembers, Gives, Stands, costAt};
 use super::memo::Sample;
 use super::memo::estimate;
-use cost::memo::Tallies;
+use cost::memo::Sampling;
 use cost::probes::Key;
 use frames::fields::narrow;
 use frames::fields::wide;
@@ -37,7 +37,7 @@ use query::statistics::denominator;
 // A cost, and what is remembered behind it.
 pub struct Costed {
     pub cost: f64,
-    pub tallies: Tallies,
+    pub tallies: Sampling,
 }
 
 // A probe of a candidate atom: its operator, and the path and place of the key.
@@ -99,7 +99,7 @@ fn key_of(e: u32, q: Probe) -> Key
     }
 }
 
-fn unsampled(s: Tallies) -> Sample
+fn unsampled(s: Sampling) -> Sample
     ensures { λ r. ⌜ r ≡ record { fan = Unmeasured; tallies = s } ⌝ }
 {
     Sample {
@@ -115,20 +115,17 @@ pub fn sampled(
     frame: &[u8],
     j: usize,
     em: &[u32],
-    how: Sampled,
     q: Probe,
     keys: &mut [u64],
-    valued: &mut [bool],
     values: &mut [f64],
-    draws: &mut [f64],
-    s: Tallies,
+    s: Sampling,
 ) -> Sample
     requires { ⌜ j < 65536 ⌝ }
-    requires { ⌜ Samples (framesIn (now sheet)) how (now draws) ⌝ }
-    requires { ⌜ Remembers (framesIn (now sheet)) how (now keys) (now valued) (now values) s ⌝ }
+    requires { ⌜ Samples (framesIn (now sheet)) (s .how) ⌝ }
+    requires { ⌜ Remembers (framesIn (now sheet)) (s .how) (now keys) (now values) s ⌝ }
     requires { ⌜ length (sampledOf (framesIn (now sheet)) (map decode (now em)) (operandAt (now frame) j) (q .op) (q .path) (q .place) (tallyAt (now keys) s) .tally .memo) ≤ length (now keys) ⌝ }
     requires { ⌜ Indexed (now sheet) (now index) ⌝ }
-    ensures { λ r. ⌜ Gives (framesIn (now (sheet .entry))) how (now (keys .exit)) (now (valued .exit)) (now (values .exit)) r (sampledOf (framesIn (now (sheet .entry))) (map decode (now (em .entry))) (operandAt (now (frame .entry)) j) (q .op) (q .path) (q .place) (tallyAt (now (keys .entry)) s)) ⌝ }
+    ensures { λ r. ⌜ Gives (framesIn (now (sheet .entry))) (s .how) (now (keys .exit)) (now (values .exit)) r (sampledOf (framesIn (now (sheet .entry))) (map decode (now (em .entry))) (operandAt (now (frame .entry)) j) (q .op) (q .path) (q .place) (tallyAt (now (keys .entry)) s)) ⌝ }
 {
     if byte_at(frame, j) != 0 {
         return unsampled(s);
@@ -137,11 +134,12 @@ pub fn sampled(
     if e == 0 {
         return unsampled(s);
     }
+    let how = s.how;
     let Sampled::On(cfg) = how else {
         return unsampled(s);
     };
     let x = key_of(e, q);
-    estimate(sheet, index, cfg, x, keys, valued, values, draws, s)
+    estimate(sheet, index, cfg, x, keys, values, s)
 }
 
 // A child's position, or an element.
@@ -182,20 +180,17 @@ fn item_cost(
     row: &[f64],
     x: Item,
     em: &[u32],
-    how: Sampled,
     keys: &mut [u64],
-    valued: &mut [bool],
     values: &mut [f64],
-    draws: &mut [f64],
     c: Costed,
 ) -> Costed
     requires { ⌜ x .at < 65536 ⌝ }
-    requires { ⌜ Samples (framesIn (now sheet)) how (now draws) ⌝ }
-    requires { ⌜ Remembers (framesIn (now sheet)) how (now keys) (now valued) (now values) (c .tallies) ⌝ }
+    requires { ⌜ Samples (framesIn (now sheet)) (c .tallies .how) ⌝ }
+    requires { ⌜ Remembers (framesIn (now sheet)) (c .tallies .how) (now keys) (now values) (c .tallies) ⌝ }
     requires { ⌜ length (costBehind (framesIn (now sheet)) (map decode (now em)) (now frame) x (costAt (now keys) c) .tally .memo) ≤ length (now keys) ⌝ }
     requires { ⌜ Indexed (now sheet) (now index) ⌝ }
     requires { ⌜ ItemPriced (framesIn (now sheet)) x (now row) ⌝ }
-    ensures { λ r. ⌜ Stands (framesIn (now (sheet .entry))) how (now (keys .exit)) (now (valued .exit)) (now (values .exit)) r (costBehind (framesIn (now (sheet .entry))) (map decode (now (em .entry))) (now (frame .entry)) x (costAt (now (keys .entry)) c)) ⌝ }
+    ensures { λ r. ⌜ Stands (framesIn (now (sheet .entry))) (c .tallies .how) (now (keys .exit)) (now (values .exit)) r (costBehind (framesIn (now (sheet .entry))) (map decode (now (em .entry))) (now (frame .entry)) x (costAt (now (keys .entry)) c)) ⌝ }
 {
     if !x.bound {
         return c;
@@ -209,12 +204,9 @@ fn item_cost(
         frame,
         j,
         em,
-        how,
         q,
         keys,
-        valued,
         values,
-        draws,
         t,
     );
     let drawn = s.fan;
@@ -261,19 +253,16 @@ fn item_costs(
     row: &[f64],
     bound: &[bool],
     em: &[u32],
-    how: Sampled,
     keys: &mut [u64],
-    valued: &mut [bool],
     values: &mut [f64],
-    draws: &mut [f64],
     start: Costed,
 ) -> Costed
-    requires { ⌜ Samples (framesIn (now sheet)) how (now draws) ⌝ }
-    requires { ⌜ Remembers (framesIn (now sheet)) how (now keys) (now valued) (now values) (start .tallies) ⌝ }
+    requires { ⌜ Samples (framesIn (now sheet)) (start .tallies .how) ⌝ }
+    requires { ⌜ Remembers (framesIn (now sheet)) (start .tallies .how) (now keys) (now values) (start .tallies) ⌝ }
     requires { ⌜ length (frameCosts (framesIn (now sheet)) (map decode (now em)) (now bound) (now frame) (costAt (now keys) start) .tally .memo) ≤ length (now keys) ⌝ }
     requires { ⌜ Indexed (now sheet) (now index) ⌝ }
     requires { ⌜ RowItems (framesIn (now sheet)) (now frame) (now row) ⌝ }
-    ensures { λ r. ⌜ Stands (framesIn (now (sheet .entry))) how (now (keys .exit)) (now (valued .exit)) (now (values .exit)) r (frameCosts (framesIn (now (sheet .entry))) (map decode (now (em .entry))) (now (bound .entry)) (now (frame .entry)) (costAt (now (keys .entry)) start)) ⌝ }
+    ensures { λ r. ⌜ Stands (framesIn (now (sheet .entry))) (start .tallies .how) (now (keys .exit)) (now (values .exit)) r (frameCosts (framesIn (now (sheet .entry))) (map decode (now (em .entry))) (now (bound .entry)) (now (frame .entry)) (costAt (now (keys .entry)) start)) ⌝ }
 {
     let g = items_at(frame);
     let n = g.count;
@@ -288,11 +277,8 @@ fn item_costs(
             row,
             x,
             em,
-            how,
             keys,
-            valued,
             values,
-            draws,
             c,
         );
         k += 1;
@@ -319,20 +305,17 @@ pub fn estimate_cost(
     k: u8,
     bound: &[bool],
     em: &[u32],
-    how: Sampled,
     keys: &mut [u64],
-    valued: &mut [bool],
     values: &mut [f64],
-    draws: &mut [f64],
-    s: Tallies,
+    s: Sampling,
 ) -> Costed
     requires { ⌜ AtomLine (now frame) ⌝ }
-    requires { ⌜ Samples (framesIn (now sheet)) how (now draws) ⌝ }
-    requires { ⌜ Remembers (framesIn (now sheet)) how (now keys) (now valued) (now values) s ⌝ }
+    requires { ⌜ Samples (framesIn (now sheet)) (s .how) ⌝ }
+    requires { ⌜ Remembers (framesIn (now sheet)) (s .how) (now keys) (now values) s ⌝ }
     requires { ⌜ length (estimateCost (framesIn (now sheet)) (map decode (now em)) (now bound) k (atomOfFrame (now frame)) (tallyAt (now keys) s) .tally .memo) ≤ length (now keys) ⌝ }
     requires { ⌜ Indexed (now sheet) (now index) ⌝ }
     requires { ⌜ Row (framesIn (now sheet)) (now frame) k (now row) ⌝ }
-    ensures { λ r. ⌜ Stands (framesIn (now (sheet .entry))) how (now (keys .exit)) (now (valued .exit)) (now (values .exit)) r (estimateCost (framesIn (now (sheet .entry))) (map decode (now (em .entry))) (now (bound .entry)) k (atomOfFrame (now (frame .entry))) (tallyAt (now (keys .entry)) s)) ⌝ }
+    ensures { λ r. ⌜ Stands (framesIn (now (sheet .entry))) (s .how) (now (keys .exit)) (now (values .exit)) r (estimateCost (framesIn (now (sheet .entry))) (map decode (now (em .entry))) (now (bound .entry)) k (atomOfFrame (now (frame .entry))) (tallyAt (now (keys .entry)) s)) ⌝ }
 {
     if !scans(frame) {
         return Costed {
@@ -356,11 +339,8 @@ pub fn estimate_cost(
         row,
         bound,
         em,
-        how,
         keys,
-        valued,
         values,
-        draws,
         c,
     )
 }

@@ -1,7 +1,6 @@
 // The memo of what was measured, with the values: a known key gives its value again.
 ghost use mathlib.Core.Path.{_≡_};
-ghost use mathlib.Core.Bool.{false};
-ghost use Prim.Native.Nat.{_<_, _≤_};
+ghost use Prim.Native.Nat.{_*_, _<_, _≤_};
 ghost use lib.ListN.{length, getD};
 ghost use Rattle.measure.specs.Selectivity.{zero64};
 ghost use Rattle.measure.specs.declared.FanOut.the-variants.{Unmeasured};
@@ -9,12 +8,12 @@ ghost use Rattle.frames.specs.Sheet.{framesIn};
 ghost use Rattle.reading.specs.Index.{Indexed};
 ghost use Rattle.query.specs.declared.statistics.Sampled.the-variants.{On};
 ghost use Rattle.cost.specs.Sampling.{afterEstimate};
-ghost use Rattle.cost.specs.Memo.{tallyAt};
+ghost use Rattle.cost.specs.Memo.{hasValue, tallyAt};
 ghost use Rattle.cost.specs.Costs.{estimate as estimateOf, orMeasured};
-ghost use Rattle.pricing.specs.Remembering.{memoValue, Samples, Remembers, Placed, Gives, measuredFan, isMeasured, fanValue};
+ghost use Rattle.pricing.specs.Remembering.{memoValue, Samples, Remembers, Placed, Gives, measuredFan, entryOf, fanValue};
 use cost::draws::Measurement;
 use cost::draws::measure_key;
-use cost::memo::Tallies;
+use cost::memo::Sampling;
 use cost::memo::counted;
 use cost::memo::pack_key;
 use cost::probes::Key;
@@ -27,7 +26,7 @@ pub const KEYS_MOST: usize = 1024;
 // A sampled fan-out, where there is one, and what is remembered behind it.
 pub struct Sample {
     pub fan: FanOut,
-    pub tallies: Tallies,
+    pub tallies: Sampling,
 }
 
 // Where a key stands among the first m, m where it does not.
@@ -38,7 +37,7 @@ pub fn place_of(keys: &[u64], m: usize, key: u64) -> usize
     let mut i = m;
     while 0 < i {
         i -= 1;
-        if keys[i] == key {
+        if keys[i] / 2 == key {
             return i;
         }
     }
@@ -46,12 +45,12 @@ pub fn place_of(keys: &[u64], m: usize, key: u64) -> usize
 }
 
 // The value remembered at place i.
-fn fan_at(valued: &[bool], values: &[f64], i: usize) -> FanOut
-    requires { ⌜ i < length (now valued) ⌝ }
+fn fan_at(keys: &[u64], values: &[f64], i: usize) -> FanOut
+    requires { ⌜ i < length (now keys) ⌝ }
     requires { ⌜ i < length (now values) ⌝ }
-    ensures { λ r. ⌜ r ≡ orMeasured (memoValue (getD (now (valued .entry)) i false) (getD (now (values .entry)) i zero64)) Unmeasured ⌝ }
+    ensures { λ r. ⌜ r ≡ orMeasured (memoValue (hasValue (getD (now (keys .entry)) i 0)) (getD (now (values .entry)) i zero64)) Unmeasured ⌝ }
 {
-    if valued[i] {
+    if keys[i] % 2 == 1 {
         return FanOut::Measured(values[i]);
     }
     FanOut::Unmeasured
@@ -68,12 +67,14 @@ fn measured_fan(m: Measurement) -> FanOut
     }
 }
 
-fn is_measured(f: FanOut) -> bool
-    ensures { λ r. ⌜ r ≡ isMeasured f ⌝ }
+// The entry of a key with that fan-out.
+fn entry_of(key: u64, f: FanOut) -> u64
+    requires { ⌜ key < 0x1_0000_0000_0000 ⌝ }
+    ensures { λ r. ⌜ r ≡ entryOf key f ⌝ }
 {
     match f {
-        FanOut::Measured(_) => true,
-        FanOut::Unmeasured => false,
+        FanOut::Measured(_) => key * 2 + 1,
+        FanOut::Unmeasured => key * 2,
     }
 }
 
@@ -93,28 +94,25 @@ pub fn estimate(
     cfg: SamplerConfig,
     x: Key,
     keys: &mut [u64],
-    valued: &mut [bool],
     values: &mut [f64],
-    draws: &mut [f64],
-    s: Tallies,
+    s: Sampling,
 ) -> Sample
-    requires { ⌜ Samples (framesIn (now sheet)) (On cfg) (now draws) ⌝ }
-    requires { ⌜ Remembers (framesIn (now sheet)) (On cfg) (now keys) (now valued) (now values) s ⌝ }
+    requires { ⌜ Samples (framesIn (now sheet)) (On cfg) ⌝ }
+    requires { ⌜ Remembers (framesIn (now sheet)) (On cfg) (now keys) (now values) s ⌝ }
     requires { ⌜ length (afterEstimate (framesIn (now sheet)) cfg x (tallyAt (now keys) s) .memo) ≤ length (now keys) ⌝ }
     requires { ⌜ Indexed (now sheet) (now index) ⌝ }
-    ensures { λ r. ⌜ Gives (framesIn (now (sheet .entry))) (On cfg) (now (keys .exit)) (now (valued .exit)) (now (values .exit)) r (estimateOf (framesIn (now (sheet .entry))) (On cfg) x (tallyAt (now (keys .entry)) s)) ⌝ }
+    ensures { λ r. ⌜ Gives (framesIn (now (sheet .entry))) (On cfg) (now (keys .exit)) (now (values .exit)) r (estimateOf (framesIn (now (sheet .entry))) (On cfg) x (tallyAt (now (keys .entry)) s)) ⌝ }
 {
     let key = pack_key(x);
     let c = s.count;
     let i = place_of(keys, c, key);
     if i < c {
-        let fan = fan_at(valued, values, i);
+        let fan = fan_at(keys, values, i);
         return Sample { fan, tallies: s };
     }
-    let m = measure_key(sheet, index, x, cfg, draws);
+    let m = measure_key(sheet, index, x, cfg);
     let fan = measured_fan(m);
-    keys[c] = key;
-    valued[c] = is_measured(fan);
+    keys[c] = entry_of(key, fan);
     values[c] = fan_value(fan);
     let tallies = counted(s, m);
     Sample { fan, tallies }

@@ -14,19 +14,13 @@ sampled-requires : tie.Need-sampled-requires
 sampled-requires c κs = (search needs, (search needs, (search needs, (search item-room, search needs))))
 
 item-selectivity-requires : tie.Need-item-selectivity-requires
-item-selectivity-requires c κs = (c .before .before .before .before .before .before .before .before .before .before .before .before .before .before .before .before .before .before .before .before .before .before .before .before .before .before .before .pre .1 .1 .1 .1 .0, c .before .before .before .before .before .before .before .before .before .before .before .before .before .before .before .before .before .before .before .before .before .before .before .before .before .before .before .pre .1 .1 .1 .1 .1)
+item-selectivity-requires c κs = (c .before .before .before .before .before .before .before .before .before .before .before .before .before .before .before .before .before .before .before .pre .1 .1 .1 .1 .0, c .before .before .before .before .before .before .before .before .before .before .before .before .before .before .before .before .before .before .before .pre .1 .1 .1 .1 .1)
 
 same-length : tie.Need-same-length
 same-length c = search needs
 
 same-length-2 : tie.Need-same-length-2
 same-length-2 c = search needs
-
-same-length-3 : tie.Need-same-length-3
-same-length-3 c = search needs
-
-same-length-4 : tie.Need-same-length-4
-same-length-4 c = search needs
 
 returns-2 : tie.Need-returns-2
 returns-2 c = search item-stands
@@ -41,6 +35,4 @@ item-cost-spec =
     item-selectivity-requires
     same-length
     same-length-2
-    same-length-3
-    same-length-4
     returns-2)

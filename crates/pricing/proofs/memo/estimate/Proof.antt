@@ -1,5 +1,5 @@
 -- `pricing::memo::estimate` meets its contract: by where the key stands.
-use Rattle.pricing.proofs.EstimateLaws.{known-gives, key-room, flag-room, value-room, unknown-gives, draw-room}
+use Rattle.pricing.proofs.EstimateLaws.{known-gives, key-room, value-room, unknown-gives, measure-ready}
 use borrow.Author.Needs.{needs}
 use Rattle.pricing.proofs.memo.estimate.Statement.{statement}
 use Rattle.pricing.proofs.memo.estimate.Tie as tie
@@ -19,29 +19,23 @@ same-length c = search needs
 same-length-2 : tie.Need-same-length-2
 same-length-2 c = search needs
 
-same-length-3 : tie.Need-same-length-3
-same-length-3 c = search needs
-
 returns : tie.Need-returns
 returns c = search known-gives
 
 measure-key-requires : tie.Need-measure-key-requires
-measure-key-requires c κs = draw-room _ _ _ _ _ (c .before .before .before .before .before .before .before .before .before .before .before .pre .0) (c .before .before .before .before .before .before .before .before .before .before .before .pre .1 .1 .1)
+measure-key-requires c κs = measure-ready _ _ _ _ (c .before .before .before .before .before .before .before .before .pre .0) (c .before .before .before .before .before .before .before .before .pre .1 .1 .1)
 
 measured-fan-requires : tie.Need-measured-fan-requires
 measured-fan-requires c κs = search needs
+
+entry-of-requires : tie.Need-entry-of-requires
+entry-of-requires c κs = c .before .before .before .before .before .pack-key .ensures .1
 
 mul-keys : tie.Need-mul-keys
 mul-keys c = search needs
 
 slice-write-keys : tie.Need-slice-write-keys
 slice-write-keys c = search key-room
-
-is-measured-requires : tie.Need-is-measured-requires
-is-measured-requires c κs = search needs
-
-slice-write-valued : tie.Need-slice-write-valued
-slice-write-valued c = search flag-room
 
 fan-value-requires : tie.Need-fan-value-requires
 fan-value-requires c κs = search needs
@@ -55,17 +49,11 @@ slice-write-values c = search value-room
 counted-requires : tie.Need-counted-requires
 counted-requires c κs = search needs
 
+same-length-3 : tie.Need-same-length-3
+same-length-3 c = search needs
+
 same-length-4 : tie.Need-same-length-4
 same-length-4 c = search needs
-
-same-length-5 : tie.Need-same-length-5
-same-length-5 c = search needs
-
-same-length-6 : tie.Need-same-length-6
-same-length-6 c = search needs
-
-same-length-7 : tie.Need-same-length-7
-same-length-7 c = search needs
 
 returns-2 : tie.Need-returns-2
 returns-2 c = search unknown-gives
@@ -79,20 +67,16 @@ estimate-spec =
     fan-at-requires
     same-length
     same-length-2
-    same-length-3
     returns
     measure-key-requires
     measured-fan-requires
+    entry-of-requires
     mul-keys
     slice-write-keys
-    is-measured-requires
-    slice-write-valued
     fan-value-requires
     mul-values
     slice-write-values
     counted-requires
+    same-length-3
     same-length-4
-    same-length-5
-    same-length-6
-    same-length-7
     returns-2)

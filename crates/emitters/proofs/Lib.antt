@@ -1,0 +1,3 @@
+pub mod EmitterLaws
+pub mod ItemLaws
+pub mod RecordLaws

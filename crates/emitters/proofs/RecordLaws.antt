@@ -1,0 +1,102 @@
+-- What an atom's kind says of the emitters it gives, and the atoms in turn. Proved kind by kind, and from what one atom gives.
+use Prim.Native.Nat.{ℕ, suc, _+_, _<_, _≤_}
+use mathlib.Core.Path.{_≡_, refl, sym, subst, _∙_}
+use mathlib.Core.Bool.{Bool, true, false, Bool·beq}
+use mathlib.Core.List.{List, _∷_, map}
+use native.Mathlib.Omega.{arith}
+use native.Mathlib.Numerals.{add-one}
+use lib.Dec.{T, ltb}
+use lib.ListN.{length, getD, drop, drop-of-length-le}
+use lib.Seq.{drop-cons}
+use Rattle.frames.specs.Sheet.{frameAt}
+use Rattle.frames.specs.First.{isAtom}
+use Rattle.frames.specs.Kinds.{kinds, kindAt}
+use Rattle.model.specs.Atoms.{Operand, Atom, Eq}
+use Rattle.model.specs.Bound.{Bound, has, most}
+use Rattle.model.specs.Premises.{numbersBelow}
+use Rattle.model.specs.Scheduling.{atomOf}
+use Rattle.cost.specs.QueryAtoms.{operandsFrom, atomOfFrame}
+use Rattle.cost.specs.Emitters.{Emitters, decode, from, emitterOf, setEmitter, setElements, copyEmitter, recordAtom, recordEmitters}
+use Rattle.lowering.specs.AtomLines.{AtomLine, itemOperands, scansKind}
+use Rattle.lowering.specs.Eager.{atomsOf, Located}
+use Rattle.lowering.proofs.AtomLaws.{by-kind, scanning}
+use Rattle.emitters.specs.Items.{setItems, recordIfNew}
+use Rattle.emitters.proofs.ItemLaws.{children-are, elements-are}
+
+-- an atom that scans gives its node and its items
+record-kind : (em : Emitters) (i : ℕ) (f : List ℕ) → isAtom (getD f 0 0) ≡ true → scansKind (getD f 0 0) ≡ true
+    → setItems (setEmitter em (getD f 1 0) (from i 0 0)) i (ltb 6 (getD f 0 0)) 0 (itemOperands f) ≡ recordAtom em i (atomOfFrame f)
+unfolding atomOfFrame kinds kindAt operandsFrom setItems recordAtom
+record-kind em i = by-kind (λ f. scansKind (getD f 0 0) ≡ true → setItems (setEmitter em (getD f 1 0) (from i 0 0)) i (ltb 6 (getD f 0 0)) 0 (itemOperands f) ≡ recordAtom em i (atomOfFrame f)) (λ r t. children-are (itemOperands (0x01 ∷ r)) (setEmitter em (getD r 0 0) (from i 0 0)) i 0) (λ r t. refl) (λ r t. refl) (λ r t. absurd (subst T (sym t) tt)) (λ r t. absurd (subst T (sym t) tt)) (λ r t. absurd (subst T (sym t) tt)) (λ r t. elements 0x07 r) (λ r t. elements 0x08 r) (λ r t. elements 0x09 r) (λ r t. elements 0x0a r) (λ r t. elements 0x0b r) (λ r t. elements 0x0c r) (λ r t. elements 0x0d r) (λ r t. elements 0x0e r)
+  where
+    elements : (k : ℕ) (r : List ℕ) → setItems (setEmitter em (getD r 0 0) (from i 0 0)) i true 0 (itemOperands (k ∷ r)) ≡ setElements (setEmitter em (getD r 0 0) (from i 0 0)) i (itemOperands (k ∷ r))
+    elements k r = elements-are (itemOperands (k ∷ r)) (setEmitter em (getD r 0 0) (from i 0 0)) i 0
+
+-- ---- a node and its items
+
+pub still-below : (l o vs : List ℕ) → length o ≡ length l → numbersBelow (length l) vs ≡ true → numbersBelow (length o) vs ≡ true
+still-below l o vs s h = rw s h
+
+pub node-and-items : (em m o : Emitters) (i a e : ℕ) (t : Bool) (cs : List Operand) → decode e ≡ from i 0 0 → m ≡ setEmitter em a (decode e) → o ≡ setItems m i t 0 cs → o ≡ setItems (setEmitter em a (from i 0 0)) i t 0 cs
+node-and-items em m o i a e t cs g h j = rw (← g, ← h) j
+
+-- ---- a line by its kind
+
+module _ (f : List ℕ) (k : ℕ) (is : k ≡ getD f 0 0) where
+  pub record-pred : (em : Emitters) (i : ℕ) → k ≡ 6 → em ≡ recordAtom em i (atomOfFrame f)
+  unfolding atomOfFrame recordAtom
+  record-pred em i h = rw (← is, h)
+
+  pub record-global : (em : Emitters) (i : ℕ) → k ≡ 5 → em ≡ recordAtom em i (atomOfFrame f)
+  unfolding atomOfFrame recordAtom
+  record-global em i h = rw (← is, h)
+
+  pub record-eq : (em o : Emitters) (i a b : ℕ) → k ≡ 4 → a ≡ getD f 1 0 → b ≡ getD f 2 0 → o ≡ copyEmitter (emitterOf em a) (emitterOf em b) em a b → o ≡ recordAtom em i (atomOfFrame f)
+  unfolding atomOfFrame recordAtom
+  record-eq em o i a b h p q e = rw (← is, h, ← p, ← q) e
+
+  module _ (line : AtomLine f) (p : k ≡ 6 → ⊥) (q : k ≡ 4 → ⊥) (r : k ≡ 5 → ⊥) where
+    pub record-scan : (em o : Emitters) (i a : ℕ) → a ≡ getD f 1 0 → o ≡ setItems (setEmitter em a (from i 0 0)) i (ltb 6 (getD f 0 0)) 0 (itemOperands f) → o ≡ recordAtom em i (atomOfFrame f)
+    record-scan em o i a n h = h ∙ rw n (record-kind em i f (line .kind) (scanning f k is line p q r))
+
+-- ---- atom number k, where its use has changed
+
+module _ (U B : Bound) (a : Atom) (k : ℕ) (em : Emitters) (t u : Bool) (p : t ≡ has U k) (q : u ≡ has B k) where
+  pub record-same : Bool·beq t u ≡ true → em ≡ recordIfNew B U k a em
+  record-same h = rw (← p, ← q, h)
+
+  pub record-changed : (o : Emitters) → Bool·beq t u ≡ false → o ≡ recordAtom em k a → o ≡ recordIfNew B U k a em
+  record-changed o h e = rw (← p, ← q, h) e
+
+-- ---- the atoms in turn
+
+-- i atoms are recorded, and those left give the rest
+pub record Recording (x : List ℕ) (n : ℕ) (B U : Bound) (l₀ l : List ℕ) (i : ℕ) : Type 0 where
+  pub few : i ≤ n
+  pub size : length l ≡ length l₀
+  pub is : recordEmitters B U i (drop i (atomsOf x)) (map decode l) ≡ recordEmitters B U 0 (atomsOf x) (map decode l₀)
+
+pub recording-none : (x : List ℕ) (n : ℕ) (B U : Bound) (l : List ℕ) → Recording x n B U l l 0
+recording-none x n B U l = record { few = omega arith; size = refl; is = refl }
+
+atoms-drop : (qs : List Atom) (i : ℕ) → i < length qs → drop i qs ≡ atomOf qs i ∷ drop (suc i) qs
+unfolding atomOf
+atoms-drop qs i h = drop-cons qs i (Eq 0 0) h
+
+module _ (x from : List ℕ) (n : ℕ) (B U : Bound) (l₀ l : List ℕ) (i : ℕ) (r : Recording x n B U l₀ l i) (z : Located x from n) where
+  module _ (h : i < n) where
+    module _ (s : List ℕ) (line : s ≡ frameAt x (getD from i 0)) where
+      pub recording-again : (v : ℕ) (o : List ℕ) → v ≡ i → length o ≡ length l → map decode o ≡ recordIfNew B U v (atomOfFrame s) (map decode l) → Recording x n B U l₀ o (i + 1)
+      unfolding recordEmitters
+      recording-again v o e g d = record {
+        few = omega arith;
+        size = g ∙ r .size;
+        is = rw (d, e, line, ← z .is i h, add-one i) (rw (atoms-drop (atomsOf x) i (omega (arith, z .count))) at (r .is));
+      }
+
+  pub em-sized : length l₀ ≡ most → length l ≡ most
+  em-sized s = r .size ∙ s
+
+  pub recorded : n ≤ i → map decode l ≡ recordEmitters B U 0 (atomsOf x) (map decode l₀)
+  unfolding recordEmitters
+  recorded h = rw (drop-of-length-le (atomsOf x) (let g : length (atomsOf x) ≤ i = omega (arith, z .count) in g)) at (r .is)
