@@ -1,16 +1,18 @@
 -- The cheapest of the atoms that are left. Proved atom by atom, from what each cost stands for.
 use Prim.Native.Nat.{ℕ, suc, _+_, _<_, _≤_}
-use mathlib.Core.Path.{_≡_, refl, _∙_}
+use mathlib.Core.Path.{_≡_, refl, sym, _∙_, ap, subst}
 use mathlib.Core.Bool.{Bool, true, false, not, _&&_}
 use mathlib.Core.Option.{Option, none, some}
-use mathlib.Core.List.{List, [], _∷_}
+use mathlib.Core.List.{List, [], _∷_, _++_, map, append-assoc, append-nil}
 use native.Mathlib.Omega.{arith}
 use native.Mathlib.Numerals.{add-one}
-use lib.ListN.{length, getD, drop, drop-of-length-le}
-use lib.Seq.{drop-cons}
-use lib.Ieee.{Float, lt}
-use borrow.Author.Tests.{not-true, not-false}
+use lib.ListN.{length, getD, set, take, drop, drop-of-length-le, length-set}
+use lib.Seq.{drop-cons, take-suc-set}
+use lib.Dec.{ltb}
+use lib.Ieee.{Float, binary64, lt, toBits}
+use borrow.Author.Tests.{lt-ltb, not-true, not-false}
 use Rattle.base.specs.Choose.{pick}
+use Rattle.measure.specs.Selectivity.{zero64}
 use Rattle.frames.specs.Sheet.{frameAt, framesIn}
 use Rattle.model.specs.Atoms.{Atom}
 use Rattle.model.specs.Bound.{Bound, has}
@@ -23,47 +25,23 @@ use Rattle.cost.specs.Emitters.{Emitters}
 use Rattle.cost.specs.Sampling.{Tally}
 use Rattle.cost.specs.Costs.{Costed, estimateCost}
 use Rattle.cost.specs.Memo.{tallyAt}
+use Rattle.cost.specs.Choice.{isCandidate, offer, offered, offers}
+use Rattle.cost.specs.declared.memo.Sampling.{Sampling}
 use Rattle.plan_facts.specs.Remembered.{Grows, grows-self, cost-grows}
 use Rattle.lowering.specs.Eager.{Located, atomsOf}
 use Rattle.pricing.specs.Remembering.{Samples, Remembers, Stands}
 use Rattle.pricing.specs.declared.costs.Costed.{Costed as CostedAs}
 use Rattle.scheduling.specs.declared.choose.Best.{Best}
-use Rattle.scheduling.specs.Choosing.{bidOf, orBest, considered, candidates, Chose, betterOf}
+use Rattle.scheduling.specs.Choosing.{bidOf, orBest, candidates, noCost, costBits, noted, Chose, betterOf}
 
 -- ---- one atom
 
-module _ (fs : List (List ℕ)) (em : Emitters) (U B : Bound) (i : ℕ) (a : Atom) (how : Sampled) (keys : List ℕ) (valued : List Bool) (values : List Float) (b : Best) (t : Bool) (is : t ≡ has U i) where
-  -- it is no candidate: used already, or it does not scan
-  pub considers-used : Remembers fs how keys valued values (b .tallies) → t ≡ true → Chose fs how keys valued values b (considered fs em U B i a (tallyAt keys (b .tallies)) (bidOf (b .found) (b .who) (b .price)))
-  considers-used m h = rw (← is, h) (record { best = refl; next = refl; memo = m })
+module _ (U : Bound) (i : ℕ) (a : Atom) (t : Bool) (is : t ≡ has U i) where
+  pub candidate-used : t ≡ true → false ≡ isCandidate U i a
+  candidate-used h = rw (← is, h)
 
-  module _ (new : t ≡ false) (u : Bool) (scan : u ≡ scans a) where
-    pub considers-not : Remembers fs how keys valued values (b .tallies) → not u ≡ true → Chose fs how keys valued values b (considered fs em U B i a (tallyAt keys (b .tallies)) (bidOf (b .found) (b .who) (b .price)))
-    considers-not m h = rw (← is, new, ← scan, not-true u h) (record { best = refl; next = refl; memo = m })
-
-    module _ (h : not u ≡ false) where
-      next-is : (o : Option (Bid Float)) (c : Costed) → orBest fs em i c o .next ≡ c .tally
-      next-is none c = refl
-      next-is (some d) c = refl
-
-      pub considers-room : length (considered fs em U B i a (tallyAt keys (b .tallies)) (bidOf (b .found) (b .who) (b .price)) .next .memo) ≤ length keys → length (estimateCost fs em B i a (tallyAt keys (b .tallies)) .tally .memo) ≤ length keys
-      considers-room l = rw (← is, new, ← scan, not-false u h, next-is (bidOf (b .found) (b .who) (b .price)) (estimateCost fs em B i a (tallyAt keys (b .tallies)))) at l
-
-      pub considers-cost : (keys′ : List ℕ) (valued′ : List Bool) (values′ : List Float) (c : CostedAs) (r : Best) → Stands fs how keys′ valued′ values′ c (estimateCost fs em B i a (tallyAt keys (b .tallies))) → r ≡ betterOf i c b
-          → Chose fs how keys′ valued′ values′ r (considered fs em U B i a (tallyAt keys (b .tallies)) (bidOf (b .found) (b .who) (b .price)))
-      considers-cost keys′ valued′ values′ c r s e = rw (← is, new, ← scan, not-false u h, e) (by (b .found))
-        where
-          w : Costed
-          w = estimateCost fs em B i a (tallyAt keys (b .tallies))
-
-          by : (d : Bool) → Chose fs how keys′ valued′ values′ (betterOf i c (record { found = d; who = b .who; price = b .price; tallies = b .tallies })) (orBest fs em i w (bidOf d (b .who) (b .price)))
-          by false = record { best = rw (s .cost); next = s .tally; memo = s .memo }
-          by true = rw (← (s .cost)) (at (lt (c .cost) (b .price)))
-            where
-              at : (l : Bool) → Chose fs how keys′ valued′ values′ (pick (not l) (record { found = true; who = b .who; price = b .price; tallies = c .tallies }) (record { found = true; who = i; price = c .cost; tallies = c .tallies }))
-                  (record { best = pick l (some (record { who = i; price = c .cost })) (some (record { who = b .who; price = b .price })); next = w .tally })
-              at true = record { best = refl; next = s .tally; memo = s .memo }
-              at false = record { best = refl; next = s .tally; memo = s .memo }
+  pub candidate-scans : t ≡ false → (u : Bool) → u ≡ scans a → u ≡ isCandidate U i a
+  candidate-scans h u e = rw (← is, h, e)
 
 -- a cost against the best so far
 module _ (i : ℕ) (c : CostedAs) (b : Best) where
@@ -76,71 +54,153 @@ module _ (i : ℕ) (c : CostedAs) (b : Best) where
   pub better-first : b .found ≡ false → record { found = true; who = i; price = c .cost; tallies = c .tallies } ≡ betterOf i c b
   better-first h = rw h
 
+  better-tallies : betterOf i c b .tallies ≡ c .tallies
+  better-tallies = by (b .found && not (lt (c .cost) (b .price)))
+    where
+      by : (t : Bool) → pick {A = Best} t (record { found = true; who = b .who; price = b .price; tallies = c .tallies }) (record { found = true; who = i; price = c .cost; tallies = c .tallies }) .tallies ≡ c .tallies
+      by true = refl
+      by false = refl
+
+  better-bid : bidOf (betterOf i c b .found) (betterOf i c b .who) (betterOf i c b .price) ≡ orBest i (some (c .cost)) (bidOf (b .found) (b .who) (b .price))
+  better-bid = by (b .found) (lt (c .cost) (b .price)) refl
+    where
+      by : (d l : Bool) → lt (c .cost) (b .price) ≡ l → (let r = pick {A = Best} (d && not l) (record { found = true; who = b .who; price = b .price; tallies = c .tallies }) (record { found = true; who = i; price = c .cost; tallies = c .tallies }) in bidOf (r .found) (r .who) (r .price)) ≡ orBest i (some (c .cost)) (bidOf d (b .who) (b .price))
+      by true true e = rw e
+      by true false e = rw e
+      by false true e = refl
+      by false false e = refl
+
 -- ---- the atoms in turn
 
 module _ (fs : List (List ℕ)) (em : Emitters) (qs : List Atom) (U B : Bound) where
-  considered-grows : (i : ℕ) (a : Atom) (t : Tally) (b : Option (Bid Float)) → Grows t (considered fs em U B i a t b .next)
-  considered-grows i a t b = by (not (has U i) && scans a) b
+  offered-grows : (i : ℕ) (a : Atom) (t : Tally) → Grows t (offered fs em U B i a t)
+  offered-grows i a t = by (isCandidate U i a)
     where
-      by : (c : Bool) (b : Option (Bid Float)) → Grows t (pick c (orBest fs em i (estimateCost fs em B i a t) b) (record { best = b; next = t }) .next)
-      by true none = cost-grows fs em B i a t
-      by true (some d) = cost-grows fs em B i a t
-      by false b = grows-self t
+      by : (c : Bool) → Grows t (pick c (estimateCost fs em B i a t .tally) t)
+      by true = cost-grows fs em B i a t
+      by false = grows-self t
 
   pub candidates-more : (ks : List ℕ) (t : Tally) (b : Option (Bid Float)) → length (t .memo) ≤ length (candidates fs em qs U B ks t b .next .memo)
   unfolding candidates
   candidates-more [] t b = omega arith
   candidates-more (i ∷ ks) t b =
-      let c = considered fs em U B i (atomOf qs i) t b in
-      let g = considered-grows i (atomOf qs i) t b in
-      let r = candidates-more ks (c .next) (c .best) in
+      let g = offered-grows i (atomOf qs i) t in
+      let r = candidates-more ks (offered fs em U B i (atomOf qs i) t) (orBest i (offer fs em U B i (atomOf qs i) t) b) in
       omega (arith, g .more)
+
+  offers-length : (ks : List ℕ) (t : Tally) → length (offers fs em qs U B ks t) ≡ length ks
+  unfolding offers
+  offers-length [] t = refl
+  offers-length (i ∷ ks) t = ap suc (offers-length ks (offered fs em U B i (atomOf qs i) t))
+
+-- a cost for each atom
+pub offers-number : (fs : List (List ℕ)) (em : Emitters) (qs : List Atom) (U B : Bound) (t : Tally) → length (offers fs em qs U B (numbers qs) t) ≡ length qs
+offers-number fs em qs U B t = offers-length fs em qs U B (numbers qs) t ∙ tabulate-length (length qs) (λ k. k)
 
 -- number i is the first of the numbers from i on
 pub numbers-drop : (qs : List Atom) (i : ℕ) → i < length qs → drop i (numbers qs) ≡ i ∷ drop (suc i) (numbers qs)
 numbers-drop qs i l = drop-cons (numbers qs) i 0 (rw (tabulate-length (length qs) (λ k. k)) l) ∙ rw (tabulate-at (length qs) (λ k. k) i 0 l)
 
--- the atoms from number i on, from the best so far, give what all atoms give
-pub record Scanning (x : List ℕ) (em : Emitters) (U B : Bound) (how : Sampled) (n : ℕ) (keys₀ : List ℕ) (draws₀ : List Float) (b₀ : Best) (keys : List ℕ) (valued : List Bool) (values draws : List Float) (b : Best) (i : ℕ) : Type 0 where
+-- the atoms from number i on, from the best so far, give what all atoms give, and their costs behind those that are noted
+pub record Scanning (x : List ℕ) (em : Emitters) (U B : Bound) (n : ℕ) (s₀ : Sampling) (keys₀ : List ℕ) (values₀ : List Float) (costs₀ keys : List ℕ) (values : List Float) (costs : List ℕ) (b : Best) (i : ℕ) : Type 0 where
   pub few : i ≤ n
-  pub is : candidates (framesIn x) em (atomsOf x) U B (drop i (numbers (atomsOf x))) (tallyAt keys (b .tallies)) (bidOf (b .found) (b .who) (b .price)) ≡ candidates (framesIn x) em (atomsOf x) U B (numbers (atomsOf x)) (tallyAt keys₀ (b₀ .tallies)) none
-  pub memo : Remembers (framesIn x) how keys valued values (b .tallies)
-  pub samples : Samples (framesIn x) how draws
-  pub size : length keys ≡ length keys₀
-  pub room : length draws ≡ length draws₀
+  pub is : candidates (framesIn x) em (atomsOf x) U B (drop i (numbers (atomsOf x))) (tallyAt keys (b .tallies)) (bidOf (b .found) (b .who) (b .price)) ≡ candidates (framesIn x) em (atomsOf x) U B (numbers (atomsOf x)) (tallyAt keys₀ s₀) none
+  pub costs-are : n ≤ length costs → take i costs ++ map costBits (offers (framesIn x) em (atomsOf x) U B (drop i (numbers (atomsOf x))) (tallyAt keys (b .tallies))) ≡ map costBits (offers (framesIn x) em (atomsOf x) U B (numbers (atomsOf x)) (tallyAt keys₀ s₀))
+  pub memo : Remembers (framesIn x) (s₀ .how) keys values (b .tallies)
+  pub keys-size : length keys ≡ length keys₀
+  pub values-size : length values ≡ length values₀
+  pub costs-size : length costs ≡ length costs₀
 
-pub scanning-none : (x : List ℕ) (em : Emitters) (U B : Bound) (how : Sampled) (n : ℕ) (keys : List ℕ) (valued : List Bool) (values draws : List Float) (b : Best) → b .found ≡ false → Remembers (framesIn x) how keys valued values (b .tallies) → Samples (framesIn x) how draws → Scanning x em U B how n keys draws b keys valued values draws b 0
-scanning-none x em U B how n keys valued values draws b h m d = record { few = omega arith; is = rw h; memo = m; samples = d; size = refl; room = refl }
+pub scanning-none : (x : List ℕ) (em : Emitters) (U B : Bound) (n : ℕ) (s : Sampling) (keys : List ℕ) (values : List Float) (costs : List ℕ) → Remembers (framesIn x) (s .how) keys values s → Scanning x em U B n s keys values costs keys values costs (record { found = false; who = 0; price = zero64; tallies = s }) 0
+scanning-none x em U B n s keys values costs m = record { few = omega arith; is = refl; costs-are = λ h. refl; memo = m; keys-size = refl; values-size = refl; costs-size = refl }
 
-module _ (x from : List ℕ) (em : Emitters) (U B : Bound) (how : Sampled) (n : ℕ) (keys₀ : List ℕ) (draws₀ : List Float) (b₀ : Best) (keys : List ℕ) (valued : List Bool) (values draws : List Float) (b : Best) (i : ℕ) (r : Scanning x em U B how n keys₀ draws₀ b₀ keys valued values draws b i) (z : Located x from n) where
-  module _ (h : i < n) where
-    module _ (s : List ℕ) (line : s ≡ frameAt x (getD from i 0)) where
-      module _ (v : ℕ) (e : v ≡ i) where
-        abbrev here : Scan Tally Float
-        here = considered (framesIn x) em U B v (atomOfFrame s) (tallyAt keys (b .tallies)) (bidOf (b .found) (b .who) (b .price))
+module _ (x from : List ℕ) (em : Emitters) (U B : Bound) (n : ℕ) (s₀ : Sampling) (keys₀ : List ℕ) (values₀ : List Float) (costs₀ keys : List ℕ) (values : List Float) (costs : List ℕ) (b : Best) (i : ℕ) (r : Scanning x em U B n s₀ keys₀ values₀ costs₀ keys values costs b i) (z : Located x from n) where
+  -- by the settings that it has itself
+  pub own-samples : Samples (framesIn x) (s₀ .how) → Samples (framesIn x) (b .tallies .how)
+  own-samples h = subst (Samples (framesIn x)) (sym (r .memo .set)) h
 
-        rest-is : candidates (framesIn x) em (atomsOf x) U B (drop (suc i) (numbers (atomsOf x))) (here .next) (here .best) ≡ candidates (framesIn x) em (atomsOf x) U B (numbers (atomsOf x)) (tallyAt keys₀ (b₀ .tallies)) none
-        unfolding candidates
-        rest-is = rw (e, line, ← z .is i h) (rw (numbers-drop (atomsOf x) i (omega (arith, z .count))) at (r .is))
+  pub own-memo : Remembers (framesIn x) (b .tallies .how) keys values (b .tallies)
+  own-memo = subst (λ (h : Sampled). Remembers (framesIn x) h keys values (b .tallies)) (sym (r .memo .set)) (r .memo)
 
-        pub atom-room : length (candidates (framesIn x) em (atomsOf x) U B (numbers (atomsOf x)) (tallyAt keys₀ (b₀ .tallies)) none .next .memo) ≤ length keys₀ → length (here .next .memo) ≤ length keys
-        atom-room l =
-            let g = candidates-more (framesIn x) em (atomsOf x) U B (drop (suc i) (numbers (atomsOf x))) (here .next) (here .best) in
-            let k = rw rest-is at g in
-            omega (arith, r .size)
+  module _ (h : i < n) (s : List ℕ) (line : s ≡ frameAt x (getD from i 0)) (v : ℕ) (e : v ≡ i) where
+    abbrev behind : Tally
+    behind = offered (framesIn x) em U B v (atomOfFrame s) (tallyAt keys (b .tallies))
 
-        pub scanning-again : (keys′ : List ℕ) (valued′ : List Bool) (values′ draws′ : List Float) (c : Best) → Chose (framesIn x) how keys′ valued′ values′ c here → length keys′ ≡ length keys → length draws′ ≡ length draws → Scanning x em U B how n keys₀ draws₀ b₀ keys′ valued′ values′ draws′ c (i + 1)
-        scanning-again keys′ valued′ values′ draws′ c k p q = record {
-          few = omega arith;
-          is = rw (k .best, k .next, add-one i) rest-is;
-          memo = k .memo;
-          samples = record { set = r .samples .set; nodes = r .samples .nodes; resamples = r .samples .resamples; room = λ cfg u. rw q (r .samples .room cfg u) };
-          size = p ∙ r .size;
-          room = q ∙ r .room;
-        }
+    abbrev cost-now : Option Float
+    cost-now = offer (framesIn x) em U B v (atomOfFrame s) (tallyAt keys (b .tallies))
 
-  pub scanned : n ≤ i → Chose (framesIn x) how keys valued values b (candidates (framesIn x) em (atomsOf x) U B (numbers (atomsOf x)) (tallyAt keys₀ (b₀ .tallies)) none)
-  unfolding candidates
+    rest-is : candidates (framesIn x) em (atomsOf x) U B (drop (suc i) (numbers (atomsOf x))) behind (orBest v cost-now (bidOf (b .found) (b .who) (b .price))) ≡ candidates (framesIn x) em (atomsOf x) U B (numbers (atomsOf x)) (tallyAt keys₀ s₀) none
+    unfolding candidates
+    rest-is = rw (e, line, ← z .is i h) (rw (numbers-drop (atomsOf x) i (omega (arith, z .count))) at (r .is))
+
+    costs-rest : n ≤ length costs → take i costs ++ costBits cost-now ∷ map costBits (offers (framesIn x) em (atomsOf x) U B (drop (suc i) (numbers (atomsOf x))) behind) ≡ map costBits (offers (framesIn x) em (atomsOf x) U B (numbers (atomsOf x)) (tallyAt keys₀ s₀))
+    unfolding offers
+    costs-rest l = rw (e, line, ← z .is i h) (rw (numbers-drop (atomsOf x) i (omega (arith, z .count))) at (r .costs-are l))
+
+    -- one cost more is noted
+    noted-size : (y : ℕ) → length (noted costs i y) ≡ length costs
+    noted-size y = by (ltb i (length costs))
+      where
+        by : (t : Bool) → length (pick t (set costs i y) costs) ≡ length costs
+        by true = length-set costs i y
+        by false = refl
+
+    costs-next : (y : ℕ) → y ≡ costBits cost-now → n ≤ length costs → take (i + 1) (noted costs i y) ++ map costBits (offers (framesIn x) em (atomsOf x) U B (drop (suc i) (numbers (atomsOf x))) behind) ≡ map costBits (offers (framesIn x) em (atomsOf x) U B (numbers (atomsOf x)) (tallyAt keys₀ s₀))
+    costs-next y q l =
+        rw (lt-ltb i (length costs) (omega arith), add-one i, take-suc-set costs i y (omega arith), append-assoc (take i costs) (y ∷ []) (map costBits (offers (framesIn x) em (atomsOf x) U B (drop (suc i) (numbers (atomsOf x))) behind)), q)
+        (costs-rest l)
+
+    module _ (t : Bool) (cand : t ≡ isCandidate U v (atomOfFrame s)) where
+      -- it is no candidate
+      pub scanning-not : not t ≡ true → (costs′ : List ℕ) → costs′ ≡ noted costs i noCost → Scanning x em U B n s₀ keys₀ values₀ costs₀ keys values costs′ b (i + 1)
+      scanning-not g costs′ w =
+          let f : isCandidate U v (atomOfFrame s) ≡ false = sym cand ∙ not-true t g in
+          record {
+            few = omega arith;
+            is = rw (add-one i) (rw f at rest-is);
+            costs-are = λ l. rw (w, add-one i) (rw (f, add-one i) at (costs-next noCost (rw f) (omega (arith, ap length w, noted-size noCost))));
+            memo = r .memo;
+            keys-size = r .keys-size;
+            values-size = r .values-size;
+            costs-size = ap length w ∙ noted-size noCost ∙ r .costs-size;
+          }
+
+      module _ (g : not t ≡ false) where
+        one : isCandidate U v (atomOfFrame s) ≡ true
+        one = sym cand ∙ not-false t g
+
+        pub cost-room : length (candidates (framesIn x) em (atomsOf x) U B (numbers (atomsOf x)) (tallyAt keys₀ s₀) none .next .memo) ≤ length keys₀ → length (estimateCost (framesIn x) em B v (atomOfFrame s) (tallyAt keys (b .tallies)) .tally .memo) ≤ length keys
+        cost-room l =
+            let c = candidates-more (framesIn x) em (atomsOf x) U B (drop (suc i) (numbers (atomsOf x))) behind (orBest v cost-now (bidOf (b .found) (b .who) (b .price))) in
+            let k = rw rest-is at c in
+            let q : length (behind .memo) ≤ length keys = omega (arith, r .keys-size) in
+            rw one at q
+
+        -- its cost against the best so far
+        pub scanning-cost : (keys′ : List ℕ) (values′ : List Float) (costs′ : List ℕ) (c : CostedAs) (y : ℕ) (d : Best) → Stands (framesIn x) (b .tallies .how) keys′ values′ c (estimateCost (framesIn x) em B v (atomOfFrame s) (tallyAt keys (b .tallies))) → y ≡ toBits binary64 (c .cost) → costs′ ≡ noted costs i y → d ≡ betterOf v c b → length keys′ ≡ length keys → length values′ ≡ length values → Scanning x em U B n s₀ keys₀ values₀ costs₀ keys′ values′ costs′ d (i + 1)
+        scanning-cost keys′ values′ costs′ c y d a q w u p o =
+            let tally : tallyAt keys′ (d .tallies) ≡ behind = ap (λ (e : Best). tallyAt keys′ (e .tallies)) u ∙ ap (tallyAt keys′) (better-tallies v c b) ∙ a .tally ∙ rw one in
+            let bid : bidOf (d .found) (d .who) (d .price) ≡ orBest v cost-now (bidOf (b .found) (b .who) (b .price)) = ap (λ (e : Best). bidOf (e .found) (e .who) (e .price)) u ∙ better-bid v c b ∙ rw (one, a .cost) in
+            record {
+              few = omega arith;
+              is = rw (tally, bid, add-one i) rest-is;
+              costs-are = λ l. rw (tally, w, add-one i) (rw (add-one i) at (costs-next y (rw one (q ∙ ap (toBits binary64) (a .cost))) (omega (arith, ap length w, noted-size y))));
+              memo = subst (λ (e : Best). Remembers (framesIn x) (s₀ .how) keys′ values′ (e .tallies)) (sym u) (subst (Remembers (framesIn x) (s₀ .how) keys′ values′) (sym (better-tallies v c b)) (subst (λ (h : Sampled). Remembers (framesIn x) h keys′ values′ (c .tallies)) (r .memo .set) (a .memo)));
+              keys-size = p ∙ r .keys-size;
+              values-size = o ∙ r .values-size;
+              costs-size = ap length w ∙ noted-size y ∙ r .costs-size;
+            }
+
+  pub scanned : n ≤ i → Chose (framesIn x) (s₀ .how) keys values costs b (candidates (framesIn x) em (atomsOf x) U B (numbers (atomsOf x)) (tallyAt keys₀ s₀) none) (offers (framesIn x) em (atomsOf x) U B (numbers (atomsOf x)) (tallyAt keys₀ s₀))
+  unfolding candidates offers
   scanned h =
-      let g : length (numbers (atomsOf x)) ≤ i = omega (arith, z .count, tabulate-length (length (atomsOf x)) (λ k. k)) in
-      rw (← r .is, drop-of-length-le (numbers (atomsOf x)) g) (record { best = refl; next = refl; memo = r .memo })
+      let m : length (numbers (atomsOf x)) ≡ i = omega (arith, z .count, tabulate-length (length (atomsOf x)) (λ k. k), r .few) in
+      let g : length (numbers (atomsOf x)) ≤ i = omega arith in
+      let l : length (offers (framesIn x) em (atomsOf x) U B (numbers (atomsOf x)) (tallyAt keys₀ s₀)) ≡ i = offers-length (framesIn x) em (atomsOf x) U B (numbers (atomsOf x)) (tallyAt keys₀ s₀) ∙ m in
+      let is = rw (drop-of-length-le (numbers (atomsOf x)) g) at (r .is) in
+      record {
+        best = ap (λ (c : Scan Tally Float). c .best) is;
+        next = ap (λ (c : Scan Tally Float). c .next) is;
+        memo = r .memo;
+        costs-are = λ w. rw l (sym (append-nil (take i costs)) ∙ rw (drop-of-length-le (numbers (atomsOf x)) g) at (r .costs-are (omega (arith, l, r .few))));
+      }

@@ -1,4 +1,3 @@
 pub mod ChoiceLaws
-pub mod OfferLaws
 pub mod RoundLaws
 pub mod LoopLaws

@@ -2,37 +2,48 @@
 ghost use mathlib.Core.Path.{_≡_};
 ghost use mathlib.Core.Option.{none};
 ghost use mathlib.Core.List.{map};
-ghost use Prim.Native.Nat.{_+_, _<_, _≤_};
-ghost use lib.ListN.{length, set, take};
+ghost use Prim.Native.Nat.{_+_, _*_, _<_, _≤_};
+ghost use lib.ListN.{length};
 ghost use Rattle.frames.specs.Sheet.{framesIn};
 ghost use Rattle.reading.specs.Index.{Indexed};
+ghost use Rattle.model.specs.Bound.{most};
 ghost use Rattle.model.specs.Scheduling.{numbers};
 ghost use Rattle.cost.specs.QueryAtoms.{atomOfFrame};
 ghost use Rattle.cost.specs.Emitters.{decode};
 ghost use Rattle.cost.specs.Memo.{tallyAt};
+ghost use Rattle.cost.specs.Choice.{isCandidate, offers};
 ghost use Rattle.lowering.specs.AtomLines.{AtomLine};
 ghost use Rattle.lowering.specs.Eager.{Located, atomsOf};
-ghost use Rattle.pricing.specs.Prices.{Row, Priced};
+ghost use Rattle.pricing.specs.Prices.{Priced};
 ghost use Rattle.pricing.specs.Remembering.{Samples, Remembers};
-ghost use Rattle.scheduling.specs.Choosing.{bidOf, considered, candidates, Chose, betterOf};
-ghost use Rattle.scheduling.specs.Offers.{offer, offers};
-use cost::memo::Tallies;
+ghost use Rattle.scheduling.specs.Choosing.{noted, candidates, Chose, betterOf};
+use cost::memo::Sampling;
 use frames::fields::narrow;
-use frames::fields::wide;
 use lowering::atom::scans;
 use lowering::eager::atom_line;
 use lowering::sets::is_set;
 use pricing::costs::Costed;
 use pricing::costs::estimate_cost;
 use pricing::prices::ROW_SIZE;
-use query::statistics::Sampled;
+use sqrt::bits_of;
+
+// The scheduler's state: the atoms lowered, the variables bound, the atoms that were lowered when emitters were last recorded, the
+// variables' emitters; the atoms lowered in order, and how many they are.
+pub struct Scheduler {
+    pub used: [bool; 64],
+    pub bound: [bool; 64],
+    pub before: [bool; 64],
+    pub emitters: [u32; 64],
+    pub order: [u8; 64],
+    pub count: usize,
+}
 
 // The cheapest atom so far, if one was found, its cost, and the tallies behind it.
 pub struct Best {
     pub found: bool,
     pub who: u8,
     pub price: f64,
-    pub tallies: Tallies,
+    pub tallies: Sampling,
 }
 
 // A cost replaces the best only where it is below it.
@@ -63,94 +74,54 @@ fn better(i: u8, c: Costed, b: Best) -> Best
     }
 }
 
-// What stands for an atom that is no candidate: a cost is never below 0.
-const NO_CANDIDATE: f64 = -1.0;
-
-// Atom number i, by its frame, against the best so far; its cost is written.
-fn consider(
-    sheet: &[u8],
-    index: &[u16],
-    frame: &[u8],
-    row: &[f64],
-    i: u8,
-    used: &[bool],
-    bound: &[bool],
-    em: &[u32],
-    how: Sampled,
-    keys: &mut [u64],
-    valued: &mut [bool],
-    values: &mut [f64],
-    draws: &mut [f64],
-    costs: &mut [f64],
-    b: Best,
-) -> Best
+// An atom is a candidate where it is not used yet and scans.
+fn is_candidate(frame: &[u8], i: u8, used: &[bool]) -> bool
     requires { ⌜ AtomLine (now frame) ⌝ }
-    requires { ⌜ Samples (framesIn (now sheet)) how (now draws) ⌝ }
-    requires { ⌜ Remembers (framesIn (now sheet)) how (now keys) (now valued) (now values) (b .tallies) ⌝ }
-    requires { ⌜ length (considered (framesIn (now sheet)) (map decode (now em)) (now used) (now bound) i (atomOfFrame (now frame)) (tallyAt (now keys) (b .tallies)) (bidOf (b .found) (b .who) (b .price)) .next .memo) ≤ length (now keys) ⌝ }
-    requires { ⌜ Indexed (now sheet) (now index) ⌝ }
-    requires { ⌜ Row (framesIn (now sheet)) (now frame) i (now row) ⌝ }
-    requires { ⌜ i < length (now costs) ⌝ }
-    ensures { λ r. ⌜ Chose (framesIn (now (sheet .entry))) how (now (keys .exit)) (now (valued .exit)) (now (values .exit)) r (considered (framesIn (now (sheet .entry))) (map decode (now (em .entry))) (now (used .entry)) (now (bound .entry)) i (atomOfFrame (now (frame .entry))) (tallyAt (now (keys .entry)) (b .tallies)) (bidOf (b .found) (b .who) (b .price))) ⌝ }
-    ensures { λ _. ⌜ now (costs .exit) ≡ set (now (costs .entry)) i (offer (framesIn (now (sheet .entry))) (map decode (now (em .entry))) (now (used .entry)) (now (bound .entry)) i (atomOfFrame (now (frame .entry))) (tallyAt (now (keys .entry)) (b .tallies))) ⌝ }
+    ensures { λ r. ⌜ r ≡ isCandidate (now (used .entry)) i (atomOfFrame (now (frame .entry))) ⌝ }
 {
-    let at = wide(i);
     if is_set(used, i) {
-        costs[at] = NO_CANDIDATE;
-        return b;
+        return false;
     }
-    if !scans(frame) {
-        costs[at] = NO_CANDIDATE;
-        return b;
-    }
-    let s = b.tallies;
-    let c = estimate_cost(
-        sheet,
-        index,
-        frame,
-        row,
-        i,
-        bound,
-        em,
-        how,
-        keys,
-        valued,
-        values,
-        draws,
-        s,
-    );
-    costs[at] = c.cost;
-    better(i, c, b)
+    scans(frame)
 }
 
-// The cheapest of the n atoms, of those that are not used and scan; the cost of each is written.
+// The bits of no cost.
+pub const NO_COST: u64 = 0xffff_ffff_ffff_ffff;
+
+// Notes the bits of atom number i's cost, where there is a place for them.
+fn note_cost(costs: &mut [u64], i: usize, bits: u64)
+    ensures { λ _. ⌜ now (costs .exit) ≡ noted (now (costs .entry)) i bits ⌝ }
+{
+    if i < costs.len() {
+        costs[i] = bits;
+    }
+}
+
+// The cheapest of the n atoms, of those that are not used and scan; the bits of each cost are noted.
 pub fn cheapest(
     sheet: &[u8],
     index: &[u16],
     from: &[usize],
     n: usize,
     prices: &[f64],
-    used: &[bool],
-    bound: &[bool],
-    em: &[u32],
-    how: Sampled,
+    d: Scheduler,
     keys: &mut [u64],
-    valued: &mut [bool],
     values: &mut [f64],
-    draws: &mut [f64],
-    costs: &mut [f64],
-    s: Tallies,
+    costs: &mut [u64],
+    s: Sampling,
 ) -> Best
     requires { ⌜ Located (now sheet) (now from) n ⌝ }
-    requires { ⌜ Samples (framesIn (now sheet)) how (now draws) ⌝ }
-    requires { ⌜ Remembers (framesIn (now sheet)) how (now keys) (now valued) (now values) s ⌝ }
-    requires { ⌜ length (candidates (framesIn (now sheet)) (map decode (now em)) (atomsOf (now sheet)) (now used) (now bound) (numbers (atomsOf (now sheet))) (tallyAt (now keys) s) none .next .memo) ≤ length (now keys) ⌝ }
+    requires { ⌜ (length (d .bound) ≡ most) × (length (d .emitters) ≡ most) ⌝ }
+    requires { ⌜ Samples (framesIn (now sheet)) (s .how) ⌝ }
+    requires { ⌜ Remembers (framesIn (now sheet)) (s .how) (now keys) (now values) s ⌝ }
+    requires { ⌜ length (candidates (framesIn (now sheet)) (map decode (d .emitters)) (atomsOf (now sheet)) (d .used) (d .bound) (numbers (atomsOf (now sheet))) (tallyAt (now keys) s) none .next .memo) ≤ length (now keys) ⌝ }
     requires { ⌜ Indexed (now sheet) (now index) ⌝ }
     requires { ⌜ Priced (now sheet) (now from) n (now prices) ⌝ }
-    requires { ⌜ n ≤ length (now costs) ⌝ }
-    ensures { λ r. ⌜ Chose (framesIn (now (sheet .entry))) how (now (keys .exit)) (now (valued .exit)) (now (values .exit)) r (candidates (framesIn (now (sheet .entry))) (map decode (now (em .entry))) (atomsOf (now (sheet .entry))) (now (used .entry)) (now (bound .entry)) (numbers (atomsOf (now (sheet .entry)))) (tallyAt (now (keys .entry)) s) none) ⌝ }
-    ensures { λ _. ⌜ take n (now (costs .exit)) ≡ offers (framesIn (now (sheet .entry))) (map decode (now (em .entry))) (atomsOf (now (sheet .entry))) (now (used .entry)) (now (bound .entry)) (numbers (atomsOf (now (sheet .entry)))) (tallyAt (now (keys .entry)) s) ⌝ }
+    ensures { λ r. ⌜ Chose (framesIn (now (sheet .entry))) (s .how) (now (keys .exit)) (now (values .exit)) (now (costs .exit)) r (candidates (framesIn (now (sheet .entry))) (map decode (d .emitters)) (atomsOf (now (sheet .entry))) (d .used) (d .bound) (numbers (atomsOf (now (sheet .entry)))) (tallyAt (now (keys .entry)) s) none) (offers (framesIn (now (sheet .entry))) (map decode (d .emitters)) (atomsOf (now (sheet .entry))) (d .used) (d .bound) (numbers (atomsOf (now (sheet .entry)))) (tallyAt (now (keys .entry)) s)) ⌝ }
 {
+    let used = d.used;
+    let bound = d.bound;
+    let em = d.emitters;
     let mut b = Best {
         found: false,
         who: 0,
@@ -159,27 +130,20 @@ pub fn cheapest(
     };
     let mut i: usize = 0;
     while i < n {
+        let k = narrow(i);
         let frame = atom_line(sheet, from, i);
+        if !is_candidate(frame, k, &used) {
+            note_cost(costs, i, NO_COST);
+            i += 1;
+            continue;
+        }
         let at = ROW_SIZE * i;
         let end = at + ROW_SIZE;
         let row = &prices[at..end];
-        b = consider(
-            sheet,
-            index,
-            frame,
-            row,
-            narrow(i),
-            used,
-            bound,
-            em,
-            how,
-            keys,
-            valued,
-            values,
-            draws,
-            costs,
-            b,
-        );
+        let t = b.tallies;
+        let c = estimate_cost(sheet, index, frame, row, k, &bound, &em, keys, values, t);
+        note_cost(costs, i, bits_of(c.cost));
+        b = better(k, c, b);
         i += 1;
     }
     b

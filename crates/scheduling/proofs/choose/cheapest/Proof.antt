@@ -1,26 +1,48 @@
 -- `scheduling::choose::cheapest` meets its contract: the atoms left, from the best so far, give what all give, and so do their costs.
 use borrow.Author.Needs.{needs}
+use native.Mathlib.Omega.{arith}
 use Prim.Native.Nat.{_-_}
+use mathlib.Core.Path.{sym}
 use mathlib.Core.List.{map}
 use Rattle.cost.specs.Emitters.{decode}
 use Rattle.pricing.proofs.PriceLaws.{row-within, row-priced}
 use Rattle.lowering.specs.LocatedLaws.{place-sized, place-within, number-small, line-ready}
-use Rattle.scheduling.proofs.ChoiceLaws.{Scanning, scanning-none, atom-room, scanning-again, scanned}
-use Rattle.scheduling.proofs.OfferLaws.{Offering, offering-none, cost-room, offering-again, offered-all}
+use Rattle.scheduling.proofs.ChoiceLaws.{Scanning, scanning-none, own-samples, own-memo, scanning-not, cost-room, scanning-cost, scanned}
 use Rattle.scheduling.proofs.choose.cheapest.Statement.{statement}
 use Rattle.scheduling.proofs.choose.cheapest.Tie as tie
 
 abbrev Inv-loop : tie.InvT-loop
-Inv-loop text index from n prices used bound em how keys₀ valued₀ values₀ draws₀ costs₀ b₀ i₀ keys valued values draws costs b i = Scanning text (map decode em) used bound how n keys₀ draws₀ b₀ keys valued values draws b i × Offering text (map decode em) used bound n keys₀ costs₀ b₀ keys costs b i
+Inv-loop sheet index from n prices keys₀ values₀ costs₀ used bound em b₀ i₀ keys values costs b i = Scanning sheet (map decode em) used bound n (b₀ .tallies) keys₀ values₀ costs₀ keys values costs b i
 
 abbrev μ-loop : tie.MeasureT-loop
-μ-loop text index from n prices used bound em how keys₀ valued₀ values₀ draws₀ costs₀ b₀ i₀ keys valued values draws costs b i = n - i
+μ-loop sheet index from n prices keys₀ values₀ costs₀ used bound em b₀ i₀ keys values costs b i = n - i
 
 loop-holds : tie.Need-loop-holds Inv-loop μ-loop
-loop-holds c = (search scanning-none, offering-none _ _ _ _ _ _ _ _ (c .before .before .before .before .before .before .before .before .before .before .before .before .pre .1 .1 .1 .1 .1 .1))
+loop-holds c = scanning-none _ _ _ _ _ _ _ _ _ (c .before .before .before .before .before .before .before .before .before .before .pre .1 .1 .1 .0)
+
+narrow-requires : tie.Need-narrow-requires Inv-loop μ-loop
+narrow-requires c κs = number-small _ _ _ (c .before .before .before .before .before .before .before .before .before .before .before .before .pre .0) _ (c .loop-test .taken)
 
 atom-line-requires : tie.Need-atom-line-requires Inv-loop μ-loop
-atom-line-requires c κs = (place-sized _ _ _ (c .before .before .before .before .before .before .before .before .before .before .before .before .before .before .pre .0) _ (c .loop-test .taken), place-within _ _ _ (c .before .before .before .before .before .before .before .before .before .before .before .before .before .before .pre .0) _ (c .loop-test .taken))
+atom-line-requires c κs = (place-sized _ _ _ (c .before .before .before .before .before .before .before .before .before .before .before .before .before .pre .0) _ (c .before .loop-test .taken), place-within _ _ _ (c .before .before .before .before .before .before .before .before .before .before .before .before .before .pre .0) _ (c .before .loop-test .taken))
+
+slice-aggregate-is-candidate : tie.Need-slice-aggregate-is-candidate Inv-loop μ-loop
+slice-aggregate-is-candidate c = search needs
+
+is-candidate-requires : tie.Need-is-candidate-requires Inv-loop μ-loop
+is-candidate-requires c κs = line-ready _ _ _ (c .before .before .before .before .before .before .before .before .before .before .before .before .before .before .before .pre .0) _ (c .before .before .before .loop-test .taken) _ (c .before .atom-line .ensures)
+
+note-cost-requires : tie.Need-note-cost-requires Inv-loop μ-loop
+note-cost-requires c κs = search needs
+
+add-i : tie.Need-add-i Inv-loop μ-loop
+add-i c = search needs
+
+loop-less : tie.Need-loop-less Inv-loop μ-loop
+loop-less c = search needs
+
+loop-again : tie.Need-loop-again Inv-loop μ-loop
+loop-again c = scanning-not _ _ _ _ _ _ _ _ _ _ _ _ _ _ _ (c .before .before .before .before .before .before .before .before .before .before .loop .inv) (c .before .before .before .before .before .before .before .before .before .before .before .before .before .before .before .before .before .before .before .before .before .pre .0) (c .before .before .before .before .before .before .before .before .before .loop-test .taken) _ (c .before .before .before .before .before .before .before .atom-line .ensures) _ (c .before .before .before .before .before .before .before .before .narrow .ensures) _ (c .before .before .before .before .before .is-candidate .ensures) (c .before .before .before .before .if1 .taken) _ (c .before .before .note-cost .ensures)
 
 mul-at : tie.Need-mul-at Inv-loop μ-loop
 mul-at c = search needs
@@ -38,40 +60,46 @@ part-row-start : tie.Need-part-row-start Inv-loop μ-loop
 part-row-start c = search needs
 
 part-row-end : tie.Need-part-row-end Inv-loop μ-loop
-part-row-end c = row-within _ _ _ _ (c .before .before .before .before .before .before .before .before .before .before .before .before .before .before .before .pre .1 .1 .1 .1 .1 .0) _ (c .before .loop-test .taken)
+part-row-end c = row-within _ _ _ _ (c .before .before .before .before .before .before .before .before .before .before .before .before .before .before .before .before .before .pre .1 .1 .1 .1 .1 .1) _ (c .before .before .before .before .before .loop-test .taken)
 
-narrow-requires : tie.Need-narrow-requires Inv-loop μ-loop
-narrow-requires c κs = number-small _ _ _ (c .before .before .before .before .before .before .before .before .before .before .before .before .before .before .before .before .pre .0) _ (c .before .before .loop-test .taken)
+slice-aggregate-estimate-cost : tie.Need-slice-aggregate-estimate-cost Inv-loop μ-loop
+slice-aggregate-estimate-cost c = sym (c .before .before .before .before .before .before .before .before .before .before .before .before .before .before .before .before .before .before .before .before .pre .1 .0 .0)
 
-consider-requires : tie.Need-consider-requires Inv-loop μ-loop
-consider-requires c κs = (line-ready _ _ _ (c .before .before .before .before .before .before .before .before .before .before .before .before .before .before .before .before .before .before .before .before .before .before .pre .0) _ (c .before .before .before .before .before .before .before .before .loop-test .taken) _ (c .before .before .before .before .before .before .before .atom-line .ensures), (c .before .before .before .before .before .before .before .before .before .loop .inv .0 .samples, (c .before .before .before .before .before .before .before .before .before .loop .inv .0 .memo, (atom-room _ _ _ _ _ _ _ _ _ _ _ _ _ _ _ _ (c .before .before .before .before .before .before .before .before .before .loop .inv .0) (c .before .before .before .before .before .before .before .before .before .before .before .before .before .before .before .before .before .before .before .before .before .before .pre .0) (c .before .before .before .before .before .before .before .before .loop-test .taken) _ (c .before .before .before .before .before .before .before .atom-line .ensures) _ (c .before .before .before .before .before .narrow .ensures) (c .before .before .before .before .before .before .before .before .before .before .before .before .before .before .before .before .before .before .before .before .before .before .pre .1 .1 .1 .0), (c .before .before .before .before .before .before .before .before .before .before .before .before .before .before .before .before .before .before .before .before .before .before .pre .1 .1 .1 .1 .0, (row-priced _ _ _ _ (c .before .before .before .before .before .before .before .before .before .before .before .before .before .before .before .before .before .before .before .before .before .before .pre .1 .1 .1 .1 .1 .0) _ (c .before .before .before .before .before .before .before .before .loop-test .taken) _ _ (c .before .before .before .before .before .narrow .ensures) (c .before .before .before .before .before .before .before .atom-line .ensures), cost-room _ _ _ _ _ _ _ _ _ _ _ _ _ (c .before .before .before .before .before .before .before .before .before .loop .inv .1) (c .before .before .before .before .before .before .before .before .before .before .before .before .before .before .before .before .before .before .before .before .before .before .pre .0) (c .before .before .before .before .before .before .before .before .loop-test .taken) _ (c .before .before .before .before .before .before .before .atom-line .ensures) _ (c .before .before .before .before .before .narrow .ensures)))))))
+slice-aggregate-estimate-cost-2 : tie.Need-slice-aggregate-estimate-cost-2 Inv-loop μ-loop
+slice-aggregate-estimate-cost-2 c = sym (c .before .before .before .before .before .before .before .before .before .before .before .before .before .before .before .before .before .before .before .before .before .pre .1 .0 .1)
 
-add-i : tie.Need-add-i Inv-loop μ-loop
-add-i c = search needs
+estimate-cost-requires : tie.Need-estimate-cost-requires Inv-loop μ-loop
+estimate-cost-requires c κs = (line-ready _ _ _ (c .before .before .before .before .before .before .before .before .before .before .before .before .before .before .before .before .before .before .before .before .before .before .before .pre .0) _ (c .before .before .before .before .before .before .before .before .before .before .before .loop-test .taken) _ (c .before .before .before .before .before .before .before .before .before .atom-line .ensures), (own-samples _ _ _ _ _ _ _ _ _ _ _ _ _ _ _ (c .before .before .before .before .before .before .before .before .before .before .before .before .loop .inv) (c .before .before .before .before .before .before .before .before .before .before .before .before .before .before .before .before .before .before .before .before .before .before .before .pre .0) (c .before .before .before .before .before .before .before .before .before .before .before .before .before .before .before .before .before .before .before .before .before .before .before .pre .1 .1 .0), (own-memo _ _ _ _ _ _ _ _ _ _ _ _ _ _ _ (c .before .before .before .before .before .before .before .before .before .before .before .before .loop .inv) (c .before .before .before .before .before .before .before .before .before .before .before .before .before .before .before .before .before .before .before .before .before .before .before .pre .0), (cost-room _ _ _ _ _ _ _ _ _ _ _ _ _ _ _ (c .before .before .before .before .before .before .before .before .before .before .before .before .loop .inv) (c .before .before .before .before .before .before .before .before .before .before .before .before .before .before .before .before .before .before .before .before .before .before .before .pre .0) (c .before .before .before .before .before .before .before .before .before .before .before .loop-test .taken) _ (c .before .before .before .before .before .before .before .before .before .atom-line .ensures) _ (c .before .before .before .before .before .before .before .before .before .before .narrow .ensures) _ (c .before .before .before .before .before .before .before .is-candidate .ensures) (c .before .before .before .before .before .before .if1 .left) (c .before .before .before .before .before .before .before .before .before .before .before .before .before .before .before .before .before .before .before .before .before .before .before .pre .1 .1 .1 .1 .0), (c .before .before .before .before .before .before .before .before .before .before .before .before .before .before .before .before .before .before .before .before .before .before .before .pre .1 .1 .1 .1 .1 .0, row-priced _ _ _ _ (c .before .before .before .before .before .before .before .before .before .before .before .before .before .before .before .before .before .before .before .before .before .before .before .pre .1 .1 .1 .1 .1 .1) _ (c .before .before .before .before .before .before .before .before .before .before .before .loop-test .taken) _ _ (c .before .before .before .before .before .before .before .before .before .before .narrow .ensures) (c .before .before .before .before .before .before .before .before .before .atom-line .ensures))))))
 
-loop-less : tie.Need-loop-less Inv-loop μ-loop
-loop-less c = search needs
+bits-of-requires : tie.Need-bits-of-requires Inv-loop μ-loop
+bits-of-requires c κs = search needs
 
-loop-again : tie.Need-loop-again Inv-loop μ-loop
-loop-again c = (scanning-again _ _ _ _ _ _ _ _ _ _ _ _ _ _ _ _ (c .before .before .before .before .before .before .before .before .before .before .before .before .before .before .before .before .before .before .before .before .loop .inv .0) (c .before .before .before .before .before .before .before .before .before .before .before .before .before .before .before .before .before .before .before .before .before .before .before .before .before .before .before .before .before .before .before .before .before .pre .0) (c .before .before .before .before .before .before .before .before .before .before .before .before .before .before .before .before .before .before .before .loop-test .taken) _ (c .before .before .before .before .before .before .before .before .before .before .before .before .before .before .before .before .before .before .atom-line .ensures) _ (c .before .before .before .before .before .before .before .before .before .before .before .before .before .before .before .before .narrow .ensures) _ _ _ _ _ (c .before .before .before .before .before .before .before .before .before .before .consider .ensures .0) (search needs) (search needs), offering-again _ _ _ _ _ _ _ _ _ _ _ _ _ (c .before .before .before .before .before .before .before .before .before .before .before .before .before .before .before .before .before .before .before .before .loop .inv .1) (c .before .before .before .before .before .before .before .before .before .before .before .before .before .before .before .before .before .before .before .before .before .before .before .before .before .before .before .before .before .before .before .before .before .pre .0) (c .before .before .before .before .before .before .before .before .before .before .before .before .before .before .before .before .before .before .before .loop-test .taken) _ (c .before .before .before .before .before .before .before .before .before .before .before .before .before .before .before .before .before .before .atom-line .ensures) _ (c .before .before .before .before .before .before .before .before .before .before .before .before .before .before .before .before .narrow .ensures) _ _ _ _ _ _ (c .before .before .before .before .before .before .before .before .before .before .consider .ensures .0) (c .before .before .before .before .before .before .before .before .before .before .consider .ensures .1))
+note-cost-requires-2 : tie.Need-note-cost-requires-2 Inv-loop μ-loop
+note-cost-requires-2 c κs = search needs
+
+better-requires : tie.Need-better-requires Inv-loop μ-loop
+better-requires c κs = search needs
+
+add-i-2 : tie.Need-add-i-2 Inv-loop μ-loop
+add-i-2 c = record { fits = omega (arith, c .before .before .before .before .before .before .before .before .before .before .before .before .before .before .before .before .before .before .before .before .before .before .loop-test .taken, c .before .before .before .before .before .before .before .before .before .before .before .before .before .before .before .before .before .before .before .before .before .before .before .before .before .before .before .before .before .before .before .before .before .before .pre .0 .few) }
+
+loop-less-2 : tie.Need-loop-less-2 Inv-loop μ-loop
+loop-less-2 c = omega (arith, c .before .before .before .before .before .before .before .before .before .before .before .before .before .before .before .before .before .before .before .before .before .before .loop-test .taken)
+
+loop-again-2 : tie.Need-loop-again-2 Inv-loop μ-loop
+loop-again-2 c = scanning-cost _ _ _ _ _ _ _ _ _ _ _ _ _ _ _ (c .before .before .before .before .before .before .before .before .before .before .before .before .before .before .before .before .before .before .before .before .before .before .before .loop .inv) (c .before .before .before .before .before .before .before .before .before .before .before .before .before .before .before .before .before .before .before .before .before .before .before .before .before .before .before .before .before .before .before .before .before .before .pre .0) (c .before .before .before .before .before .before .before .before .before .before .before .before .before .before .before .before .before .before .before .before .before .before .loop-test .taken) _ (c .before .before .before .before .before .before .before .before .before .before .before .before .before .before .before .before .before .before .before .before .atom-line .ensures) _ (c .before .before .before .before .before .before .before .before .before .before .before .before .before .before .before .before .before .before .before .before .before .narrow .ensures) _ (c .before .before .before .before .before .before .before .before .before .before .before .before .before .before .before .before .before .before .is-candidate .ensures) (c .before .before .before .before .before .before .before .before .before .before .before .before .before .before .before .before .before .if1 .left) _ _ _ _ _ _ (c .before .before .before .before .before .before .before .before .before .before .estimate-cost .ensures) (c .before .before .before .before .bits-of .ensures) (c .before .before .before .note-cost2 .ensures) (c .better .ensures) (c .before .before .before .before .before .before .before .before .before .keys .given) (c .before .before .before .before .before .before .before .values .given)
 
 same-length : tie.Need-same-length Inv-loop μ-loop
-same-length c = search needs
+same-length c = c .before .loop .inv .keys-size
 
 same-length-2 : tie.Need-same-length-2 Inv-loop μ-loop
-same-length-2 c = search needs
+same-length-2 c = c .before .loop .inv .values-size
 
 same-length-3 : tie.Need-same-length-3 Inv-loop μ-loop
-same-length-3 c = search needs
-
-same-length-4 : tie.Need-same-length-4 Inv-loop μ-loop
-same-length-4 c = search needs
-
-same-length-5 : tie.Need-same-length-5 Inv-loop μ-loop
-same-length-5 c = c .before .loop .inv .1 .size
+same-length-3 c = c .before .loop .inv .costs-size
 
 returns : tie.Need-returns Inv-loop μ-loop
-returns c = (scanned _ _ _ _ _ _ _ _ _ _ _ _ _ _ _ _ (c .before .loop .inv .0) (c .before .before .before .before .before .before .before .before .before .before .before .before .before .before .pre .0) (c .loop-test .left), offered-all _ _ _ _ _ _ _ _ _ _ _ _ _ (c .before .loop .inv .1) (c .before .before .before .before .before .before .before .before .before .before .before .before .before .before .pre .0) (c .before .loop .inv .0 .few) (c .loop-test .left))
+returns c = scanned _ _ _ _ _ _ _ _ _ _ _ _ _ _ _ (c .before .loop .inv) (c .before .before .before .before .before .before .before .before .before .before .before .before .pre .0) (c .loop-test .left)
 
 pub cheapest-spec : {M : Type 1} → statement M
 cheapest-spec =
@@ -80,21 +108,30 @@ cheapest-spec =
     Inv-loop
     μ-loop
     loop-holds
+    narrow-requires
     atom-line-requires
+    slice-aggregate-is-candidate
+    is-candidate-requires
+    note-cost-requires
+    add-i
+    loop-less
+    loop-again
     mul-at
     add-end
     mul-row
     sub-row
     part-row-start
     part-row-end
-    narrow-requires
-    consider-requires
-    add-i
-    loop-less
-    loop-again
+    slice-aggregate-estimate-cost
+    slice-aggregate-estimate-cost-2
+    estimate-cost-requires
+    bits-of-requires
+    note-cost-requires-2
+    better-requires
+    add-i-2
+    loop-less-2
+    loop-again-2
     same-length
     same-length-2
     same-length-3
-    same-length-4
-    same-length-5
     returns)
