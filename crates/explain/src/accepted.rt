@@ -3,22 +3,30 @@ use super::refusals::say_refusal;
 use super::steps::say_step;
 use frames::first::Reading;
 use frames::first::Text;
-use hex::reader::line_from;
-use reading::second::read_text;
+use frames::first::sheet_size;
+use frames::frame::frame_at;
+use reading::second::LONG_INDEX;
+use reading::second::LONG_SHEET;
+use reading::second::read_indexed;
 
-// The lines of a text, its header first.
-pub fn say_lines(plan: &[u8]) {
+// The frames of a plan's sheet, its header first.
+fn say_frames(sheet: &[u8]) {
     let mut at: usize = 0;
-    while at < plan.len() {
-        let line = line_from(plan, at);
-        say_step(line);
-        at += line.len() + 1;
+    while at < sheet.len() {
+        let frame = frame_at(sheet, at);
+        say_step(frame);
+        at += frame.len();
     }
 }
 
 pub fn explain_plan(text: &[u8]) {
-    match read_text(Text::Plan, text) {
+    let mut sheet = [0u8; LONG_SHEET];
+    let mut index = [0u16; LONG_INDEX];
+    match read_indexed(Text::Plan, text, &mut sheet, &mut index) {
         Reading::Refused(number, line) => say_refusal(number, line, b"plan"),
-        Reading::Accepted(_, _) => say_lines(text),
+        Reading::Accepted(lines, _) => {
+            let size = sheet_size(text.len(), lines);
+            say_frames(&sheet[..size]);
+        }
     }
 }

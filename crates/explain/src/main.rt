@@ -9,7 +9,7 @@ mod steps;
 mod words;
 
 use accepted::explain_plan;
-use hex::byte_at;
+use hex::line::byte_at;
 use hex::reader::line_from;
 use planned::explain_query;
 use printing::TEXT_ROOM;

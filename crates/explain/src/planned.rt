@@ -1,5 +1,5 @@
 // A query text, planned, in words: its rounds, then its plan.
-use super::accepted::say_lines;
+use super::accepted::explain_plan;
 use super::costs::say_cost;
 use super::refusals::say_refusal;
 use super::words::say;
@@ -64,7 +64,7 @@ fn say_plan(text: &[u8], out: &[u8], n: usize) {
     if n <= out.len() {
         let lines = &out[..n];
         say_rounds(text);
-        say_lines(lines);
+        explain_plan(lines);
     }
 }
 

@@ -1,4 +1,4 @@
-// A line of an accepted plan in words.
+// A frame of an accepted plan in words.
 ghost use Prim.Native.Nat.{_<_};
 use super::words::say;
 use super::words::say_byte;
@@ -14,62 +14,62 @@ use hex::byte_at;
 use hex::short_at;
 use hex::word_at;
 
-fn say_counted(line: &[u8], i: usize, what: &[u8]) {
-    say_number(wide(byte_at(line, i)));
+fn say_counted(frame: &[u8], i: usize, what: &[u8]) {
+    say_number(wide(byte_at(frame, i)));
     say(what);
 }
 
-fn say_header(line: &[u8]) {
+fn say_header(frame: &[u8]) {
     say(b"plan of ");
-    say_counted(line, 1, b" variables, ");
-    say_counted(line, 2, b" globals and ");
-    say_counted(line, 3, b" literals: ");
-    say_number(short_at(line, 4) as usize);
+    say_counted(frame, 1, b" variables, ");
+    say_counted(frame, 2, b" globals and ");
+    say_counted(frame, 3, b" literals: ");
+    say_number(short_at(frame, 4) as usize);
     say(b" steps, ");
-    say_number(short_at(line, 6) as usize);
+    say_number(short_at(frame, 6) as usize);
     say(b" tallied, ");
-    say_number(short_at(line, 8) as usize);
+    say_number(short_at(frame, 8) as usize);
     say(b" rejected");
 }
 
 // A Join's lookup: ByOp, ByRepr, ByChildPos or ByContains.
-fn say_lookup(line: &[u8], i: usize)
+fn say_lookup(frame: &[u8], i: usize)
     requires { ⌜ i < 65536 ⌝ }
 {
-    let tag = byte_at(line, i);
+    let tag = byte_at(frame, i);
     if tag == 0 {
         say(b"op ");
-        say_byte(byte_at(line, i + 1));
+        say_byte(byte_at(frame, i + 1));
         return;
     }
     if tag == 2 {
         say(b"in class of ");
-        say_variable(byte_at(line, i + 1));
+        say_variable(byte_at(frame, i + 1));
         return;
     }
     if tag == 1 {
         say(b"child ");
-        say_number(wide(byte_at(line, i + 3)));
+        say_number(wide(byte_at(frame, i + 3)));
         say(b" is ");
-        say_operand(line, i + 1);
+        say_operand(frame, i + 1);
         return;
     }
     say(b"contains ");
-    say_operand(line, i + 1);
+    say_operand(frame, i + 1);
 }
 
 // An item: a lookup of a Join, an operand with its multiplicity, or an operand.
-fn say_item(line: &[u8], width: usize, i: usize)
+fn say_item(frame: &[u8], width: usize, i: usize)
     requires { ⌜ i < 65536 ⌝ }
 {
     if width == 4 {
-        say_lookup(line, i);
+        say_lookup(frame, i);
         return;
     }
-    say_operand(line, i);
+    say_operand(frame, i);
     if width == 3 {
         say(b" times ");
-        say_byte(byte_at(line, i + 2));
+        say_byte(byte_at(frame, i + 2));
     }
 }
 
@@ -79,8 +79,8 @@ fn say_comma(k: usize) {
     }
 }
 
-// The n items of a line, each of that width, from byte i on, with a comma between them.
-fn say_listed(line: &[u8], i: usize, width: usize, n: usize)
+// The n items of a frame, each of that width, from byte i on, with a comma between them.
+fn say_listed(frame: &[u8], i: usize, width: usize, n: usize)
     requires { ⌜ i < 256 ⌝ }
     requires { ⌜ width < 256 ⌝ }
     requires { ⌜ n < 256 ⌝ }
@@ -89,50 +89,50 @@ fn say_listed(line: &[u8], i: usize, width: usize, n: usize)
     let mut k: usize = 0;
     while k < n {
         say_comma(k);
-        say_item(line, width, at);
+        say_item(frame, width, at);
         at += width;
         k += 1;
     }
 }
 
-fn say_items(line: &[u8]) {
-    let kind = byte_at(line, 0);
+fn say_items(frame: &[u8]) {
+    let kind = byte_at(frame, 0);
     let first = fixed_length(kind);
     let width = item_width(kind);
-    say_listed(line, first, width, items_of(line));
+    say_listed(frame, first, width, items_of(frame));
 }
 
-fn say_join(line: &[u8]) {
+fn say_join(frame: &[u8]) {
     say(b"Join ");
-    say_variable(byte_at(line, 1));
+    say_variable(byte_at(frame, 1));
     say(b" of atom ");
-    say_counted(line, 2, b" ");
-    say_items(line);
+    say_counted(frame, 2, b" ");
+    say_items(frame);
 }
 
-fn say_extract_child(line: &[u8]) {
+fn say_extract_child(frame: &[u8]) {
     say(b"ExtractChild ");
-    say_variable(byte_at(line, 1));
+    say_variable(byte_at(frame, 1));
     say(b" from ");
-    say_variable(byte_at(line, 2));
+    say_variable(byte_at(frame, 2));
     say(b", child ");
-    say_number(wide(byte_at(line, 3)));
+    say_number(wide(byte_at(frame, 3)));
 }
 
-fn say_check_child(line: &[u8]) {
+fn say_check_child(frame: &[u8]) {
     say(b"CheckChildEq ");
-    say_variable(byte_at(line, 1));
+    say_variable(byte_at(frame, 1));
     say(b", child ");
-    say_counted(line, 2, b" is ");
-    say_operand(line, 3);
+    say_counted(frame, 2, b" is ");
+    say_operand(frame, 3);
 }
 
 // A step over two variables, or over a variable and a global.
-fn say_pair(step: &[u8], line: &[u8], between: &[u8], global: bool) {
+fn say_pair(step: &[u8], frame: &[u8], between: &[u8], global: bool) {
     say(step);
-    say_variable(byte_at(line, 1));
+    say_variable(byte_at(frame, 1));
     say(between);
-    let other = byte_at(line, 2);
+    let other = byte_at(frame, 2);
     if global {
         say_global(other);
         return;
@@ -147,60 +147,60 @@ fn say_handle(present: bool, name: &[u8], handle: u8) {
     }
 }
 
-fn say_expand(line: &[u8]) {
+fn say_expand(frame: &[u8]) {
     say(b"ExpandA ");
-    say_variable(byte_at(line, 1));
-    let flags = byte_at(line, 2);
-    say_handle(flags % 2 == 1, b" pre ", byte_at(line, 3));
-    say_handle(2 <= flags, b" suf ", byte_at(line, 4));
+    say_variable(byte_at(frame, 1));
+    let flags = byte_at(frame, 2);
+    say_handle(flags % 2 == 1, b" pre ", byte_at(frame, 3));
+    say_handle(2 <= flags, b" suf ", byte_at(frame, 4));
     say(b" into ");
-    say_items(line);
+    say_items(frame);
 }
 
-fn say_decompose(step: &[u8], line: &[u8]) {
+fn say_decompose(step: &[u8], frame: &[u8]) {
     say(step);
-    say_variable(byte_at(line, 1));
-    say_handle(byte_at(line, 2) == 1, b" rest ", byte_at(line, 3));
+    say_variable(byte_at(frame, 1));
+    say_handle(byte_at(frame, 2) == 1, b" rest ", byte_at(frame, 3));
     say(b" into ");
-    say_items(line);
+    say_items(frame);
 }
 
-fn say_extract_literal(line: &[u8]) {
+fn say_extract_literal(frame: &[u8]) {
     say(b"ExtractLitVal of ");
-    say_variable(byte_at(line, 1));
+    say_variable(byte_at(frame, 1));
     say(b" into l");
-    say_number(wide(byte_at(line, 2)));
+    say_number(wide(byte_at(frame, 2)));
 }
 
-fn say_check_literal(line: &[u8]) {
+fn say_check_literal(frame: &[u8]) {
     say(b"CheckLit ");
-    say_variable(byte_at(line, 1));
+    say_variable(byte_at(frame, 1));
     say(b" has value ");
-    io::print_hex(1, word_at(line, 2) as u64, 8);
+    io::print_hex(1, word_at(frame, 2) as u64, 8);
 }
 
-fn say_check_pred(line: &[u8]) {
+fn say_check_pred(frame: &[u8]) {
     say(b"CheckPred guard ");
-    say_byte(byte_at(line, 1));
+    say_byte(byte_at(frame, 1));
 }
 
-// A line of a plan, its header or a step.
-pub fn say_step(line: &[u8]) {
-    match byte_at(line, 0) {
-        0x3f => say_header(line),
-        0x40 => say_join(line),
-        0x41 => say_extract_child(line),
-        0x42 => say_check_child(line),
-        0x43 => say_pair(b"CheckEq ", line, b" is ", false),
-        0x44 => say_pair(b"CheckEqGlobal ", line, b" is ", true),
-        0x45 => say_pair(b"BindGlobal ", line, b" to ", true),
-        0x46 => say_pair(b"CopyBinding ", line, b" from ", false),
-        0x47 => say_expand(line),
-        0x48 => say_decompose(b"DecomposeAC ", line),
-        0x49 => say_decompose(b"DecomposeACI ", line),
-        0x4a => say_extract_literal(line),
-        0x4b => say_check_literal(line),
-        _ => say_check_pred(line),
+// A frame of a plan, its header or a step.
+pub fn say_step(frame: &[u8]) {
+    match byte_at(frame, 0) {
+        0x3f => say_header(frame),
+        0x40 => say_join(frame),
+        0x41 => say_extract_child(frame),
+        0x42 => say_check_child(frame),
+        0x43 => say_pair(b"CheckEq ", frame, b" is ", false),
+        0x44 => say_pair(b"CheckEqGlobal ", frame, b" is ", true),
+        0x45 => say_pair(b"BindGlobal ", frame, b" to ", true),
+        0x46 => say_pair(b"CopyBinding ", frame, b" from ", false),
+        0x47 => say_expand(frame),
+        0x48 => say_decompose(b"DecomposeAC ", frame),
+        0x49 => say_decompose(b"DecomposeACI ", frame),
+        0x4a => say_extract_literal(frame),
+        0x4b => say_check_literal(frame),
+        _ => say_check_pred(frame),
     }
     say(b"\n");
 }

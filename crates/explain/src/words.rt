@@ -26,12 +26,12 @@ pub fn say_global(g: u8) {
     say_number(wide(g));
 }
 
-// The operand at byte i of a line.
-pub fn say_operand(line: &[u8], i: usize)
+// The operand at byte i of a frame.
+pub fn say_operand(frame: &[u8], i: usize)
     requires { ⌜ i < 0x2_0000 ⌝ }
 {
-    let index = byte_at(line, i + 1);
-    if byte_at(line, i) == 0 {
+    let index = byte_at(frame, i + 1);
+    if byte_at(frame, i) == 0 {
         say_variable(index);
         return;
     }

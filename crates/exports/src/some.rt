@@ -9,7 +9,7 @@ ghost use Rattle.exports.specs.Replied.{placed, Tells, TellsSome};
 use super::runs::refusal;
 use entries::some::Reply;
 use entries::some::some_match;
-use hex::byte_at;
+use hex::line::byte_at;
 use hex::reader::line_from;
 use runner::env::Env;
 use runner::lines::line_length;

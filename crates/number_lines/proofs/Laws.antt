@@ -5,13 +5,43 @@ use mathlib.Core.List.{List, [], _∷_, _++_, append-assoc, append-nil}
 use native.Mathlib.Omega.{arith}
 use native.Mathlib.Numerals.{add-one, unary-clauses}
 use lib.ListN.{length, take, drop, set, length-set, length-drop}
-use lib.Seq.{take-suc-set, drop-drop}
+use lib.Seq.{take-suc-set, take-all, drop-drop}
 use lib.Dec.{ltb}
-use borrow.Author.Tests.{lt-ltb, le-ltb}
+use borrow.Author.Tests.{lt-ltb, le-ltb, ne-eqb}
 use Rattle.base.specs.Choose.{pick}
+use Rattle.hex.specs.declared.Found.{Found}
+use Rattle.hex.specs.declared.Found.the-variants.{At, Nothing}
+use Rattle.hex.specs.Digits.{bytesOf, longAt}
+use Rattle.hex.specs.Lines.{hexLineOf}
+use Rattle.hex.specs.Decoding.{Decodes}
+use Rattle.hex.specs.Bytes.{bytes-length, bytes-take}
 use Rattle.number_lines.specs.Numbers.{numberOf, before, numbersOf}
 use Rattle.number_lines.specs.declared.Line.{Line}
 use Rattle.number_lines.specs.declared.Line.the-variants.{Number, Other}
+
+-- ---- one line: 17 bytes l, decoded onto s, which is s′ then
+
+module _ (l s s′ : List ℕ) (f : Found) (d : Decodes l 0 s 0 s′ f) where
+  pub no-line : f ≡ Nothing → Other ≡ numberOf l
+  no-line h = let p : hexLineOf 0 l ≡ Nothing = sym (d .is) ∙ h in rw p
+
+  module _ (e : ℕ) (h : f ≡ At e) where
+    found : hexLineOf 0 l ≡ At e
+    found = sym (d .is) ∙ h
+
+    pub other-end : (e ≡ 16 → ⊥) → Other ≡ numberOf l
+    other-end n = rw (found, ne-eqb e 16 n)
+
+    pub number-read : e ≡ 16 → length l ≡ 17 → length s ≡ 8 → (v : ℕ) → v ≡ longAt s′ 0 → Number v ≡ numberOf l
+    number-read n a b v q =
+        let p : hexLineOf 0 l ≡ At 16 = rw n at found in
+        let y : take 8 s′ ≡ bytesOf (take 16 l) = d .laid 16 (rw n at h) in
+        let u : take 8 s′ ≡ s′ = take-all 8 s′ (omega (arith, d .same)) in
+        let w : take 8 (bytesOf l) ≡ bytesOf l = take-all 8 (bytesOf l) (omega (arith, bytes-length l)) in
+        let z : s′ ≡ bytesOf l = sym u ∙ y ∙ bytes-take 8 l ∙ w in
+        rw (p, ← z, q)
+
+-- ---- the lines in turn
 
 -- n lines were read into p, which is o before, and with those behind them give what all give
 pub record Walks (x o p : List ℕ) (n : ℕ) : Type 0 where

@@ -4,6 +4,8 @@ ghost use Prim.Native.Nat.{_≤_};
 ghost use lib.ListN.{length, take};
 ghost use Rattle.number_lines.specs.Numbers.{numberOf, numbersOf};
 use hex::Found;
+use hex::decode_line;
+use hex::long_at;
 
 pub enum Line {
     Number(u64),
@@ -16,16 +18,18 @@ pub const LINE_SIZE: usize = 17;
 pub const LINES_MOST: usize = 3855;
 
 // The number that a text of one line gives.
-pub fn number(line: &[u8]) -> Line
+fn number(line: &[u8]) -> Line
+    requires { ⌜ length (now line) ≡ 17 ⌝ }
     ensures { λ r. ⌜ r ≡ numberOf (now (line .entry)) ⌝ }
 {
-    let Found::At(e) = hex::hex_line(line, 0) else {
+    let mut frame = [0u8; 8];
+    let Found::At(e) = decode_line(line, 0, &mut frame, 0) else {
         return Line::Other;
     };
     if e != 16 {
         return Line::Other;
     }
-    Line::Number(hex::long_at(line, 0))
+    Line::Number(long_at(&frame, 0))
 }
 
 // The numbers of a text's lines up to the first other line, as many as have room in the array; how many.

@@ -50,7 +50,7 @@ fn decode(line: &[u8], text: &mut [u8]) -> usize
         if line.len() / 2 <= i {
             return i;
         }
-        text[i] = hex::byte_at(line, i);
+        text[i] = hex::line::byte_at(line, i);
         i += 1;
     }
     i
@@ -116,9 +116,11 @@ fn run_texts(plan: &[u8], table: &[u8], allowance: u64, room: usize) {
 
 // A run: its numbers, its plan and its table.
 fn run_numbers(case: &[u8], text: &mut [u8], other: &mut [u8]) {
-    let allowance = hex::long_at(case, 0);
-    let room = hex::word_at(case, 8) as usize;
-    let cut = 32 + 2 * (hex::word_at(case, 12) as usize);
+    let mut numbers = [0u8; 16];
+    let _ = decode(case, &mut numbers);
+    let allowance = hex::long_at(&numbers, 0);
+    let room = hex::word_at(&numbers, 8) as usize;
+    let cut = 32 + 2 * (hex::word_at(&numbers, 12) as usize);
     if case.len() < cut {
         return;
     }
@@ -131,7 +133,7 @@ fn run_case(line: &[u8], text: &mut [u8]) {
     if line.len() < 2 {
         return;
     }
-    let kind = hex::byte_at(line, 0);
+    let kind = hex::line::byte_at(line, 0);
     if kind == 4 {
         let mut other = text_room();
         run_numbers(&line[2..], text, &mut other);

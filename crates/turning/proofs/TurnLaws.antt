@@ -1,16 +1,21 @@
 -- The whole test, one part after another. Assumes nothing.
-use Prim.Native.Nat.{ℕ}
+use Prim.Native.Nat.{ℕ, _≤_}
 use mathlib.Core.Path.{_≡_, refl, sym, _∙_}
 use mathlib.Core.Bool.{false}
 use mathlib.Core.List.{List}
 use native.Mathlib.Omega.{arith}
-use lib.ListN.{length, replicate}
+use lib.ListN.{length, take, replicate}
+use lib.Seq.{length-take-le}
 use Rattle.frames.specs.Limits.{globalsMost}
 use Rattle.frames.specs.Kinds.{table}
+use Rattle.frames.specs.First.{sheetSize, Sheet}
+use Rattle.frames.specs.declared.first.Text.{Text}
 use Rattle.frames.specs.declared.first.Text.the-variants.{Plan, Table as TableText}
 use Rattle.frames.specs.declared.first.Reading.{Reading}
 use Rattle.frames.specs.declared.first.Reading.the-variants.{Accepted, Refused}
 use Rattle.reading.specs.Second.{reading}
+use Rattle.reading.specs.Index.{Indexed}
+use Rattle.reading.specs.IndexedReading.{ReadIndexed}
 use Rattle.model.specs.Bound.{blank}
 use Rattle.running.specs.Tables.{tableOf}
 use Rattle.running.specs.Turning.{turning}
@@ -18,7 +23,7 @@ use Rattle.turning.specs.declared.shapes.Turned.{Turned}
 use Rattle.turning.specs.declared.shapes.Turned.the-variants.{Passed as NoFault, TurnedBack as Fault}
 use Rattle.turning.specs.Shapes.{TableNoted}
 use Rattle.turning.specs.Steps.{Described}
-use Rattle.turning.specs.Plans.{Starting, StepsTested, PlanReady, PlanAccepted, Left, Tested, TableTested, Turns}
+use Rattle.turning.specs.Plans.{Starting, StepsTested, PlanReady, PlanAccepted, GlobalsRead, Left, Tested, TableTested, Turns}
 
 -- nothing is left where a text or a test refuses
 none-left : (t : List ℕ) (k x l : ℕ) (G : List ℕ) → Left t (Fault k x l) G
@@ -34,18 +39,32 @@ module _ (p t : List ℕ) (v : Turned) (F : List ℕ) (s : TableNoted t v F) whe
   pub shapes-refuse : (k x l : ℕ) (G : List ℕ) → v ≡ Fault k x l → Tested p t (Fault k x l) G
   shapes-refuse k x l G e = record { is = rw (← s .is, e); globals = none-left t k x l G }
 
-  module _ (G : List ℕ) (e : v ≡ NoFault) (g : G ≡ tableOf t .globals) where
+  module _ (x G : List ℕ) (e : v ≡ NoFault) (y : Sheet t x) (g : GlobalsRead x G) where
     speaks : Described (tableOf t) F G
     unfolding tableOf
-    speaks = record { shaped = s .shaped e; globals = g }
+    speaks = record { shaped = s .shaped e; globals = g .is t y }
 
     pub plan-ready : (H : List ℕ) → PlanAccepted p H → PlanReady p F G
     plan-ready H a = record { lines = a .lines; counted = a .counted; accepted = a .accepted; table = tableOf t; described = speaks }
 
     pub steps-decide : (r : Turned) → StepsTested p F G r → Tested p t r G
-    steps-decide r d = record { is = d .is (tableOf t) speaks ∙ rw (← s .is, e); globals = λ _. g }
+    steps-decide r d = record { is = d .is (tableOf t) speaks ∙ rw (← s .is, e); globals = λ _. g .is t y }
 
 -- ---- the texts
+
+-- the lent sheet s and index i of an accepted text, by the size that its lines give
+module _ (t : Text) (x s i : List ℕ) (a : Reading) (e : ReadIndexed t x s i a) (n c : ℕ) (h : a ≡ Accepted n c) (z : ℕ) (u : z ≡ sheetSize (length x) n) where
+  pub size-within : z ≤ length s
+  size-within = rw u (e .fits n c h)
+
+  pub size-fits : z ≡ length (take z s)
+  size-fits = sym (length-take-le z s size-within)
+
+  pub sheet-read : Sheet x (take z s)
+  sheet-read = rw u (e .sheet n c h)
+
+  pub sheet-indexed : Indexed (take z s) i
+  sheet-indexed = rw u (e .indexed n c h)
 
 module _ (p t : List ℕ) (a : Reading) (e : a ≡ reading TableText t) where
   pub table-refused : (k l : ℕ) (G : List ℕ) → a ≡ Refused k l → TableTested p t (Fault k 2 l) G

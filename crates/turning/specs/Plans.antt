@@ -8,7 +8,7 @@ use lib.Dec.{eqb}
 use Rattle.base.specs.Choose.{pick}
 use Rattle.frames.specs.Kinds.{table}
 use Rattle.frames.specs.Limits.{variablesMost, globalsMost}
-use Rattle.frames.specs.First.{framesOf}
+use Rattle.frames.specs.First.{framesOf, Sheet}
 use Rattle.frames.specs.declared.first.Text.the-variants.{Plan, Table as TableText}
 use Rattle.frames.specs.declared.first.Reading.the-variants.{Accepted}
 use Rattle.reading.specs.Second.{reading}
@@ -86,6 +86,10 @@ pub record PlanAccepted (p G : List ℕ) : Type 0 where
   pub counted : ℕ
   pub accepted : reading Plan p ≡ Accepted lines counted
   pub room : length G ≡ globalsMost
+
+-- G has the classes of the globals, of the table whose sheet is s
+pub record GlobalsRead (s G : List ℕ) : Type 0 where
+  pub is : (t : List ℕ) → Sheet t s → G ≡ tableOf t .globals
 
 -- where r passes, G has the classes of the globals
 abbrev pub Left : List ℕ → Turned → List ℕ → Type 0

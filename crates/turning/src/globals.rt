@@ -1,39 +1,39 @@
-// The classes of the globals, by the table's frames 32.
+// The classes of the globals, by the frames 32 of the table's sheet.
 ghost use mathlib.Core.Path.{_≡_};
 ghost use lib.ListN.{length};
-ghost use Rattle.hex.specs.Digits.{bytesOf};
-ghost use Rattle.frames.specs.First.{framesOf};
+ghost use Rattle.frames.specs.Sheet.{framesIn};
 ghost use Rattle.reading.specs.Index.{Indexed};
-ghost use Rattle.running.specs.Tables.{classFrom, globalIn, tableOf};
+ghost use Rattle.running.specs.Tables.{classFrom, globalIn};
+ghost use Rattle.turning.specs.Plans.{GlobalsRead};
 use hex::short_at;
 use query::lookup::look_up;
 
 // The class of a frame 32; unset where there is no frame.
-fn class_from(line: &[u8]) -> u16
-    ensures { λ r. ⌜ r ≡ classFrom (bytesOf (now (line .entry))) ⌝ }
+fn class_from(frame: &[u8]) -> u16
+    ensures { λ r. ⌜ r ≡ classFrom (now (frame .entry)) ⌝ }
 {
-    if line.len() < 2 {
+    if frame.len() == 0 {
         return 0xffff;
     }
-    short_at(line, 2)
+    short_at(frame, 2)
 }
 
-fn global_class(table: &[u8], index: &[u32], g: u8) -> u16
-    requires { ⌜ Indexed (now table) (now index) ⌝ }
-    ensures { λ r. ⌜ r ≡ globalIn (framesOf (now (table .entry))) g ⌝ }
+fn global_class(sheet: &[u8], index: &[u16], g: u8) -> u16
+    requires { ⌜ Indexed (now sheet) (now index) ⌝ }
+    ensures { λ r. ⌜ r ≡ globalIn (framesIn (now (sheet .entry))) g ⌝ }
 {
-    class_from(look_up(table, index, 2, 0x32, g, 0, 0, 0, 0))
+    class_from(look_up(sheet, index, 2, 0x32, g, 0, 0, 0, 0))
 }
 
-// The class of each global, by the table's index.
-pub fn global_classes(table: &[u8], index: &[u32], globals: &mut [u16])
-    requires { ⌜ Indexed (now table) (now index) ⌝ }
+// The class of each global, by the index of the table's sheet.
+pub fn global_classes(sheet: &[u8], index: &[u16], globals: &mut [u16])
+    requires { ⌜ Indexed (now sheet) (now index) ⌝ }
     requires { ⌜ length (now globals) ≡ 16 ⌝ }
-    ensures { λ r. ⌜ now (globals .exit) ≡ tableOf (now (table .entry)) .globals ⌝ }
+    ensures { λ r. ⌜ GlobalsRead (now (sheet .entry)) (now (globals .exit)) ⌝ }
 {
     let mut g: u8 = 0;
     while g < 16 {
-        globals[g as usize] = global_class(table, index, g);
+        globals[g as usize] = global_class(sheet, index, g);
         g += 1;
     }
 }

@@ -3,15 +3,26 @@ ghost use mathlib.Core.Path.{_≡_};
 ghost use Prim.Native.Nat.{_+_, _*_, _<_, _≤_};
 ghost use Rattle.base.specs.Table.{all};
 ghost use Rattle.hex.specs.Digits.{bytesOf};
+ghost use Rattle.model.specs.Lowering.{pvIsBound};
 ghost use Rattle.model.specs.Refusing.{countOps, joinOp};
-ghost use Rattle.plans.specs.StepFrames.{lookupAt};
+ghost use Rattle.plans.specs.StepFrames.{operandAt, lookupAt};
 ghost use Rattle.turning.specs.Steps.{opCount, lookupsOf, readBy, givenBy, fitsBy, otherThan};
 use super::arrays::child_fits;
 use super::arrays::is_given;
 use frames::fields::wide;
-use hex::byte_at;
-use lowering::operands::pv_is_bound;
+use hex::line::byte_at;
 use lowering::sets::is_set;
+
+// Whether the operand at byte i is bound: a global always is.
+fn pv_is_bound(line: &[u8], i: usize, bound: &[bool]) -> bool
+    requires { ⌜ i < 65536 ⌝ }
+    ensures { λ r. ⌜ r ≡ pvIsBound (now (bound .entry)) (operandAt (bytesOf (now (line .entry))) i) ⌝ }
+{
+    if byte_at(line, i) != 0 {
+        return true;
+    }
+    is_set(bound, byte_at(line, i + 1))
+}
 
 // Whether what the lookup at byte i reads is bound.
 fn lookup_read(line: &[u8], i: usize, bound: &[bool]) -> bool

@@ -7,7 +7,7 @@ ghost use Rattle.model.specs.Bound.{put};
 ghost use Rattle.turning.specs.Plans.{bindsTarget, Markable, Stepped};
 use super::lookups::join_op;
 use frames::fields::wide;
-use hex::byte_at;
+use hex::line::byte_at;
 use lowering::sets::set_bound;
 
 fn binds(kind: u8) -> bool

@@ -8,7 +8,7 @@ ghost use Rattle.frames.specs.First.{isRow};
 ghost use Rattle.running.specs.Tables.{rowOf};
 ghost use Rattle.turning.specs.Shapes.{shapeOf, fitsShape, RowNoted, TableNoted};
 use frames::fields::wide;
-use hex::byte_at;
+use hex::line::byte_at;
 use hex::reader::line_from;
 
 // What the tests find.

@@ -16,7 +16,7 @@ use super::lookups::lookups_fit;
 use super::lookups::lookups_given;
 use super::lookups::lookups_read;
 use super::lookups::none_names;
-use hex::byte_at;
+use hex::line::byte_at;
 use lowering::sets::is_set;
 
 // A step other than a Join, as far as the tests ask.

@@ -1,8 +1,9 @@
 // The whole test of a plan and a table: the plan is read, then the table, then the table's shapes and the plan's steps are tested.
 ghost use mathlib.Core.Path.{_≡_};
 ghost use lib.ListN.{length};
+ghost use Rattle.frames.specs.First.{Sheet};
 ghost use Rattle.reading.specs.Index.{Indexed};
-ghost use Rattle.reading.specs.IndexedReading.{Blank};
+ghost use Rattle.reading.specs.IndexedReading.{Lent};
 ghost use Rattle.turning.specs.Plans.{StepsTested, PlanReady, PlanAccepted, Tested, TableTested, Turns};
 use super::globals::global_classes;
 use super::plan::steps_fault;
@@ -10,9 +11,15 @@ use super::shapes::Turned;
 use super::shapes::shapes_fault;
 use frames::first::Reading;
 use frames::first::Text;
+use frames::first::sheet_size;
 use reading::second::LONG_INDEX;
+use reading::second::LONG_SHEET;
 use reading::second::SHORT_INDEX;
+use reading::second::SHORT_SHEET;
 use reading::second::SHORT_TEXT;
+use reading::second::TINY_INDEX;
+use reading::second::TINY_SHEET;
+use reading::second::TINY_TEXT;
 use reading::second::read_indexed;
 use reading::second::read_text;
 
@@ -27,43 +34,60 @@ fn plan_back(plan: &[u8], shapes: &[usize], globals: &[u16]) -> Turned
     steps_fault(plan, &mut bound, &mut picked, &mut ops, shapes, globals)
 }
 
-// The tests behind the reading of both texts.
-fn tests_back(plan: &[u8], table: &[u8], index: &[u32], globals: &mut [u16]) -> Turned
+// The tests behind the reading of both texts, with the table's sheet and its index.
+fn tests_back(plan: &[u8], table: &[u8], sheet: &[u8], index: &[u16], globals: &mut [u16]) -> Turned
     requires { ⌜ PlanAccepted (now plan) (now globals) ⌝ }
-    requires { ⌜ Indexed (now table) (now index) ⌝ }
+    requires { ⌜ Sheet (now table) (now sheet) ⌝ }
+    requires { ⌜ Indexed (now sheet) (now index) ⌝ }
     ensures { λ r. ⌜ Tested (now (plan .entry)) (now (table .entry)) r (now (globals .exit)) ⌝ }
 {
     let mut shapes = [0usize; 256];
     if let Turned::TurnedBack(k, text, line) = shapes_fault(table, &mut shapes) {
         return Turned::TurnedBack(k, text, line);
     }
-    global_classes(table, index, globals);
+    global_classes(sheet, index, globals);
     plan_back(plan, &shapes, globals)
 }
 
-// The table behind an accepted plan, by an index that is lent for the table's keyed lines.
-fn table_by(plan: &[u8], table: &[u8], index: &mut [u32], globals: &mut [u16]) -> Turned
+// The table behind an accepted plan, with a sheet and an index that are lent for it.
+fn table_by(
+    plan: &[u8],
+    table: &[u8],
+    sheet: &mut [u8],
+    index: &mut [u16],
+    globals: &mut [u16],
+) -> Turned
     requires { ⌜ PlanAccepted (now plan) (now globals) ⌝ }
-    requires { ⌜ Blank (now table) (now index) ⌝ }
+    requires { ⌜ Lent (now table) (now sheet) (now index) ⌝ }
     ensures { λ r. ⌜ TableTested (now (plan .entry)) (now (table .entry)) r (now (globals .exit)) ⌝ }
 {
-    match read_indexed(Text::Table, table, index) {
+    match read_indexed(Text::Table, table, sheet, index) {
         Reading::Refused(k, line) => Turned::TurnedBack(k, 2, line),
-        Reading::Accepted(_, _) => tests_back(plan, table, index, globals),
+        Reading::Accepted(lines, _) => {
+            let size = sheet_size(table.len(), lines);
+            tests_back(plan, table, &sheet[..size], index, globals)
+        }
     }
 }
 
-// The same with an index of its own, by the table's length.
+// The same with a sheet and an index of its own, by the table's length.
 fn table_back(plan: &[u8], table: &[u8], globals: &mut [u16]) -> Turned
     requires { ⌜ PlanAccepted (now plan) (now globals) ⌝ }
     ensures { λ r. ⌜ TableTested (now (plan .entry)) (now (table .entry)) r (now (globals .exit)) ⌝ }
 {
-    if table.len() <= SHORT_TEXT {
-        let mut index = [0u32; SHORT_INDEX];
-        return table_by(plan, table, &mut index, globals);
+    if table.len() <= TINY_TEXT {
+        let mut sheet = [0u8; TINY_SHEET];
+        let mut index = [0u16; TINY_INDEX];
+        return table_by(plan, table, &mut sheet, &mut index, globals);
     }
-    let mut index = [0u32; LONG_INDEX];
-    table_by(plan, table, &mut index, globals)
+    if table.len() <= SHORT_TEXT {
+        let mut sheet = [0u8; SHORT_SHEET];
+        let mut index = [0u16; SHORT_INDEX];
+        return table_by(plan, table, &mut sheet, &mut index, globals);
+    }
+    let mut sheet = [0u8; LONG_SHEET];
+    let mut index = [0u16; LONG_INDEX];
+    table_by(plan, table, &mut sheet, &mut index, globals)
 }
 
 // The first reason to turn the texts back. Where there is none, the globals have their classes.

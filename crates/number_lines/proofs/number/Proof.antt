@@ -1,11 +1,14 @@
--- `number` meets its contract: by where `hex_line` finds the end, and what `long_at` ensures. Assumes nothing.
-use borrow.Author.Tests.{eq-eqb, ne-eqb}
+-- `number` meets its contract: by where `decode_line` finds the end, and what `long_at` ensures of the bytes. Assumes nothing.
+use Rattle.number_lines.proofs.Laws.{no-line, other-end, number-read}
 use borrow.Author.Needs.{needs}
 use Rattle.number_lines.proofs.number.Statement.{statement}
 use Rattle.number_lines.proofs.number.Tie as tie
 
-hex-line-requires : tie.Need-hex-line-requires
-hex-line-requires c κs = search needs
+slice-aggregate-decode-line : tie.Need-slice-aggregate-decode-line
+slice-aggregate-decode-line c = search needs
+
+decode-line-requires : tie.Need-decode-line-requires
+decode-line-requires c κs = search needs
 
 enum-known-e : tie.Need-enum-known-e
 enum-known-e c = search needs
@@ -14,25 +17,30 @@ enum-told : tie.Need-enum-told
 enum-told c = search needs
 
 returns : tie.Need-returns
-returns c = rw (← c .before .before .hex-line .ensures) (search needs)
+returns c = search no-line
 
 returns-2 : tie.Need-returns-2
-returns-2 c = rw (← c .before .before .before .before .hex-line .ensures, c .before .before .e .given .1, ne-eqb _ _ (c .if1 .taken))
+returns-2 c = search other-end
+
+slice-aggregate-long-at : tie.Need-slice-aggregate-long-at
+slice-aggregate-long-at c = search needs
 
 long-at-requires : tie.Need-long-at-requires
 long-at-requires c κs = search needs
 
 returns-3 : tie.Need-returns-3
-returns-3 c = rw (← c .before .before .before .before .before .hex-line .ensures, c .before .before .before .e .given .1, eq-eqb _ _ (c .before .if1 .left), c .long-at .ensures)
+returns-3 c = search number-read
 
 pub number-spec : {M : Type 1} → statement M
 number-spec =
     tie.close
     (tie.spec
-    hex-line-requires
+    slice-aggregate-decode-line
+    decode-line-requires
     enum-known-e
     enum-told
     returns
     returns-2
+    slice-aggregate-long-at
     long-at-requires
     returns-3)

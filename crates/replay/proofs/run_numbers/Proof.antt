@@ -4,14 +4,29 @@ use borrow.Author.Needs.{needs}
 use Rattle.replay.proofs.run_numbers.Statement.{statement}
 use Rattle.replay.proofs.run_numbers.Tie as tie
 
+slice-aggregate-decode : tie.Need-slice-aggregate-decode
+slice-aggregate-decode c = search needs
+
+decode-requires : tie.Need-decode-requires
+decode-requires c κs = search needs
+
+slice-aggregate-long-at : tie.Need-slice-aggregate-long-at
+slice-aggregate-long-at c = search needs
+
 long-at-requires : tie.Need-long-at-requires
 long-at-requires c κs = search needs
+
+slice-aggregate-word-at : tie.Need-slice-aggregate-word-at
+slice-aggregate-word-at c = search needs
 
 word-at-requires : tie.Need-word-at-requires
 word-at-requires c κs = search needs
 
 cast-room : tie.Need-cast-room
 cast-room c = search needs
+
+slice-aggregate-word-at-2 : tie.Need-slice-aggregate-word-at-2
+slice-aggregate-word-at-2 c = search needs
 
 word-at-requires-2 : tie.Need-word-at-requires-2
 word-at-requires-2 c κs = search needs
@@ -37,8 +52,8 @@ part-decode-start c = search needs
 part-decode-end : tie.Need-part-decode-end
 part-decode-end c = search needs
 
-decode-requires : tie.Need-decode-requires
-decode-requires c κs = search needs
+decode-requires-2 : tie.Need-decode-requires-2
+decode-requires-2 c κs = search needs
 
 sub-decode-2 : tie.Need-sub-decode-2
 sub-decode-2 c = search needs
@@ -49,8 +64,8 @@ part-decode-start-2 c = search needs
 part-decode-end-2 : tie.Need-part-decode-end-2
 part-decode-end-2 c = search needs
 
-decode-requires-2 : tie.Need-decode-requires-2
-decode-requires-2 c κs = search needs
+decode-requires-3 : tie.Need-decode-requires-3
+decode-requires-3 c κs = search needs
 
 slice-reshare-prefix-run-texts : tie.Need-slice-reshare-prefix-run-texts
 slice-reshare-prefix-run-texts c = search needs
@@ -80,9 +95,14 @@ pub run-numbers-spec : {M : Type 1} → statement M
 run-numbers-spec =
     tie.close
     (tie.spec
+    slice-aggregate-decode
+    decode-requires
+    slice-aggregate-long-at
     long-at-requires
+    slice-aggregate-word-at
     word-at-requires
     cast-room
+    slice-aggregate-word-at-2
     word-at-requires-2
     cast-cut
     mul-cut
@@ -91,11 +111,11 @@ run-numbers-spec =
     sub-decode
     part-decode-start
     part-decode-end
-    decode-requires
+    decode-requires-2
     sub-decode-2
     part-decode-start-2
     part-decode-end-2
-    decode-requires-2
+    decode-requires-3
     slice-reshare-prefix-run-texts
     slice-aggregate-run-texts
     slice-reshare-prefix-run-texts-2

@@ -11,8 +11,8 @@ slice-aggregate-lines c = sym (length-take-le _ _ (c .before .if1 .taken))
 say-rounds-requires : tie.Need-say-rounds-requires
 say-rounds-requires c κs = search needs
 
-say-lines-requires : tie.Need-say-lines-requires
-say-lines-requires c κs = search needs
+explain-plan-requires : tie.Need-explain-plan-requires
+explain-plan-requires c κs = search needs
 
 returns : tie.Need-returns
 returns c = search needs
@@ -23,4 +23,4 @@ returns-2 c = search needs
 pub say-plan-spec : {M : Type 1} → statement M
 say-plan-spec =
     tie.close
-    (tie.spec slice-aggregate-lines say-rounds-requires say-lines-requires returns returns-2)
+    (tie.spec slice-aggregate-lines say-rounds-requires explain-plan-requires returns returns-2)

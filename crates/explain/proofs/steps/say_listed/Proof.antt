@@ -6,10 +6,10 @@ use Rattle.explain.proofs.steps.say_listed.Statement.{statement}
 use Rattle.explain.proofs.steps.say_listed.Tie as tie
 
 abbrev Inv-loop : tie.InvT-loop
-Inv-loop line i width n at₀ k₀ at k = Listing n k at
+Inv-loop frame i width n at₀ k₀ at k = Listing n k at
 
 abbrev μ-loop : tie.MeasureT-loop
-μ-loop line i width n at₀ k₀ at k = n - k
+μ-loop frame i width n at₀ k₀ at k = n - k
 
 loop-holds : tie.Need-loop-holds Inv-loop μ-loop
 loop-holds c = search listing-none

@@ -6,10 +6,10 @@ use Rattle.turning.proofs.globals.global_classes.Statement.{statement}
 use Rattle.turning.proofs.globals.global_classes.Tie as tie
 
 abbrev Inv-loop : tie.InvT-loop
-Inv-loop table index globals₀ g₀ globals g = Given table globals g
+Inv-loop sheet index globals₀ g₀ globals g = Given sheet globals g
 
 abbrev μ-loop : tie.MeasureT-loop
-μ-loop table index globals₀ g₀ globals g = 16 - g
+μ-loop sheet index globals₀ g₀ globals g = 16 - g
 
 loop-holds : tie.Need-loop-holds Inv-loop μ-loop
 loop-holds c = search given-none
