@@ -1,0 +1,48 @@
+-- `first::after_frame` meets its contract: the frame's tests, and one line more where it passes them.
+use borrow.Author.Needs.{needs}
+use Rattle.frames.proofs.StandLaws.{frame-fails, frame-passes}
+use Rattle.frames.proofs.first.after_frame.Statement.{statement}
+use Rattle.frames.proofs.first.after_frame.Tie as tie
+use Rattle.frames.proofs.first.after_frame.Reads as reads
+use Rattle.frames.proofs.first.after_frame.Lts as lts
+use Rattle.frames.proofs.first.counted.Reads as counted-reads
+use Rattle.frames.proofs.first.ended_at.Reads as ended-at-reads
+use Rattle.frames.proofs.first.frame_fault.Reads as frame-fault-reads
+use Rattle.hex.proofs.byte_at.Reads as byte-at-reads
+
+frame-fault-requires : tie.Need-frame-fault-requires
+frame-fault-requires c κs = search needs
+
+ended-at-requires : tie.Need-ended-at-requires
+ended-at-requires c κs = search needs
+
+returns : tie.Need-returns
+returns c = search frame-fails
+
+add-t8 : tie.Need-add-t8
+add-t8 c = search needs
+
+add-t9 : tie.Need-add-t9
+add-t9 c = search needs
+
+byte-at-requires : tie.Need-byte-at-requires
+byte-at-requires c κs = search needs
+
+counted-requires : tie.Need-counted-requires
+counted-requires c κs = search needs
+
+returns-2 : tie.Need-returns-2
+returns-2 c = search frame-passes
+
+pub after-frame-spec : {M : Type 1} → statement M
+after-frame-spec =
+    tie.close
+    (tie.spec
+    frame-fault-requires
+    ended-at-requires
+    returns
+    add-t8
+    add-t9
+    byte-at-requires
+    counted-requires
+    returns-2)
