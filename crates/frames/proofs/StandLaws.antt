@@ -1,22 +1,21 @@
 -- Where the first reading stands, a line at a time. Assumes nothing.
 use Prim.Native.Nat.{ℕ, zero, suc, _+_, _-_, _/_, _<_, _≤_}
-use mathlib.Core.Path.{_≡_, refl, sym, _∙_, ap}
+use mathlib.Core.Path.{_≡_, refl, _∙_, ap}
 use mathlib.Core.List.{List}
 use native.Mathlib.Omega.{arith}
 use lib.ListN.{length, getD, take, drop}
 use lib.Dec.{eqb}
 use borrow.Author.Tests.{eq-eqb, ne-eqb}
 use Rattle.hex.specs.Lines.{hexLineOf}
-use Rattle.hex.specs.Decoding.{Room, Decodes, behind, Passes}
+use Rattle.hex.specs.Decoding.{Room, behind, Passes}
 use Rattle.hex.specs.declared.Found.{Found}
 use Rattle.hex.specs.declared.Found.the-variants.{At, Nothing}
 use Rattle.frames.specs.declared.first.Text.{Text}
 use Rattle.frames.specs.declared.first.Stand.{Stand}
-use Rattle.frames.specs.declared.first.Reading.{Reading}
 use Rattle.frames.specs.declared.first.Reading.the-variants.{Accepted, Refused}
 use Rattle.frames.specs.Limits.{textMost}
 use Rattle.frames.specs.First.{counted, frameFault, SheetRoom, LinesLaid}
-use Rattle.frames.specs.Stands.{atStart, endedAt, passedTo, byFault, afterFrame, afterLine, readingOf, Few, LineRoom}
+use Rattle.frames.specs.Stands.{atStart, endedAt, byFault, afterFrame, afterLine, readingOf, Few, LineRoom}
 use Rattle.frames.proofs.FirstLaws.{Seen, seen-starts, decode-room, lines-few, count-few, none-refused, behind-half, end-within, end-few, found-from, found-within, frame-long, line-refused, next-seen, all-passed}
 
 -- ---- what the functions return

@@ -3,12 +3,6 @@ use borrow.Author.Needs.{needs}
 use Rattle.frames.proofs.StandLaws.{frame-fails, frame-passes}
 use Rattle.frames.proofs.first.after_frame.Statement.{statement}
 use Rattle.frames.proofs.first.after_frame.Tie as tie
-use Rattle.frames.proofs.first.after_frame.Reads as reads
-use Rattle.frames.proofs.first.after_frame.Lts as lts
-use Rattle.frames.proofs.first.counted.Reads as counted-reads
-use Rattle.frames.proofs.first.ended_at.Reads as ended-at-reads
-use Rattle.frames.proofs.first.frame_fault.Reads as frame-fault-reads
-use Rattle.hex.proofs.byte_at.Reads as byte-at-reads
 
 frame-fault-requires : tie.Need-frame-fault-requires
 frame-fault-requires c κs = search needs

@@ -3,10 +3,6 @@ use borrow.Author.Needs.{needs}
 use Rattle.frames.proofs.StandLaws.{line-missing, line-there}
 use Rattle.frames.proofs.first.after_line.Statement.{statement}
 use Rattle.frames.proofs.first.after_line.Tie as tie
-use Rattle.frames.proofs.first.after_line.Reads as reads
-use Rattle.frames.proofs.first.after_line.Lts as lts
-use Rattle.frames.proofs.first.after_frame.Reads as after-frame-reads
-use Rattle.frames.proofs.first.ended_at.Reads as ended-at-reads
 
 ended-at-requires : tie.Need-ended-at-requires
 ended-at-requires c κs = search needs

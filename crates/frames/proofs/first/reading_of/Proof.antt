@@ -3,8 +3,6 @@ use borrow.Author.Needs.{needs}
 use Rattle.frames.proofs.StandLaws.{says-accepted, says-refused}
 use Rattle.frames.proofs.first.reading_of.Statement.{statement}
 use Rattle.frames.proofs.first.reading_of.Tie as tie
-use Rattle.frames.proofs.first.reading_of.Reads as reads
-use Rattle.frames.proofs.first.reading_of.Lts as lts
 
 returns : tie.Need-returns
 returns c = search says-accepted

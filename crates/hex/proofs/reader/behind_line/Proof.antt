@@ -3,9 +3,6 @@ use borrow.Author.Needs.{needs}
 use Rattle.hex.proofs.DecodeLaws.{behind-fits, passes-line, passes-none}
 use Rattle.hex.proofs.reader.behind_line.Statement.{statement}
 use Rattle.hex.proofs.reader.behind_line.Tie as tie
-use Rattle.hex.proofs.reader.behind_line.Reads as reads
-use Rattle.hex.proofs.reader.behind_line.Lts as lts
-use Rattle.hex.proofs.decode_line.Reads as decode-line-reads
 
 decode-line-requires : tie.Need-decode-line-requires
 decode-line-requires c κs = search needs
