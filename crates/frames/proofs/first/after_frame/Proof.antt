@@ -1,4 +1,4 @@
--- `first::after_frame` meets its contract: the frame's tests, and one line more where it passes them.
+-- `frames::first::after_frame` meets its contract: the frame's tests, and one line more where it passes them.
 use borrow.Author.Needs.{needs}
 use Rattle.frames.proofs.StandLaws.{frame-fails, frame-passes}
 use Rattle.frames.proofs.first.after_frame.Statement.{statement}

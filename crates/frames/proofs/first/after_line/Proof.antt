@@ -1,4 +1,4 @@
--- `first::after_line` meets its contract: the frame that was laid, where there is one.
+-- `frames::first::after_line` meets its contract: the frame that was laid, where there is one.
 use borrow.Author.Needs.{needs}
 use Rattle.frames.proofs.StandLaws.{line-missing, line-there}
 use Rattle.frames.proofs.first.after_line.Statement.{statement}

@@ -1,4 +1,4 @@
--- `first::reading_of` meets its contract: the test of its fault.
+-- `frames::first::reading_of` meets its contract: the test of its fault.
 use borrow.Author.Needs.{needs}
 use Rattle.frames.proofs.StandLaws.{says-accepted, says-refused}
 use Rattle.frames.proofs.first.reading_of.Statement.{statement}
