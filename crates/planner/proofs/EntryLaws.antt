@@ -30,7 +30,7 @@ use Rattle.model.specs.Lists.{getD-mem}
 use Rattle.model.specs.Tabulate.{tabulate-mem}
 use Rattle.model.specs.Scheduling.{State, unplanned, atomOf, numbers}
 use Rattle.cost.specs.QueryAtoms.{atomFrames}
-use Rattle.cost.specs.Choice.{fresh, planned, memoryLoop, remembered}
+use Rattle.cost.specs.Choice.{rounds, planned, remembered}
 use Rattle.plans.specs.StepFrames.{frameOf, headerOf}
 use Rattle.plans.specs.PlanText.{textOf, textLength, planText}
 use Rattle.plans.specs.PlanRead.{plan-length}
@@ -41,7 +41,7 @@ use Rattle.lowering.specs.Eager.{Located, atomsOf}
 use Rattle.lowering.specs.Places.{Places, located}
 use Rattle.pricing.specs.Prices.{rowSize, tableSize, FewItems}
 use Rattle.pricing.specs.Remembering.{Samples}
-use Rattle.scheduling.specs.Rounds.{Unplanned, Scheduling}
+use Rattle.scheduling.specs.Rounds.{Scheduling}
 use Rattle.scheduling.specs.declared.schedule.Scheduled.{Scheduled}
 use Rattle.writing.specs.Steps.{stepsAlong, countAlong, lowered-steps, lowered-count, Ordered, PutsSteps}
 use Rattle.writing.specs.Written.{written, PutsFrames}
@@ -79,7 +79,7 @@ module _ (s : List ℕ) (a : Accepts s) where
   sheet-items : (k : ℕ) → k < length (atomFrames (framesIn s)) → itemsOf (kindOf (getD (atomFrames (framesIn s)) k [])) (getD (atomFrames (framesIn s)) k []) ≤ itemsMost
   sheet-items = rw (a .sheet .frames) (atom-items (a .text) (a .lines) (a .atoms) (a .is))
 
-  sheet-rounds : (f : ℕ) → FewKeys (memoryLoop (framesIn s) (atomsOf s) f fresh unplanned .tally)
+  sheet-rounds : (f : ℕ) → FewKeys (rounds (framesIn s) (atomsOf s) f .memory .tally)
   sheet-rounds = rw (a .sheet .frames) (rounds-keys (a .text) (a .lines) (a .atoms) (a .is))
 
   sheet-keys : FewKeys (remembered (framesIn s) (atomsOf s) .tally)
@@ -95,25 +95,20 @@ plan-on x s h = rw (h .header, h .frames)
 
 -- ---- the order
 
-pub all-unplanned : Unplanned (replicate 64 false) (replicate 64 false) (replicate 64 false) (replicate 64 0)
-unfolding blank
-all-unplanned = record { used = refl; bound = refl; before = refl; emitters = refl }
+pub samples-nothing : (fs : List (List ℕ)) → settings fs ≡ Off → Samples fs Off
+samples-nothing fs e = record { set = sym e; nodes = λ cfg h. never cfg h; resamples = λ cfg h. never cfg h }
 
-pub samples-nothing : (fs : List (List ℕ)) (draws : List Float) → settings fs ≡ Off → Samples fs Off draws
-samples-nothing fs draws e = record { set = sym e; nodes = λ cfg h. never cfg h; resamples = λ cfg h. never cfg h; room = λ cfg h. never cfg h }
-
-pub remembers-nothing : (x : List ℕ) (f : ℕ) → settings (framesIn x) ≡ Off → length (memoryLoop (framesIn x) (atomsOf x) f fresh unplanned .tally .memo) ≤ 1
+pub remembers-nothing : (x : List ℕ) (f : ℕ) → settings (framesIn x) ≡ Off → length (rounds (framesIn x) (atomsOf x) f .memory .tally .memo) ≤ 1
 remembers-nothing x f e = rw (nothing-sampled (framesIn x) (atomsOf x) f e) (omega arith)
 
-pub samples-some : (x : List ℕ) (cfg : SamplerConfig) (draws : List Float) → Accepts x → settings (framesIn x) ≡ On cfg → length draws ≡ 64 → Samples (framesIn x) (On cfg) draws
-samples-some x cfg draws a e d = record {
+pub samples-some : (x : List ℕ) (cfg : SamplerConfig) → Accepts x → settings (framesIn x) ≡ On cfg → Samples (framesIn x) (On cfg)
+samples-some x cfg a e = record {
   set = sym e;
   nodes = λ c h. sheet-settings x a c (e ∙ h) .draws;
   resamples = λ c h. sheet-settings x a c (e ∙ h) .rounds;
-  room = λ c h. rw d (sheet-settings x a c (e ∙ h) .draws);
 }
 
-pub remembers-some : (x : List ℕ) (f : ℕ) → Accepts x → length (memoryLoop (framesIn x) (atomsOf x) f fresh unplanned .tally .memo) ≤ keysMost
+pub remembers-some : (x : List ℕ) (f : ℕ) → Accepts x → length (rounds (framesIn x) (atomsOf x) f .memory .tally .memo) ≤ keysMost
 remembers-some x f a = sheet-rounds x a f .memo-few
 
 -- ---- the text
@@ -153,7 +148,14 @@ items-fit x from n a p = record { few = λ k h. rw (p .is k h) (let i = sheet-it
 pub rows-fit : (x from : List ℕ) (n : ℕ) → Accepts x → Places x from n → rowSize * n ≤ tableSize
 rows-fit x from n a p = omega (arith, places-located x from n a p .few)
 
-module _ (x from : List ℕ) (n : ℕ) (O : List ℕ) (s : Scheduled) (a : Accepts x) (y : Places x from n) (h : Scheduling x O s) where
+-- a table for m atoms
+pub few-rows : (n m : ℕ) → n ≤ m → rowSize * n ≤ rowSize * m
+few-rows n m h = omega arith
+
+module _ (x from : List ℕ) (n : ℕ) (s : Scheduled) (a : Accepts x) (y : Places x from n) (h : Scheduling x s) where
+  abbrev O : List ℕ
+  O = s .order
+
   z : Located x from n
   z = places-located x from n a y
 
@@ -163,27 +165,27 @@ module _ (x from : List ℕ) (n : ℕ) (O : List ℕ) (s : Scheduled) (a : Accep
   steps-are : steps-on ≡ h .steps
   steps-are = ap (λ (st : State). st .steps) (h .is)
 
-  along : stepsAlong (atomOf (atomsOf x)) blank (take (s .count) O) ≡ steps-on
+  along : stepsAlong (atomOf (atomsOf x)) blank (take (s .count) (s .order)) ≡ steps-on
   along = lowered-steps (h .lowered) ∙ sym steps-are
 
-  counted : countAlong (atomOf (atomsOf x)) (take (s .count) O) ≡ length steps-on
+  counted : countAlong (atomOf (atomsOf x)) (take (s .count) (s .order)) ≡ length steps-on
   counted = lowered-count (h .lowered) ∙ ap length (sym steps-are)
 
   abbrev text : List ℕ
   text = planText (countsIn Query x 0 .variables) (countsIn Query x 0 .globals) (countsIn Query x 0 .literals) (remembered (framesIn x) (atomsOf x) .tally .tallied) (remembered (framesIn x) (atomsOf x) .tally .rejected) steps-on
 
-  text-size : length text ≡ 21 + textLength (map frameOf (stepsAlong (atomOf (atomsOf x)) blank (take (s .count) O)))
+  text-size : length text ≡ 21 + textLength (map frameOf (stepsAlong (atomOf (atomsOf x)) blank (take (s .count) (s .order))))
   text-size = rw along (plan-length (countsIn Query x 0 .variables) (countsIn Query x 0 .globals) (countsIn Query x 0 .literals) (remembered (framesIn x) (atomsOf x) .tally .tallied) (remembered (framesIn x) (atomsOf x) .tally .rejected) steps-on)
 
   -- the order is one of atoms, each of which can be emitted
-  pub in-order : length O ≡ most → Ordered x from n O (s .count)
-  in-order size =
-      let w : s .count ≤ length O = omega (arith, h .few) in
+  pub in-order : Ordered x from n (s .order) (s .count)
+  in-order =
+      let w : s .count ≤ length O = omega (arith, h .few, h .size) in
       let taken = length-take-le (s .count) O w in
       record {
         within = w;
         few = h .few;
-        below = λ c k. let i = tabulate-mem (length (atomsOf x)) (λ (j : ℕ). j) (getD O c 0) (subst (λ (j : ℕ). List·Memᴰ j (numbers (atomsOf x))) (getD-take (s .count) O c 0 k) (h .known (getD (take (s .count) O) c 0) (getD-mem (take (s .count) O) c 0 (rw taken k)))) in omega (arith, i .below, i .is, z .count);
+        below = λ c k. let i = tabulate-mem (length (atomsOf x)) (λ (j : ℕ). j) (getD O c 0) (subst (λ (j : ℕ). List·Memᴰ j (numbers (atomsOf x))) (getD-take (s .count) O c 0 k) (h .known (getD (take (s .count) (s .order)) c 0) (getD-mem (take (s .count) (s .order)) c 0 (rw taken k)))) in omega (arith, i .below, i .is, z .count);
         line = λ k l. record { atom = z .line k l; few = rw (y .is k l) (let i = sheet-items x a k (omega (arith, y .count)) in omega arith) };
       }
 
@@ -199,7 +201,7 @@ module _ (x from : List ℕ) (n : ℕ) (O : List ℕ) (s : Scheduled) (a : Accep
   pub fits-always : (room : ℕ) → planMost ≤ room → true ≡ leb (length (planOn x .text)) room
   fits-always room l = subst (λ (p : Plan). true ≡ leb (length (p .text)) room) (sym (plan-on (a .text) x (a .sheet))) (fits-text (a .text) (a .lines) (a .atoms) (a .is) room l)
 
-  pub fits-measured : (room r : ℕ) → r ≡ 21 + textLength (map frameOf (stepsAlong (atomOf (atomsOf x)) blank (take (s .count) O))) → leb r room ≡ leb (length (planOn x .text)) room
+  pub fits-measured : (room r : ℕ) → r ≡ 21 + textLength (map frameOf (stepsAlong (atomOf (atomsOf x)) blank (take (s .count) (s .order)))) → leb r room ≡ leb (length (planOn x .text)) room
   fits-measured room r e = rw (text-is, text-size, e)
 
   pub not-fitting : (t : Bool) (o : List ℕ) → t ≡ leb (length (planOn x .text)) (length o) → not t ≡ true → resultOf (TurnsBack 8 0) o ≡ fitted (planOn x) o
@@ -207,8 +209,8 @@ module _ (x from : List ℕ) (n : ℕ) (O : List ℕ) (s : Scheduled) (a : Accep
       let k : length o < length text = leb-false (length text) (length o) (sym e ∙ not-true t l) in
       rw (lt-ltb (length o) (length text) k)
 
-  module _ (o p : List ℕ) (steps r : ℕ) (c : steps ≡ countAlong (atomOf (atomsOf x)) (take (s .count) O)) (w : PutsFrames o 0 (headerOf (countsIn Query x 0 .variables) (countsIn Query x 0 .globals) (countsIn Query x 0 .literals) steps (s .tallied) (s .rejected) ∷ map frameOf (stepsAlong (atomOf (atomsOf x)) blank (take (s .count) O))) p r) where
-    is-text : textOf (headerOf (countsIn Query x 0 .variables) (countsIn Query x 0 .globals) (countsIn Query x 0 .literals) steps (s .tallied) (s .rejected) ∷ map frameOf (stepsAlong (atomOf (atomsOf x)) blank (take (s .count) O))) ≡ text
+  module _ (o p : List ℕ) (steps r : ℕ) (c : steps ≡ countAlong (atomOf (atomsOf x)) (take (s .count) (s .order))) (w : PutsFrames o 0 (headerOf (countsIn Query x 0 .variables) (countsIn Query x 0 .globals) (countsIn Query x 0 .literals) steps (s .tallied) (s .rejected) ∷ map frameOf (stepsAlong (atomOf (atomsOf x)) blank (take (s .count) (s .order)))) p r) where
+    is-text : textOf (headerOf (countsIn Query x 0 .variables) (countsIn Query x 0 .globals) (countsIn Query x 0 .literals) steps (s .tallied) (s .rejected) ∷ map frameOf (stepsAlong (atomOf (atomsOf x)) blank (take (s .count) (s .order)))) ≡ text
     unfolding planText
     is-text = rw (along, c ∙ counted, ← h .tallied, ← h .rejected)
 

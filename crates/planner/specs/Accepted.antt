@@ -30,9 +30,9 @@ use Rattle.query.specs.Statistics.{sampledOf, settings}
 use Rattle.query.specs.declared.statistics.Sampled.the-variants.{On}
 use Rattle.model.specs.Atoms.{Atom, Plain, Lit, LitBind, Eq, EqGlobal, Pred, Variadic}
 use Rattle.model.specs.Bound.{blank}
-use Rattle.model.specs.Scheduling.{unplanned, unlowered, numbers}
+use Rattle.model.specs.Scheduling.{unlowered, numbers}
 use Rattle.cost.specs.QueryAtoms.{atomFrames}
-use Rattle.cost.specs.Choice.{fresh, memoryLoop, remembered}
+use Rattle.cost.specs.Choice.{rounds, remembered}
 use Rattle.plans.specs.StepFrames.{Each}
 use Rattle.plans.specs.Fitting.{AtomFits}
 use Rattle.lowering.specs.AtomLines.{AtomLine}
@@ -127,11 +127,11 @@ module _ (x : List ℕ) (n c : ℕ) (ok : reading Query x ≡ Accepted n c) wher
   atom-operands = each-few _ (atomsOf x) (query-fits x n c ok 0 0 (omega arith) (omega arith) .atoms)
 
   -- so the memo and the tallies stay small, whatever the costs, after any number of rounds
-  pub rounds-keys : (f : ℕ) → FewKeys (memoryLoop (framesOf x) (atomsOf x) f fresh unplanned .tally)
+  pub rounds-keys : (f : ℕ) → FewKeys (rounds (framesOf x) (atomsOf x) f .memory .tally)
   rounds-keys f = rounds-few (framesOf x) (atomsOf x) f (rw (atoms-number x n c ok) (query-within x n c ok .atoms)) atom-operands
 
   pub few-keys : FewKeys (remembered (framesOf x) (atomsOf x) .tally)
-  unfolding remembered memoryLoop
+  unfolding remembered
   few-keys = rounds-keys (suc (unlowered blank (numbers (atomsOf x))))
 
   pub small-settings : (cfg : SamplerConfig) → settings (framesOf x) ≡ On cfg → Small cfg

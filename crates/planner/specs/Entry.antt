@@ -9,14 +9,14 @@ use Rattle.frames.specs.declared.first.Reading.the-variants.{Accepted}
 use Rattle.reading.specs.Second.{reading}
 use Rattle.cost.specs.QueryAtoms.{atomsIn}
 use Rattle.cost.specs.Choice.{planned, remembered}
-use Rattle.planner.specs.Planner.{Plan, planBy, Answer, Written, TurnedBack, Result}
+use Rattle.planner.specs.Planner.{Plan, planBy, Answer, writes, refusal, Result}
 use Rattle.planner.specs.declared.entry.Planned.{Planned}
 use Rattle.planner.specs.declared.entry.Planned.the-variants.{Written as Wrote, Refused}
 
 -- bytes written, steps, tallied, rejected; or number and line
 abbrev pub answerOf : Planned → Answer
-answerOf (Wrote b s t r) = Written b s t r
-answerOf (Refused k l) = TurnedBack k l
+answerOf (Wrote b s t r) = writes b s t r
+answerOf (Refused k l) = refusal k l
 
 -- the answer r with the output o is what the definition gives
 abbrev pub resultOf : Planned → List ℕ → Result

@@ -27,10 +27,10 @@ use Rattle.query.specs.Statistics.{opCard, atomCard, baseCard, denominator, byC
 use Rattle.cost.specs.QueryAtoms.{operandsFrom, bytesFrom, atomOfFrame, atomsIn}
 use Rattle.cost.specs.Emitters.{setChildren, recordAtom, recordEmitters}
 use Rattle.cost.specs.Costs.{childCosts, estimateCost}
-use Rattle.cost.specs.Choice.{planned, memoryLoop, remembered}
+use Rattle.cost.specs.Choice.{planned, remembered}
 use Rattle.plans.specs.StepFrames.{frameOf}
 use Rattle.plans.specs.PlanText.{textOf, planText}
-use Rattle.planner.specs.Planner.{Answer, Written, TurnedBack, Result, stepsOf, planOf, plan}
+use Rattle.planner.specs.Planner.{Answer, writes, refusal, Result, stepsOf, planOf, plan}
 
 -- a query, a lent output, the answer, and the output then
 pub record Row : Type 0 where
@@ -44,7 +44,7 @@ room n = replicate n 0
 
 -- a query that is refused leaves the output as it was
 abbrev refused : List ℕ → ℕ → ℕ → Row
-refused x k l = record { query = x; lent = room 30; says = TurnedBack k l; leaves = room 30 }
+refused x k l = record { query = x; lent = room 30; says = refusal k l; leaves = room 30 }
 
 unfoldable pub table : List Row
 table =
@@ -56,20 +56,20 @@ table =
     ∷ refused (ascii "00000000\n12bff000000000000000000004\n") 6 2
     ∷ refused (ascii "00000000\n10010000000a\n10010000000a\n") 7 3
     -- "`00000000`, output of 20 bytes (21 fit)"
-    ∷ record { query = ascii "00000000\n"; lent = room 20; says = TurnedBack 8 0; leaves = room 20 }
-    ∷ record { query = ascii "00000000\n"; lent = room 21; says = Written 21 0 0 0; leaves = ascii "3f000000000000000000\n" }
+    ∷ record { query = ascii "00000000\n"; lent = room 20; says = refusal 8 0; leaves = room 20 }
+    ∷ record { query = ascii "00000000\n"; lent = room 21; says = writes 21 0 0 0; leaves = ascii "3f000000000000000000\n" }
     -- the worked plan, with two bytes behind it
     ∷ record {
       query = ascii "00040000\n0100010200010002\n010202010003\n10010000000a\n100200000064\n";
       lent = room 92;
-      says = Written 90 5 0 0;
+      says = writes 90 5 0 0;
       leaves = ascii "3f040000000500000000\n4000000100010000\n41010000\n41020001\n400201020202000000020000\n41030200\n" ++ room 2;
     }
     -- a tie: the lowest atom first
     ∷ record {
       query = ascii "00020000\n01000100\n01010100\n";
       lent = room 55;
-      says = Written 55 2 0 0;
+      says = writes 55 2 0 0;
       leaves = ascii "3f020000000200000000\n4000000100010000\n4001010100010000\n";
     }
     ∷ []
@@ -96,5 +96,5 @@ numbers =
     ∷ []
 
 pub right : (map answered table ≡ map (λ (r : Row). record { answer = r .says; output = r .leaves }) table) × (map (λ (m : Mark). m .bits) numbers ≡ map (λ (m : Mark). m .is) numbers)
-unfolding table plan planOf stepsOf reading framesOf split kindAt passAll fieldPasses planned remembered memoryLoop atomsIn atomOfFrame operandsFrom bytesFrom put hasAll blank tabulate markAll emitReadChildren childLookups lower unlowered eagerPass passesUpTo roundsUpTo atomOf scan cheapest begins find opCard atomCard baseCard denominator byChildPos settings setChildren recordAtom recordEmitters childCosts estimateCost ofInt ofBits lt mul div planText textOf frameOf flatMap numbers wholeRoot leadingZeros toBits
+unfolding table plan planOf stepsOf reading framesOf split kindAt passAll fieldPasses planned remembered atomsIn atomOfFrame operandsFrom bytesFrom put hasAll blank tabulate markAll emitReadChildren childLookups lower unlowered eagerPass passesUpTo roundsUpTo atomOf scan cheapest begins find opCard atomCard baseCard denominator byChildPos settings setChildren recordAtom recordEmitters childCosts estimateCost ofInt ofBits lt mul div planText textOf frameOf flatMap numbers wholeRoot leadingZeros toBits
 right = (refl, refl)

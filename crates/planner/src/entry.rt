@@ -4,7 +4,6 @@ ghost use lib.ListN.{length};
 ghost use lib.Dec.{leb};
 ghost use Rattle.reading.specs.Index.{Indexed};
 ghost use Rattle.reading.specs.IndexedReading.{Lent};
-ghost use Rattle.model.specs.Bound.{most};
 ghost use Rattle.lowering.specs.Places.{Places};
 ghost use Rattle.scheduling.specs.Rounds.{Scheduling};
 ghost use Rattle.planner.specs.Planner.{fitted, plan as planned};
@@ -39,41 +38,34 @@ pub enum Planned {
 pub const PLAN_MOST: usize = 20565;
 
 // Whether the plan fits into so much room. With room for the longest nothing is measured.
-fn fits(sheet: &[u8], from: &[usize], n: usize, order: &[u8], s: Scheduled, room: usize) -> bool
+fn fits(sheet: &[u8], from: &[usize], n: usize, s: Scheduled, room: usize) -> bool
     requires { ⌜ Accepts (now sheet) ⌝ }
     requires { ⌜ Places (now sheet) (now from) n ⌝ }
-    requires { ⌜ Scheduling (now sheet) (now order) s ⌝ }
-    requires { ⌜ length (now order) ≡ most ⌝ }
+    requires { ⌜ Scheduling (now sheet) s ⌝ }
     ensures { λ r. ⌜ r ≡ leb (length (planOn (now (sheet .entry)) .text)) room ⌝ }
 {
     if PLAN_MOST <= room {
         return true;
     }
-    plan_size(sheet, from, n, order, s.count) <= room
+    let order = s.order;
+    plan_size(sheet, from, n, &order, s.count) <= room
 }
 
 // The plan by the order that was found, where it fits.
-fn plan_in_order(
-    sheet: &[u8],
-    from: &[usize],
-    n: usize,
-    order: &[u8],
-    s: Scheduled,
-    out: &mut [u8],
-) -> Planned
+fn plan_in_order(sheet: &[u8], from: &[usize], n: usize, s: Scheduled, out: &mut [u8]) -> Planned
     requires { ⌜ Accepts (now sheet) ⌝ }
     requires { ⌜ Places (now sheet) (now from) n ⌝ }
-    requires { ⌜ Scheduling (now sheet) (now order) s ⌝ }
-    requires { ⌜ length (now order) ≡ most ⌝ }
+    requires { ⌜ Scheduling (now sheet) s ⌝ }
     ensures { λ r. ⌜ resultOf r (now (out .exit)) ≡ fitted (planOn (now (sheet .entry))) (now (out .entry)) ⌝ }
 {
-    if !fits(sheet, from, n, order, s, out.len()) {
+    if !fits(sheet, from, n, s, out.len()) {
         return Planned::Refused(8, 0);
     }
-    let steps = count_steps(sheet, from, n, order, s.count);
+    let order = s.order;
+    let steps = count_steps(sheet, from, n, &order, s.count);
     let tallied = s.tallied;
     let rejected = s.rejected;
-    let size = write_plan(sheet, from, n, order, s.count, steps, tallied, rejected, out);
+    let size = write_plan(sheet, from, n, &order, s.count, steps, tallied, rejected, out);
     Planned::Written(size, steps, tallied, rejected)
 }
 
@@ -84,10 +76,9 @@ fn plan_accepted(sheet: &[u8], index: &[u16], out: &mut [u8]) -> Planned
 {
     let mut from = [0usize; 128];
     let n = atom_places(sheet, &mut from);
-    let mut order = [0u8; 64];
-    let mut costs = [0.0; 64];
-    let s = find_order(sheet, index, &from, n, &mut order, n, &mut costs);
-    plan_in_order(sheet, &from, n, &order, s, out)
+    let mut costs = [0u64; 1];
+    let s = find_order(sheet, index, &from, n, n, &mut costs);
+    plan_in_order(sheet, &from, n, s, out)
 }
 
 // The plan, by a sheet for the query's frames and an index of them that are lent.

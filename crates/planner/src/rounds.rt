@@ -1,15 +1,13 @@
 // The costs of a round, for whoever asks how the order came about.
 ghost use mathlib.Core.Path.{_≡_};
-ghost use mathlib.Core.List.{map};
 ghost use Prim.Native.Nat.{_≤_};
 ghost use lib.ListN.{length, getD, take};
 ghost use Rattle.frames.specs.Sheet.{framesIn};
 ghost use Rattle.reading.specs.Index.{Indexed};
 ghost use Rattle.reading.specs.IndexedReading.{Lent};
-ghost use Rattle.lowering.specs.Eager.{atomsOf};
-ghost use Rattle.scheduling.specs.Offers.{roundOf};
+ghost use Rattle.scheduling.specs.Choosing.{noCost};
 ghost use Rattle.planner.specs.Entry.{Accepts};
-ghost use Rattle.planner.specs.Costs.{noBits, costBits, bitsIn, told, resultOf, roundCosts};
+ghost use Rattle.planner.specs.Costs.{roundOf, bitsIn, told, resultOf, roundCosts};
 use super::order::find_order;
 use frames::first::Reading;
 use frames::first::Text;
@@ -24,7 +22,7 @@ use reading::second::TINY_INDEX;
 use reading::second::TINY_SHEET;
 use reading::second::TINY_TEXT;
 use reading::second::read_indexed;
-use sqrt::bits_of;
+use scheduling::choose::NO_COST;
 
 pub enum RoundCosts {
     // the atom chosen
@@ -35,30 +33,19 @@ pub enum RoundCosts {
     Refused(u8, usize),
 }
 
-const NO_BITS: u64 = 0xffff_ffff_ffff_ffff;
-
-fn cost_bits(cost: f64) -> u64
-    ensures { λ r. ⌜ r ≡ costBits cost ⌝ }
-{
-    if cost < 0.0 {
-        return NO_BITS;
-    }
-    bits_of(cost)
-}
-
-// The bits of number i of the first n costs.
-fn bits_at(costs: &[f64], n: usize, i: usize) -> u64
+// The bits of cost number i of the first n.
+fn bits_at(costs: &[u64], n: usize, i: usize) -> u64
     requires { ⌜ n ≤ length (now costs) ⌝ }
-    ensures { λ r. ⌜ r ≡ getD (map costBits (take n (now (costs .entry)))) i noBits ⌝ }
+    ensures { λ r. ⌜ r ≡ getD (take n (now (costs .entry))) i noCost ⌝ }
 {
     if n <= i {
-        return NO_BITS;
+        return NO_COST;
     }
-    cost_bits(costs[i])
+    costs[i]
 }
 
 // The bits of the first n costs, as far as the array is long.
-fn put_costs(costs: &[f64], n: usize, out: &mut [u64])
+fn put_costs(costs: &[u64], n: usize, out: &mut [u64])
     requires { ⌜ n ≤ length (now costs) ⌝ }
     ensures { λ _. ⌜ now (out .exit) ≡ bitsIn (take n (now (costs .entry))) (length (now (out .entry))) ⌝ }
 {
@@ -72,13 +59,12 @@ fn put_costs(costs: &[f64], n: usize, out: &mut [u64])
 fn costs_accepted(sheet: &[u8], index: &[u16], round: usize, out: &mut [u64]) -> RoundCosts
     requires { ⌜ Accepts (now sheet) ⌝ }
     requires { ⌜ Indexed (now sheet) (now index) ⌝ }
-    ensures { λ r. ⌜ resultOf r (now (out .exit)) ≡ told (roundOf (framesIn (now (sheet .entry))) (atomsOf (now (sheet .entry))) round) (now (out .entry)) ⌝ }
+    ensures { λ r. ⌜ resultOf r (now (out .exit)) ≡ told (roundOf (framesIn (now (sheet .entry))) round) (now (out .entry)) ⌝ }
 {
     let mut from = [0usize; 128];
     let n = atom_places(sheet, &mut from);
-    let mut order = [0u8; 64];
-    let mut costs = [0.0; 64];
-    let s = find_order(sheet, index, &from, n, &mut order, round, &mut costs);
+    let mut costs = [NO_COST; 64];
+    let s = find_order(sheet, index, &from, n, round, &mut costs);
     if !s.found {
         put_costs(&costs, 0, out);
         return RoundCosts::Ended;

@@ -6,7 +6,7 @@ ghost use Rattle.reading.specs.Index.{Indexed};
 ghost use Rattle.running.specs.Tables.{classFrom, globalIn};
 ghost use Rattle.turning.specs.Plans.{GlobalsRead};
 use hex::short_at;
-use query::lookup::look_up;
+use reading::index::find_by;
 
 // The class of a frame 32; unset where there is no frame.
 fn class_from(frame: &[u8]) -> u16
@@ -22,7 +22,8 @@ fn global_class(sheet: &[u8], index: &[u16], g: u8) -> u16
     requires { ⌜ Indexed (now sheet) (now index) ⌝ }
     ensures { λ r. ⌜ r ≡ globalIn (framesIn (now (sheet .entry))) g ⌝ }
 {
-    class_from(look_up(sheet, index, 2, 0x32, g, 0, 0, 0, 0))
+    let key = [0x32, g];
+    class_from(find_by(sheet, index, &key))
 }
 
 // The class of each global, by the index of the table's sheet.

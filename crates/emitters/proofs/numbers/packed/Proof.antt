@@ -1,3 +1,4 @@
+-- `emitters::numbers::packed` meets its contract.
 use native.Mathlib.Omega.{arith}
 use Rattle.emitters.proofs.EmitterLaws.{packed-is}
 use borrow.Author.Needs.{needs}

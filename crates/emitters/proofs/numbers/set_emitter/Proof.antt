@@ -1,3 +1,4 @@
+-- `emitters::numbers::set_emitter` meets its contract.
 use Rattle.emitters.proofs.EmitterLaws.{set-none, set-some}
 use borrow.Author.Needs.{needs}
 use Rattle.emitters.proofs.numbers.set_emitter.Statement.{statement}

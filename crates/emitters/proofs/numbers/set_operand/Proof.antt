@@ -1,3 +1,4 @@
+-- `emitters::numbers::set_operand` meets its contract.
 use Rattle.cost.specs.Operands.{local-below}
 use Rattle.emitters.proofs.EmitterLaws.{local-set, global-kept}
 use borrow.Author.Needs.{needs}

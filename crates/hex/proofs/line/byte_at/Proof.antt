@@ -1,3 +1,4 @@
+-- `hex::line::byte_at` meets its contract.
 use Rattle.hex.specs.Bytes.{bytes-past, byte-is}
 use native.Mathlib.Omega.{arith}
 use borrow.Author.Needs.{needs}

@@ -1,16 +1,21 @@
 -- `planner::entry::fits` meets its contract: by the longest plan's length, else by this plan's.
+use mathlib.Core.Path.{sym}
 use Rattle.planner.proofs.EntryLaws.{places-located, in-order, fits-always, fits-measured}
+use borrow.Author.Needs.{needs}
 use Rattle.planner.proofs.entry.fits.Statement.{statement}
 use Rattle.planner.proofs.entry.fits.Tie as tie
 
 returns : tie.Need-returns
-returns c = fits-always _ _ _ _ _ (c .before .before .before .before .pre .0) (c .before .before .before .before .pre .1 .0) (c .before .before .before .before .pre .1 .1 .0) _ (c .if1 .taken)
+returns c = fits-always _ _ _ (c .before .before .before .args .s) (c .before .before .before .pre .0) (c .before .before .before .pre .1 .0) (c .before .before .before .pre .1 .1) _ (c .if1 .taken)
+
+slice-aggregate-plan-size : tie.Need-slice-aggregate-plan-size
+slice-aggregate-plan-size c = sym (c .before .before .before .before .before .pre .1 .1 .size)
 
 plan-size-requires : tie.Need-plan-size-requires
-plan-size-requires c κs = (places-located _ _ _ (c .before .before .before .before .pre .0) (c .before .before .before .before .pre .1 .0), in-order _ _ _ _ _ (c .before .before .before .before .pre .0) (c .before .before .before .before .pre .1 .0) (c .before .before .before .before .pre .1 .1 .0) (c .before .before .before .before .pre .1 .1 .1))
+plan-size-requires c κs = (places-located _ _ _ (c .before .before .before .before .before .pre .0) (c .before .before .before .before .before .pre .1 .0), in-order _ _ _ (c .before .before .before .before .before .args .s) (c .before .before .before .before .before .pre .0) (c .before .before .before .before .before .pre .1 .0) (c .before .before .before .before .before .pre .1 .1))
 
 returns-2 : tie.Need-returns-2
-returns-2 c = fits-measured _ _ _ _ _ (c .before .before .before .before .before .pre .0) (c .before .before .before .before .before .pre .1 .0) (c .before .before .before .before .before .pre .1 .1 .0) _ _ (c .plan-size .ensures)
+returns-2 c = fits-measured _ _ _ (c .before .before .before .before .before .before .args .s) (c .before .before .before .before .before .before .pre .0) (c .before .before .before .before .before .before .pre .1 .0) (c .before .before .before .before .before .before .pre .1 .1) _ _ (c .plan-size .ensures)
 
 pub fits-spec : {M : Type 1} → statement M
-fits-spec = tie.close (tie.spec returns plan-size-requires returns-2)
+fits-spec = tie.close (tie.spec returns slice-aggregate-plan-size plan-size-requires returns-2)

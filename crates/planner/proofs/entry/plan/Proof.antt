@@ -1,68 +1,51 @@
+-- `planner::entry::plan` meets its contract.
 use Rattle.reading.specs.IndexedReading.{lent-tiny, lent-short, lent-long}
 use borrow.Author.Needs.{needs}
 use Rattle.planner.proofs.entry.plan.Statement.{statement}
 use Rattle.planner.proofs.entry.plan.Tie as tie
-use Rattle.planner.proofs.entry.plan.Reads as reads
-use Rattle.planner.proofs.entry.plan.Lts as lts
-use Rattle.planner.proofs.entry.plan_by.Reads as plan-by-reads
 
--- src/entry.rt:114:30
 slice-aggregate-plan-by : tie.Need-slice-aggregate-plan-by
 slice-aggregate-plan-by c = search needs
 
--- src/entry.rt:114:42
 slice-aggregate-plan-by-2 : tie.Need-slice-aggregate-plan-by-2
 slice-aggregate-plan-by-2 c = search needs
 
--- src/entry.rt:114:9
 plan-by-requires : tie.Need-plan-by-requires
 plan-by-requires c κs = lent-tiny _ (c .before .before .before .if1 .taken)
 
--- src/entry.rt:114:9
 same-length : tie.Need-same-length
 same-length c = search needs
 
--- src/entry.rt:114:9
 returns : tie.Need-returns
 returns c = search needs
 
--- src/entry.rt:119:30
 slice-aggregate-plan-by-3 : tie.Need-slice-aggregate-plan-by-3
 slice-aggregate-plan-by-3 c = search needs
 
--- src/entry.rt:119:42
 slice-aggregate-plan-by-4 : tie.Need-slice-aggregate-plan-by-4
 slice-aggregate-plan-by-4 c = search needs
 
--- src/entry.rt:119:9
 plan-by-requires-2 : tie.Need-plan-by-requires-2
 plan-by-requires-2 c κs = lent-short _ (c .before .before .before .if2 .taken)
 
--- src/entry.rt:119:9
 same-length-2 : tie.Need-same-length-2
 same-length-2 c = search needs
 
--- src/entry.rt:119:9
 returns-2 : tie.Need-returns-2
 returns-2 c = search needs
 
--- src/entry.rt:123:19
 slice-aggregate-plan-by-5 : tie.Need-slice-aggregate-plan-by-5
 slice-aggregate-plan-by-5 c = search needs
 
--- src/entry.rt:123:31
 slice-aggregate-plan-by-6 : tie.Need-slice-aggregate-plan-by-6
 slice-aggregate-plan-by-6 c = search needs
 
--- src/entry.rt:123:5
 plan-by-requires-3 : tie.Need-plan-by-requires-3
 plan-by-requires-3 c κs = lent-long _
 
--- src/entry.rt:108:1
 same-length-3 : tie.Need-same-length-3
 same-length-3 c = search needs
 
--- src/entry.rt:108:1
 returns-3 : tie.Need-returns-3
 returns-3 c = search needs
 

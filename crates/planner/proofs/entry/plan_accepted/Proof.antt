@@ -18,20 +18,14 @@ slice-aggregate-find-order c = search needs
 slice-aggregate-find-order-2 : tie.Need-slice-aggregate-find-order-2
 slice-aggregate-find-order-2 c = search needs
 
-slice-aggregate-find-order-3 : tie.Need-slice-aggregate-find-order-3
-slice-aggregate-find-order-3 c = search needs
-
 find-order-requires : tie.Need-find-order-requires
-find-order-requires c κs = (c .before .before .before .before .before .before .before .before .before .pre .0, (c .before .before .before .before .atom-places .ensures, (refl, (refl, c .before .before .before .before .before .before .before .before .before .pre .1))))
+find-order-requires c κs = (c .before .before .before .before .before .before .before .before .pre .0, (c .before .before .before .atom-places .ensures, c .before .before .before .before .before .before .before .before .pre .1))
 
 slice-aggregate-plan-in-order : tie.Need-slice-aggregate-plan-in-order
 slice-aggregate-plan-in-order c = search needs
 
-slice-aggregate-plan-in-order-2 : tie.Need-slice-aggregate-plan-in-order-2
-slice-aggregate-plan-in-order-2 c = search needs
-
 plan-in-order-requires : tie.Need-plan-in-order-requires
-plan-in-order-requires c κs = (c .before .before .before .before .before .before .before .before .before .before .before .before .before .before .before .pre .0, (c .before .before .before .before .before .before .before .before .before .before .atom-places .ensures, (rounds-enough _ _ _ (places-located _ _ _ (c .before .before .before .before .before .before .before .before .before .before .before .before .before .before .before .pre .0) (c .before .before .before .before .before .before .before .before .before .before .atom-places .ensures)) _ _ _ (c .before .before .before .before .before .find-order .ensures), c .before .before .before .before .order2 .given)))
+plan-in-order-requires c κs = (c .before .before .before .before .before .before .before .before .before .before .before .before .pre .0, (c .before .before .before .before .before .before .before .atom-places .ensures, rounds-enough _ _ _ (places-located _ _ _ (c .before .before .before .before .before .before .before .before .before .before .before .before .pre .0) (c .before .before .before .before .before .before .before .atom-places .ensures)) _ _ (c .before .before .before .find-order .ensures)))
 
 same-length : tie.Need-same-length
 same-length c = search needs
@@ -47,10 +41,8 @@ plan-accepted-spec =
     atom-places-requires
     slice-aggregate-find-order
     slice-aggregate-find-order-2
-    slice-aggregate-find-order-3
     find-order-requires
     slice-aggregate-plan-in-order
-    slice-aggregate-plan-in-order-2
     plan-in-order-requires
     same-length
     returns)

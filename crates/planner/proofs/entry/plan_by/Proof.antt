@@ -1,66 +1,48 @@
+-- `planner::entry::plan_by` meets its contract.
 use Rattle.planner.proofs.EntryLaws.{read-within, read-fits, read-sheet, read-index, accepts, planned-back, planned-whole}
 use borrow.Author.Needs.{needs}
 use Rattle.planner.proofs.entry.plan_by.Statement.{statement}
 use Rattle.planner.proofs.entry.plan_by.Tie as tie
-use Rattle.planner.proofs.entry.plan_by.Reads as reads
-use Rattle.planner.proofs.entry.plan_by.Lts as lts
-use Rattle.frames.proofs.first.sheet_size.Reads as sheet-size-reads
-use Rattle.planner.proofs.entry.plan_accepted.Reads as plan-accepted-reads
-use Rattle.reading.proofs.second.read_indexed.Reads as read-indexed-reads
 
--- src/entry.rt:98:11
 read-indexed-requires : tie.Need-read-indexed-requires
 read-indexed-requires c κs = search needs
 
--- src/entry.rt:99:26
 enum-known-k : tie.Need-enum-known-k
 enum-known-k c = search needs
 
--- src/entry.rt:100:27
 enum-known-lines : tie.Need-enum-known-lines
 enum-known-lines c = search needs
 
--- src/entry.rt:101:17
 sheet-size-requires : tie.Need-sheet-size-requires
 sheet-size-requires c κs = search needs
 
--- src/entry.rt:102:27
 slice-reshare-prefix-plan-accepted : tie.Need-slice-reshare-prefix-plan-accepted
 slice-reshare-prefix-plan-accepted c = read-within _ _ _ _ _ (c .before .before .before .before .before .before .before .before .read-indexed .ensures) _ _ (c .before .before .lines .given .1) _ (c .sheet-size .ensures)
 
--- src/entry.rt:102:27
 slice-aggregate-plan-accepted : tie.Need-slice-aggregate-plan-accepted
 slice-aggregate-plan-accepted c = read-fits _ _ _ _ _ (c .before .before .before .before .before .before .before .before .before .read-indexed .ensures) _ _ (c .before .before .before .lines .given .1) _ (c .before .sheet-size .ensures)
 
--- src/entry.rt:102:13
 plan-accepted-requires : tie.Need-plan-accepted-requires
 plan-accepted-requires c κs = (accepts _ (c .before .before .before .before .before .before .before .before .before .before .before .before .before .before .before .before .before .before .args .text .now) _ (c .before .before .before .before .before .before .before .before .before .before .before .read-indexed .ensures .is) _ _ (c .before .before .before .before .before .lines .given .1) _ (read-sheet _ _ _ _ _ (c .before .before .before .before .before .before .before .before .before .before .before .read-indexed .ensures) _ _ (c .before .before .before .before .before .lines .given .1) _ (c .before .before .before .sheet-size .ensures)), read-index _ _ _ _ _ (c .before .before .before .before .before .before .before .before .before .before .before .read-indexed .ensures) _ _ (c .before .before .before .before .before .lines .given .1) _ (c .before .before .before .sheet-size .ensures))
 
--- src/entry.rt:94:1
 same-length : tie.Need-same-length
 same-length c = search needs
 
--- src/entry.rt:94:1
 same-length-2 : tie.Need-same-length-2
 same-length-2 c = search needs
 
--- src/entry.rt:94:1
 returns : tie.Need-returns
 returns c = planned-back _ _ _ (c .before .before .before .before .before .before .before .read-indexed .ensures .is) _ _ (c .before .k .given .1)
 
--- src/entry.rt:94:1
 same-length-3 : tie.Need-same-length-3
 same-length-3 c = search needs
 
--- src/entry.rt:94:1
 same-length-4 : tie.Need-same-length-4
 same-length-4 c = search needs
 
--- src/entry.rt:94:1
 same-length-5 : tie.Need-same-length-5
 same-length-5 c = search needs
 
--- src/entry.rt:94:1
 returns-2 : tie.Need-returns-2
 returns-2 c = planned-whole _ _ _ (c .before .before .before .before .before .before .before .before .before .before .before .before .before .before .read-indexed .ensures .is) _ _ (c .before .before .before .before .before .before .before .before .lines .given .1) _ (read-sheet _ _ _ _ _ (c .before .before .before .before .before .before .before .before .before .before .before .before .before .before .read-indexed .ensures) _ _ (c .before .before .before .before .before .before .before .before .lines .given .1) _ (c .before .before .before .before .before .before .sheet-size .ensures)) _ (c .before .before .plan-accepted .ensures)
 

@@ -19,11 +19,8 @@ slice-aggregate-find-order c = search needs
 slice-aggregate-find-order-2 : tie.Need-slice-aggregate-find-order-2
 slice-aggregate-find-order-2 c = search needs
 
-slice-aggregate-find-order-3 : tie.Need-slice-aggregate-find-order-3
-slice-aggregate-find-order-3 c = search needs
-
 find-order-requires : tie.Need-find-order-requires
-find-order-requires c κs = (c .before .before .before .before .before .before .before .before .before .pre .0, (c .before .before .before .before .atom-places .ensures, (refl, (refl, c .before .before .before .before .before .before .before .before .before .pre .1))))
+find-order-requires c κs = (c .before .before .before .before .before .before .before .before .pre .0, (c .before .before .before .atom-places .ensures, c .before .before .before .before .before .before .before .before .pre .1))
 
 slice-aggregate-put-costs : tie.Need-slice-aggregate-put-costs
 slice-aggregate-put-costs c = search needs
@@ -35,19 +32,19 @@ same-length : tie.Need-same-length
 same-length c = search needs
 
 returns : tie.Need-returns
-returns c = told-ended _ _ _ _ _ (c .before .before .before .before .before .before .before .before .before .find-order .ensures) _ _ (c .before .before .before .before .before .if1 .taken) (c .before .before .put-costs .ensures)
+returns c = told-ended _ _ _ _ (c .before .before .before .before .before .before .before .before .find-order .ensures) _ _ (c .before .before .before .before .before .if1 .taken) (c .before .before .put-costs .ensures)
 
 slice-aggregate-put-costs-2 : tie.Need-slice-aggregate-put-costs-2
 slice-aggregate-put-costs-2 c = search needs
 
 put-costs-requires-2 : tie.Need-put-costs-requires-2
-put-costs-requires-2 c κs = omega (arith, (places-located _ _ _ (c .before .before .before .before .before .before .before .before .before .before .before .before .before .before .before .before .pre .0) (c .before .before .before .before .before .before .before .before .before .before .before .atom-places .ensures)) .few, c .before .before .before .before .costs2 .given)
+put-costs-requires-2 c κs = omega (arith, (places-located _ _ _ (c .before .before .before .before .before .before .before .before .before .before .before .before .before .before .pre .0) (c .before .before .before .before .before .before .before .before .before .atom-places .ensures)) .few, c .before .before .before .before .costs2 .given)
 
 same-length-2 : tie.Need-same-length-2
 same-length-2 c = search needs
 
 returns-2 : tie.Need-returns-2
-returns-2 c = told-chosen _ _ _ _ _ (c .before .before .before .before .before .before .before .before .before .find-order .ensures) _ _ _ ((places-located _ _ _ (c .before .before .before .before .before .before .before .before .before .before .before .before .before .before .before .before .before .before .before .pre .0) (c .before .before .before .before .before .before .before .before .before .before .before .before .before .before .atom-places .ensures)) .count) (c .before .before .before .before .before .if1 .left) (c .before .before .put-costs2 .ensures)
+returns-2 c = told-chosen _ _ _ _ (c .before .before .before .before .before .before .before .before .find-order .ensures) _ _ _ ((places-located _ _ _ (c .before .before .before .before .before .before .before .before .before .before .before .before .before .before .before .before .before .pre .0) (c .before .before .before .before .before .before .before .before .before .before .before .before .atom-places .ensures)) .count) (omega (arith, (places-located _ _ _ (c .before .before .before .before .before .before .before .before .before .before .before .before .before .before .before .before .before .pre .0) (c .before .before .before .before .before .before .before .before .before .before .before .before .atom-places .ensures)) .few, c .before .before .before .before .before .before .before .costs2 .given)) (c .before .before .before .before .before .if1 .left) (c .before .before .put-costs2 .ensures)
 
 pub costs-accepted-spec : {M : Type 1} → statement M
 costs-accepted-spec =
@@ -57,7 +54,6 @@ costs-accepted-spec =
     atom-places-requires
     slice-aggregate-find-order
     slice-aggregate-find-order-2
-    slice-aggregate-find-order-3
     find-order-requires
     slice-aggregate-put-costs
     put-costs-requires

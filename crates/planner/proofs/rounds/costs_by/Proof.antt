@@ -1,67 +1,49 @@
+-- `planner::rounds::costs_by` meets its contract.
 use Rattle.planner.proofs.EntryLaws.{read-within, read-fits, read-sheet, read-index, accepts}
 use Rattle.planner.proofs.CostLaws.{costs-back, costs-whole}
 use borrow.Author.Needs.{needs}
 use Rattle.planner.proofs.rounds.costs_by.Statement.{statement}
 use Rattle.planner.proofs.rounds.costs_by.Tie as tie
-use Rattle.planner.proofs.rounds.costs_by.Reads as reads
-use Rattle.planner.proofs.rounds.costs_by.Lts as lts
-use Rattle.frames.proofs.first.sheet_size.Reads as sheet-size-reads
-use Rattle.planner.proofs.rounds.costs_accepted.Reads as costs-accepted-reads
-use Rattle.reading.proofs.second.read_indexed.Reads as read-indexed-reads
 
--- src/rounds.rt:101:11
 read-indexed-requires : tie.Need-read-indexed-requires
 read-indexed-requires c κs = search needs
 
--- src/rounds.rt:102:26
 enum-known-k : tie.Need-enum-known-k
 enum-known-k c = search needs
 
--- src/rounds.rt:103:27
 enum-known-lines : tie.Need-enum-known-lines
 enum-known-lines c = search needs
 
--- src/rounds.rt:104:17
 sheet-size-requires : tie.Need-sheet-size-requires
 sheet-size-requires c κs = search needs
 
--- src/rounds.rt:105:28
 slice-reshare-prefix-costs-accepted : tie.Need-slice-reshare-prefix-costs-accepted
 slice-reshare-prefix-costs-accepted c = read-within _ _ _ _ _ (c .before .before .before .before .before .before .before .before .read-indexed .ensures) _ _ (c .before .before .lines .given .1) _ (c .sheet-size .ensures)
 
--- src/rounds.rt:105:28
 slice-aggregate-costs-accepted : tie.Need-slice-aggregate-costs-accepted
 slice-aggregate-costs-accepted c = read-fits _ _ _ _ _ (c .before .before .before .before .before .before .before .before .before .read-indexed .ensures) _ _ (c .before .before .before .lines .given .1) _ (c .before .sheet-size .ensures)
 
--- src/rounds.rt:105:13
 costs-accepted-requires : tie.Need-costs-accepted-requires
 costs-accepted-requires c κs = (accepts _ (c .before .before .before .before .before .before .before .before .before .before .before .before .before .before .before .before .before .before .args .text .now) _ (c .before .before .before .before .before .before .before .before .before .before .before .read-indexed .ensures .is) _ _ (c .before .before .before .before .before .lines .given .1) _ (read-sheet _ _ _ _ _ (c .before .before .before .before .before .before .before .before .before .before .before .read-indexed .ensures) _ _ (c .before .before .before .before .before .lines .given .1) _ (c .before .before .before .sheet-size .ensures)), read-index _ _ _ _ _ (c .before .before .before .before .before .before .before .before .before .before .before .read-indexed .ensures) _ _ (c .before .before .before .before .before .lines .given .1) _ (c .before .before .before .sheet-size .ensures))
 
--- src/rounds.rt:91:1
 same-length : tie.Need-same-length
 same-length c = search needs
 
--- src/rounds.rt:91:1
 same-length-2 : tie.Need-same-length-2
 same-length-2 c = search needs
 
--- src/rounds.rt:91:1
 returns : tie.Need-returns
 returns c = costs-back _ _ _ _ (c .before .before .before .before .before .before .before .read-indexed .ensures .is) _ _ (c .before .k .given .1)
 
--- src/rounds.rt:91:1
 same-length-3 : tie.Need-same-length-3
 same-length-3 c = search needs
 
--- src/rounds.rt:91:1
 same-length-4 : tie.Need-same-length-4
 same-length-4 c = search needs
 
--- src/rounds.rt:91:1
 same-length-5 : tie.Need-same-length-5
 same-length-5 c = search needs
 
--- src/rounds.rt:91:1
 returns-2 : tie.Need-returns-2
 returns-2 c = costs-whole _ _ _ _ (c .before .before .before .before .before .before .before .before .before .before .before .before .before .before .read-indexed .ensures .is) _ _ (c .before .before .before .before .before .before .before .before .lines .given .1) _ (read-sheet _ _ _ _ _ (c .before .before .before .before .before .before .before .before .before .before .before .before .before .before .read-indexed .ensures) _ _ (c .before .before .before .before .before .before .before .before .lines .given .1) _ (c .before .before .before .before .before .before .sheet-size .ensures)) _ (c .before .before .costs-accepted .ensures)
 

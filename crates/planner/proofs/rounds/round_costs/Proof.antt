@@ -1,68 +1,51 @@
+-- `planner::rounds::round_costs` meets its contract.
 use Rattle.reading.specs.IndexedReading.{lent-tiny, lent-short, lent-long}
 use borrow.Author.Needs.{needs}
 use Rattle.planner.proofs.rounds.round_costs.Statement.{statement}
 use Rattle.planner.proofs.rounds.round_costs.Tie as tie
-use Rattle.planner.proofs.rounds.round_costs.Reads as reads
-use Rattle.planner.proofs.rounds.round_costs.Lts as lts
-use Rattle.planner.proofs.rounds.costs_by.Reads as costs-by-reads
 
--- src/rounds.rt:117:31
 slice-aggregate-costs-by : tie.Need-slice-aggregate-costs-by
 slice-aggregate-costs-by c = search needs
 
--- src/rounds.rt:117:43
 slice-aggregate-costs-by-2 : tie.Need-slice-aggregate-costs-by-2
 slice-aggregate-costs-by-2 c = search needs
 
--- src/rounds.rt:117:9
 costs-by-requires : tie.Need-costs-by-requires
 costs-by-requires c κs = lent-tiny _ (c .before .before .before .if1 .taken)
 
--- src/rounds.rt:117:9
 same-length : tie.Need-same-length
 same-length c = search needs
 
--- src/rounds.rt:117:9
 returns : tie.Need-returns
 returns c = search needs
 
--- src/rounds.rt:122:31
 slice-aggregate-costs-by-3 : tie.Need-slice-aggregate-costs-by-3
 slice-aggregate-costs-by-3 c = search needs
 
--- src/rounds.rt:122:43
 slice-aggregate-costs-by-4 : tie.Need-slice-aggregate-costs-by-4
 slice-aggregate-costs-by-4 c = search needs
 
--- src/rounds.rt:122:9
 costs-by-requires-2 : tie.Need-costs-by-requires-2
 costs-by-requires-2 c κs = lent-short _ (c .before .before .before .if2 .taken)
 
--- src/rounds.rt:122:9
 same-length-2 : tie.Need-same-length-2
 same-length-2 c = search needs
 
--- src/rounds.rt:122:9
 returns-2 : tie.Need-returns-2
 returns-2 c = search needs
 
--- src/rounds.rt:126:20
 slice-aggregate-costs-by-5 : tie.Need-slice-aggregate-costs-by-5
 slice-aggregate-costs-by-5 c = search needs
 
--- src/rounds.rt:126:32
 slice-aggregate-costs-by-6 : tie.Need-slice-aggregate-costs-by-6
 slice-aggregate-costs-by-6 c = search needs
 
--- src/rounds.rt:126:5
 costs-by-requires-3 : tie.Need-costs-by-requires-3
 costs-by-requires-3 c κs = lent-long _
 
--- src/rounds.rt:111:1
 same-length-3 : tie.Need-same-length-3
 same-length-3 c = search needs
 
--- src/rounds.rt:111:1
 returns-3 : tie.Need-returns-3
 returns-3 c = search needs
 
