@@ -9,7 +9,7 @@ use Rattle.hex.specs.Digits.{bytesOf}
 use Rattle.hex.specs.Lines.{lineAt}
 use Rattle.frames.specs.First.{first-line}
 use Rattle.running.specs.Run.{Replies}
-use Rattle.writing.specs.Written.{written, Puts}
+use Rattle.output.specs.Written.{written, Puts}
 use Rattle.runner.specs.Entries.{textIn}
 use Rattle.runner.specs.Envs.{envOf}
 use Rattle.runner.specs.MatchLines.{textBy}

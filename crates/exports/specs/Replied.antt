@@ -5,7 +5,7 @@ use mathlib.Core.List.{List}
 use lib.Dec.{ltb}
 use lib.ListN.{length}
 use Rattle.base.specs.Choose.{pick}
-use Rattle.writing.specs.Written.{written}
+use Rattle.output.specs.Written.{written}
 use Rattle.running.specs.Run.{lineText, Reply, Rejected, Match, None, Exhausted, Replies}
 use Rattle.exports.specs.Runs.{packedRefusal}
 

@@ -44,8 +44,8 @@ use Rattle.pricing.specs.Remembering.{Samples}
 use Rattle.scheduling.specs.Rounds.{Scheduling}
 use Rattle.scheduling.specs.declared.schedule.Scheduled.{Scheduled}
 use Rattle.writing.specs.Steps.{stepsAlong, countAlong, lowered-steps, lowered-count, Ordered, PutsSteps}
-use Rattle.writing.specs.Written.{written, PutsFrames}
-use Rattle.writing.proofs.PutLaws.{frames-then}
+use Rattle.output.specs.Written.{written, PutsFrames}
+use Rattle.output.proofs.PutLaws.{frames-then}
 use Rattle.planner.specs.Planner.{Plan, Result, stepsOf, talliedOf, rejectedOf, planOf, fitted, plan}
 use Rattle.planner.specs.Promised.{read-back}
 use Rattle.planner.specs.Entry.{planOn, resultOf, Accepts}

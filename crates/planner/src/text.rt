@@ -11,7 +11,7 @@ ghost use Rattle.plans.specs.PlanText.{textLength};
 ghost use Rattle.plans.specs.StepFrames.{frameOf, headerOf};
 ghost use Rattle.lowering.specs.Eager.{Located, atomsOf};
 ghost use Rattle.writing.specs.Steps.{Ordered, stepsAlong};
-ghost use Rattle.writing.specs.Written.{PutsFrames};
+ghost use Rattle.output.specs.Written.{PutsFrames};
 use frames::first::Text;
 use reading::second::counts_of;
 use writing::lines::header;

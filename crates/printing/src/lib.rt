@@ -1,11 +1,9 @@
 // What the programs share: room for a text, and answers on standard output.
 use entries::run::Outcome;
+use output::bytes::put_end;
+use output::bytes::put_first;
+use output::bytes::put_word;
 use planner::entry::Planned;
-use writing::bytes::put_end;
-use writing::bytes::put_four;
-use writing::bytes::put_word;
-use writing::lines::line_of_five;
-use writing::lines::line_of_four;
 
 // Room for a text: one byte more than it may have, so that a longer text is seen to be too long.
 pub const TEXT_ROOM: usize = 65537;
@@ -15,7 +13,8 @@ pub fn print_refusal(number: u8, line: usize) {
     let mut out = [0u8; 9];
     let high = (line / 256 % 256) as u8;
     let low = (line % 256) as u8;
-    let _ = line_of_four(&mut out, 0, 0xff, number, high, low);
+    let i = put_first(&mut out, 0, &[0xff, number, high, low], 4);
+    let _ = put_end(&mut out, i);
     io::write_all(1, &out);
 }
 
@@ -44,7 +43,7 @@ fn low(x: u64) -> u32 {
 // The end of a run: the line 51 0000 status(1) tries(8) matches(4).
 fn print_end(status: u8, tries: u64, matches: u64) {
     let mut out = [0u8; 33];
-    let a = put_four(&mut out, 0, 0x51, 0, 0, status);
+    let a = put_first(&mut out, 0, &[0x51, 0, 0, status], 4);
     let b = put_word(&mut out, a, high(tries));
     let c = put_word(&mut out, b, low(tries));
     let d = put_word(&mut out, c, low(matches));
@@ -57,7 +56,8 @@ fn print_turned(number: u8, text: u8, line: usize) {
     let mut out = [0u8; 11];
     let high = (line / 256 % 256) as u8;
     let low = (line % 256) as u8;
-    let _ = line_of_five(&mut out, 0, 0xff, number, high, low, text);
+    let i = put_first(&mut out, 0, &[0xff, number, high, low, text], 5);
+    let _ = put_end(&mut out, i);
     io::write_all(1, &out);
 }
 

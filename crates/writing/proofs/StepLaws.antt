@@ -16,10 +16,11 @@ use Rattle.plans.specs.PlanText.{textOf}
 use Rattle.plans.specs.StepFrames.{frameOf}
 use Rattle.lowering.specs.AtomLines.{AtomLine, boundBehind}
 use Rattle.lowering.specs.Eager.{atomsOf, Located}
-use Rattle.writing.specs.Written.{PutsFrames}
-use Rattle.writing.specs.Emitting.{stepsOf, Emits, Emittable}
+use Rattle.output.specs.Written.{PutsFrames}
+use Rattle.output.proofs.PutLaws.{written-size, frames-none, frames-then}
+use Rattle.step_bytes.specs.Begun.{stepsOf}
+use Rattle.emitting.specs.Emitting.{Emits, Emittable}
 use Rattle.writing.specs.Steps.{stepsAlong, stepCount, countAlong, Ordered, PutsSteps}
-use Rattle.writing.proofs.PutLaws.{written-size, frames-none, frames-then}
 
 -- ---- one atom of the order
 

@@ -14,8 +14,9 @@ use Rattle.model.specs.Scheduling.{atomOf}
 use Rattle.plans.specs.StepFrames.{frameOf}
 use Rattle.lowering.specs.AtomLines.{boundBehind}
 use Rattle.lowering.specs.Eager.{atomsOf}
-use Rattle.writing.specs.Emitting.{stepsOf, Emittable}
-use Rattle.writing.specs.Written.{PutsFrames}
+use Rattle.output.specs.Written.{PutsFrames}
+use Rattle.step_bytes.specs.Begun.{stepsOf}
+use Rattle.emitting.specs.Emitting.{Emittable}
 
 -- what the atoms ks become in turn, from what B binds
 unfoldable pub stepsAlong : (ℕ → Atom) → Bound → List ℕ → List Step

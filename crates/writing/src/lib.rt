@@ -1,11 +1,3 @@
-// The plan's sheet, written into a lent output where there is room; the next place is told always.
-pub mod atom;
-pub mod bytes;
-pub mod children;
-pub mod collections;
-pub mod emit;
-pub mod items;
-pub mod join;
+// The plan's text, written into a lent output where there is room: the header, and the steps of the atoms in an order; the next place is told always.
 pub mod lines;
-pub mod lookups;
 pub mod steps;

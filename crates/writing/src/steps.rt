@@ -1,14 +1,17 @@
 // The steps of the atoms of a sheet, in an order: as lines, and how many they are.
 ghost use mathlib.Core.Path.{_≡_};
-ghost use Prim.Native.Nat.{_<_, _≤_};
+ghost use Prim.Native.Nat.{_+_, _<_, _≤_};
 ghost use lib.ListN.{length, take};
 ghost use Rattle.model.specs.Bound.{most};
 ghost use Rattle.model.specs.Scheduling.{atomOf};
+ghost use Rattle.cost.specs.QueryAtoms.{atomOfFrame};
+ghost use Rattle.lowering.specs.AtomLines.{AtomLine};
 ghost use Rattle.lowering.specs.Eager.{atomsOf, Located};
-ghost use Rattle.writing.specs.Steps.{countAlong, Ordered, PutsSteps};
-use super::atom::emit_atom;
-use super::atom::steps_of;
+ghost use Rattle.writing.specs.Steps.{stepCount, countAlong, Ordered, PutsSteps};
+use emitting::atom::emit_atom;
 use frames::fields::wide;
+use frames::frame::items_of;
+use hex::byte_at;
 use lowering::eager::atom_line;
 
 // The lines of the first `count` atoms of the order.
@@ -37,6 +40,24 @@ pub fn write_steps(
         c += 1;
     }
     next
+}
+
+// How many steps an atom becomes where it lowers: with a Join, one step more, of a Plain one for each child.
+fn steps_of(frame: &[u8]) -> usize
+    requires { ⌜ AtomLine (now frame) ⌝ }
+    ensures { λ r. ⌜ (r ≡ stepCount (atomOfFrame (now (frame .entry)))) × (r ≤ 256) ⌝ }
+{
+    let kind = byte_at(frame, 0);
+    if kind == 1 {
+        return items_of(frame) + 1;
+    }
+    if kind < 4 {
+        return 2;
+    }
+    if kind < 7 {
+        return 1;
+    }
+    2
 }
 
 // How many steps they are, if each atom lowers in its turn.

@@ -1,17 +1,17 @@
--- `writing::lines::header` meets its contract: the bytes, then the end.
-use Rattle.writing.proofs.PutLaws.{header-put}
+-- `writing::lines::header` meets its contract: its bytes are a whole frame.
+use Rattle.writing.proofs.LineLaws.{header-fits, header-put}
 use borrow.Author.Needs.{needs}
 use Rattle.writing.proofs.lines.header.Statement.{statement}
 use Rattle.writing.proofs.lines.header.Tie as tie
 
-put-four-requires : tie.Need-put-four-requires
-put-four-requires c κs = search needs
+header-bytes-requires : tie.Need-header-bytes-requires
+header-bytes-requires c κs = search needs
 
-put-shorts-requires : tie.Need-put-shorts-requires
-put-shorts-requires c κs = search needs
+slice-aggregate-put-frame : tie.Need-slice-aggregate-put-frame
+slice-aggregate-put-frame c = search needs
 
-put-end-requires : tie.Need-put-end-requires
-put-end-requires c κs = search needs
+put-frame-requires : tie.Need-put-frame-requires
+put-frame-requires c κs = (search header-fits, search needs)
 
 same-length : tie.Need-same-length
 same-length c = search needs
@@ -21,4 +21,10 @@ returns c = search header-put
 
 pub header-spec : {M : Type 1} → statement M
 header-spec =
-    tie.close (tie.spec put-four-requires put-shorts-requires put-end-requires same-length returns)
+    tie.close
+    (tie.spec
+    header-bytes-requires
+    slice-aggregate-put-frame
+    put-frame-requires
+    same-length
+    returns)

@@ -1,0 +1,96 @@
+// Bytes as digits, and the end of a line.
+ghost use mathlib.Core.Path.{_≡_};
+ghost use mathlib.Core.List.{[], _∷_};
+ghost use Prim.Native.Nat.{ℕ, _+_, _*_, _/_, _%_, _<_, _≤_};
+ghost use lib.ListN.{length, getD, take};
+ghost use Rattle.hex.specs.Digits.{hexDigit};
+ghost use Rattle.model.specs.Limits.{lineEnd};
+ghost use Rattle.plans.specs.StepFrames.{wordBytes};
+ghost use Rattle.output.specs.Written.{Puts, PutsBytes};
+use hex::hex_digit;
+
+pub fn put_end(out: &mut [u8], at: usize) -> usize
+    requires { ⌜ at < 0x8000_0000 ⌝ }
+    ensures { λ r. ⌜ Puts (now (out .entry)) at (lineEnd ∷ []) (now (out .exit)) r ⌝ }
+{
+    if at < out.len() {
+        out[at] = 10;
+        return at + 1;
+    }
+    at + 1
+}
+
+// The two digits of a byte. The room is tested once where there is enough.
+pub fn put_byte(out: &mut [u8], at: usize, b: u8) -> usize
+    requires { ⌜ at < 0x7000_0000 ⌝ }
+    ensures { λ r. ⌜ PutsBytes (now (out .entry)) at (b ∷ []) (now (out .exit)) r ⌝ }
+{
+    let high = hex_digit(b / 16);
+    let low = hex_digit(b);
+    if at + 1 < out.len() {
+        out[at] = high;
+        out[at + 1] = low;
+        return at + 2;
+    }
+    if at < out.len() {
+        out[at] = high;
+        return at + 2;
+    }
+    at + 2
+}
+
+// The digits of the first n bytes. Where there is no room nothing is read.
+pub fn put_first(out: &mut [u8], at: usize, bytes: &[u8], n: usize) -> usize
+    requires { ⌜ n ≤ length (now bytes) ⌝ }
+    requires { ⌜ n < 0x1_0000 ⌝ }
+    requires { ⌜ at < 0x6000_0000 ⌝ }
+    ensures { λ r. ⌜ PutsBytes (now (out .entry)) at (take n (now (bytes .entry))) (now (out .exit)) r ⌝ }
+{
+    if out.len() <= at {
+        return at + 2 * n;
+    }
+    let mut to = at;
+    let mut i: usize = 0;
+    while i < n {
+        to = put_byte(out, to, bytes[i]);
+        i += 1;
+    }
+    to
+}
+
+fn low_byte(x: u32) -> u8
+    ensures { λ r. ⌜ r ≡ x % 0x100 ⌝ }
+{
+    (x % 0x100) as u8
+}
+
+// A number of four bytes, the highest first.
+pub fn put_word(out: &mut [u8], at: usize, x: u32) -> usize
+    requires { ⌜ at < 0x4000_0000 ⌝ }
+    ensures { λ r. ⌜ PutsBytes (now (out .entry)) at (wordBytes x) (now (out .exit)) r ⌝ }
+{
+    let a = low_byte(x / 0x100_0000);
+    let b = low_byte(x / 0x1_0000);
+    let c = low_byte(x / 0x100);
+    put_first(out, at, &[a, b, c, low_byte(x)], 4)
+}
+
+pub fn high_of(x: u16) -> u8
+    ensures { λ r. ⌜ r ≡ x / 0x100 ⌝ }
+{
+    (x / 0x100) as u8
+}
+
+pub fn low_of(x: u16) -> u8
+    ensures { λ r. ⌜ r ≡ x % 0x100 ⌝ }
+{
+    (x % 0x100) as u8
+}
+
+// A number of two bytes, the higher first.
+pub fn put_short(out: &mut [u8], at: usize, x: u16) -> usize
+    requires { ⌜ at < 0x4000_0000 ⌝ }
+    ensures { λ r. ⌜ PutsBytes (now (out .entry)) at (x / 0x100 ∷ x % 0x100 ∷ []) (now (out .exit)) r ⌝ }
+{
+    put_first(out, at, &[high_of(x), low_of(x)], 2)
+}
