@@ -36,17 +36,6 @@ abbrev pub lineOf : Text → Reading → ℕ
 lineOf t (Accepted n c) = 0
 lineOf t (Refused k l) = l
 
--- ---- a text is refused by at most one number and line, and never accepted besides
-
-pub refused-once : (t : Text) (x : List ℕ) (k l k′ l′ : ℕ) → reading t x ≡ Refused k l → reading t x ≡ Refused k′ l′ → (k ≡ k′) × (l ≡ l′)
-refused-once t x k l k′ l′ p q = (cc, cc)
-
-pub accepted-once : (t : Text) (x : List ℕ) (n c n′ c′ : ℕ) → reading t x ≡ Accepted n c → reading t x ≡ Accepted n′ c′ → (n ≡ n′) × (c ≡ c′)
-accepted-once t x n c n′ c′ p q = (cc, cc)
-
-pub never-both : (t : Text) (x : List ℕ) (n c k l : ℕ) → reading t x ≡ Accepted n c → reading t x ≡ Refused k l → ⊥
-never-both t x n c k l p q = let z : _≡_ {A = ℕ} 0 1 = cc in omega arith
-
 -- ---- "line 0 for an empty query or plan (2), a text too long (4)"
 
 pub too-long : (t : Text) (x : List ℕ) → textMost < length x → reading t x ≡ Refused 4 0
