@@ -2,11 +2,12 @@
 """The reading of query, plan and table texts, modelled from the words of document 01 and not from the code, and the cases of reading that
 the program replay runs. Where the document leaves room, the readings are those of docs/DECISIONS.md.
 
-    tests/read_texts.py DIR              writes reading.in and reading.out; the seed is fixed, so the same files come out
+    tests/read_texts.py DIR              writes reading.in and .out, refused.in and .out; the seed is fixed, so the same files come out
     tests/read_texts.py --against FILE.. compares the model with the cases of other files (JSON lines; texts in base64)
 
 A case is a line of stdin: two digits of the text (00 query, 01 plan, 02 table), then two digits for each of its bytes. Its answer is the
 line of stdout at the same place: `accepted LINES COUNTED`, counted being the query's atoms or the table's rows, or `refused NUMBER LINE`.
+Some of the refused queries are planned too: 03 and the query, answered by the line ff number line(2).
 """
 import base64, json, math, random, struct, sys
 from pathlib import Path
@@ -457,6 +458,17 @@ def all_cases():
                 seen.add(case)
                 yield case
 
+def refused_queries(cases, answers):
+    """For each number and each kind of line that it is told of, the first of the refused queries; and one told of a line above 255."""
+    chosen = {}
+    for (text, x), (told, number, line) in zip(cases, answers):
+        if text == QUERY and told == 'refused':
+            kind = x.split(b'\n')[line - 1][:2] if line else b''
+            chosen.setdefault((number, kind), x)
+    many = [bytes([0x22]) + i.to_bytes(2, 'big') + bytes(3) for i in range(700)]
+    queries = [*chosen.values(), build(QUERY, many + many[:1])]
+    return [(x, *read(QUERY, x)[1:]) for x in queries]
+
 # ---- what is written and compared
 
 def write():
@@ -466,11 +478,14 @@ def write():
     answers = [read(text, x) for text, x in cases]
     (folder / 'reading.in').write_text(''.join(codes[text] + x.hex() + '\n' for text, x in cases))
     (folder / 'reading.out').write_text(''.join('%s %d %d\n' % a for a in answers))
+    refused = refused_queries(cases, answers)
+    (folder / 'refused.in').write_text(''.join('03%s\n' % x.hex() for x, _, _ in refused))
+    (folder / 'refused.out').write_text(''.join('ff%02x%04x\n' % (number, line) for _, number, line in refused))
     tally = {}
     for (text, _), a in zip(cases, answers):
         k = (text, a[1] if a[0] == 'refused' else 0)
         tally[k] = tally.get(k, 0) + 1
-    print(len(cases), 'cases;', ', '.join('%s %d: %d' % (*k, v) for k, v in sorted(tally.items())))
+    print(len(cases), 'cases,', len(refused), 'refused queries planned too;', ', '.join('%s %d: %d' % (*k, v) for k, v in sorted(tally.items())))
 
 def against(file):
     wrong = compared = 0

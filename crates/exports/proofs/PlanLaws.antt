@@ -1,21 +1,32 @@
 -- The planner's answer as one number. Proved by what the answer is.
-use Prim.Native.Nat.{ℕ, _+_, _*_, _%_}
-use mathlib.Core.Path.{_≡_, ap, _∙_, sym}
+use Prim.Native.Nat.{ℕ, zero, suc, _+_, _*_, _%_, _≤_}
+use mathlib.Core.Path.{_≡_, refl, ap, _∙_, sym}
 use mathlib.Core.List.{List}
-use Rattle.planner.specs.Planner.{Answer, Written, TurnedBack, Result, plan}
+use native.Mathlib.Omega.{arith}
+use borrow.Author.Tests.{ne-eqb}
+use Rattle.planner.specs.Planner.{Answer, Result, plan}
 use Rattle.planner.specs.Entry.{answerOf, resultOf}
 use Rattle.planner.specs.declared.entry.Planned.{Planned}
-use Rattle.planner.specs.declared.entry.Planned.the-variants.{Written as Wrote, Refused}
-use Rattle.exports.specs.Plans.{packedAnswer}
+use Rattle.planner.specs.declared.entry.Planned.the-variants.{Written, Refused}
+use Rattle.exports.specs.Plans.{packedAnswer, packedPlanned}
+use Rattle.exports.specs.Unpacked.{Within, plan-within}
 
-pub packed-written : (p : Planned) (b s t r : ℕ) → p ≡ Wrote b s t r → packedAnswer (Written b s t r) ≡ packedAnswer (answerOf p)
-packed-written p b s t r e = ap (λ (q : Planned). packedAnswer (answerOf q)) (sym e)
+-- the number of the case that was found
+pub packed-case : (p q : Planned) (n : ℕ) → p ≡ q → n ≡ packedPlanned q → n ≡ packedPlanned p
+packed-case p q n e h = h ∙ ap packedPlanned (sym e)
 
-pub packed-refused : (p : Planned) (k l : ℕ) → p ≡ Refused k l → packedAnswer (TurnedBack k l) ≡ packedAnswer (answerOf p)
-packed-refused p k l e = ap (λ (q : Planned). packedAnswer (answerOf q)) (sym e)
+-- a refusal has a number, and a plan has bytes
+packed-same : (p : Planned) → Within (answerOf p) → packedPlanned p ≡ packedAnswer (answerOf p)
+packed-same (Written b s t r) w = refl
+packed-same (Refused zero l) w = let z : 21 ≤ 0 = w .planned refl in absurd (omega arith)
+packed-same (Refused (suc k) l) w = rw (ne-eqb (suc k) 0 (λ z. omega arith)) refl
 
-pub planned-number : (x o p : List ℕ) (r : Planned) (n : ℕ) → resultOf r p ≡ plan x o → n ≡ packedAnswer (answerOf r) → n ≡ packedAnswer (plan x o .answer)
-planned-number x o p r n e h = h ∙ ap (λ (q : Result). packedAnswer (q .answer)) e
+module _ (x o p : List ℕ) (r : Planned) (e : resultOf r p ≡ plan x o) where
+  answers : answerOf r ≡ plan x o .answer
+  answers = ap (λ (q : Result). q .answer) e
 
-pub planned-output : (x o p : List ℕ) (r : Planned) → resultOf r p ≡ plan x o → p ≡ plan x o .output
-planned-output x o p r e = ap (λ (q : Result). q .output) e
+  pub planned-number : (n : ℕ) → n ≡ packedPlanned r → n ≡ packedAnswer (plan x o .answer)
+  planned-number n h = h ∙ packed-same r (rw answers (plan-within x o)) ∙ ap packedAnswer answers
+
+  pub planned-output : p ≡ plan x o .output
+  planned-output = ap (λ (q : Result). q .output) e

@@ -3,3 +3,4 @@ pub mod Plans
 pub mod Runs
 pub mod Replied
 pub mod Rounds
+pub mod Unpacked

@@ -1,9 +1,29 @@
 -- The planner's answer as one number.
 use Prim.Native.Nat.{ℕ, _+_, _*_, _%_}
-use Rattle.planner.specs.Planner.{Answer, Written, TurnedBack}
+use lib.Dec.{eqb}
+use Rattle.base.specs.Choose.{pick}
+use Rattle.frames.specs.declared.first.Text.{Text}
+use Rattle.frames.specs.declared.first.Text.the-variants.{Query, Plan, Table}
+use Rattle.planner.specs.Planner.{Answer}
+use Rattle.planner.specs.declared.entry.Planned.{Planned}
+use Rattle.planner.specs.declared.entry.Planned.the-variants.{Written, Refused}
+use Rattle.exports.specs.Runs.{packedRefusal}
 
--- accepted: 15 bits for the bytes written, then 16 bits each for steps, tallied and rejected; refused: the highest bit, the number in bits 24 to
--- 31, the text (00, the query) in bits 16 to 23, the line in bits 0 to 15
+-- a text's number: 00 query, 01 plan, 02 table
+abbrev pub textNumber : Text → ℕ
+textNumber Query = 0
+textNumber Plan = 1
+textNumber Table = 2
+
+-- 15 bits for the bytes written, then 16 bits each for steps, tallied and rejected
+abbrev pub packedCounts : ℕ → ℕ → ℕ → ℕ → ℕ
+packedCounts b s t r = ((b % 0x8000 * 0x1_0000 + s % 0x1_0000) * 0x1_0000 + t % 0x1_0000) * 0x1_0000 + r % 0x1_0000
+
+-- the counts where the query is planned, number 0; else the refusal
 abbrev pub packedAnswer : Answer → ℕ
-packedAnswer (Written b s t r) = ((b % 0x8000 * 0x1_0000 + s % 0x1_0000) * 0x1_0000 + t % 0x1_0000) * 0x1_0000 + r % 0x1_0000
-packedAnswer (TurnedBack k l) = 0x8000_0000_0000_0000 + k * 0x100_0000 + l % 0x1_0000
+packedAnswer a = pick (eqb (a .number) 0) (packedCounts (a .bytes) (a .steps) (a .tallied) (a .rejected)) (packedRefusal (a .number) (textNumber (a .text)) (a .line))
+
+-- the same of the code's answer
+abbrev pub packedPlanned : Planned → ℕ
+packedPlanned (Written b s t r) = packedCounts b s t r
+packedPlanned (Refused k l) = packedRefusal k 0 l

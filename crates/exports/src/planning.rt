@@ -1,14 +1,14 @@
 // The planner for programs outside the prover: one call from query text to plan text.
 ghost use mathlib.Core.Path.{_≡_};
 ghost use Rattle.planner.specs.Planner.{plan as planned};
-ghost use Rattle.planner.specs.Entry.{answerOf};
-ghost use Rattle.exports.specs.Plans.{packedAnswer};
+ghost use Rattle.exports.specs.Plans.{packedAnswer, packedPlanned};
+use super::runs::refusal;
 use planner::entry::Planned;
 use planner::entry::plan;
 
 // The answer as one number.
 fn packed(p: Planned) -> u64
-    ensures { λ r. ⌜ r ≡ packedAnswer (answerOf p) ⌝ }
+    ensures { λ r. ⌜ r ≡ packedPlanned p ⌝ }
 {
     match p {
         Planned::Written(bytes, steps, tallied, rejected) => {
@@ -18,10 +18,7 @@ fn packed(p: Planned) -> u64
             let r = (rejected % 0x1_0000) as u64;
             ((b * 0x1_0000 + s) * 0x1_0000 + t) * 0x1_0000 + r
         }
-        Planned::Refused(number, line) => {
-            let l = (line % 0x1_0000) as u64;
-            0x8000_0000_0000_0000 + (number as u64) * 0x100_0000 + l
-        }
+        Planned::Refused(number, line) => refusal(number, 0, line),
     }
 }
 

@@ -1,8 +1,8 @@
 // What the programs share: room for a text, and answers on standard output.
+use answer_lines::end_line;
+use answer_lines::refusal_line;
+use answer_lines::turned_line;
 use entries::run::Outcome;
-use output::bytes::put_end;
-use output::bytes::put_first;
-use output::bytes::put_word;
 use planner::entry::Planned;
 
 // Room for a text: one byte more than it may have, so that a longer text is seen to be too long.
@@ -10,11 +10,7 @@ pub const TEXT_ROOM: usize = 65537;
 
 // A refused query: the line ff number line(2).
 pub fn print_refusal(number: u8, line: usize) {
-    let mut out = [0u8; 9];
-    let high = (line / 256 % 256) as u8;
-    let low = (line % 256) as u8;
-    let i = put_first(&mut out, 0, &[0xff, number, high, low], 4);
-    let _ = put_end(&mut out, i);
+    let out = refusal_line(number, line);
     io::write_all(1, &out);
 }
 
@@ -32,32 +28,15 @@ pub fn print_planned(answer: Planned, out: &[u8]) {
     }
 }
 
-fn high(x: u64) -> u32 {
-    (x / 0x1_0000_0000 % 0x1_0000_0000) as u32
-}
-
-fn low(x: u64) -> u32 {
-    (x % 0x1_0000_0000) as u32
-}
-
 // The end of a run: the line 51 0000 status(1) tries(8) matches(4).
 fn print_end(status: u8, tries: u64, matches: u64) {
-    let mut out = [0u8; 33];
-    let a = put_first(&mut out, 0, &[0x51, 0, 0, status], 4);
-    let b = put_word(&mut out, a, high(tries));
-    let c = put_word(&mut out, b, low(tries));
-    let d = put_word(&mut out, c, low(matches));
-    let _ = put_end(&mut out, d);
+    let out = end_line(status, tries, matches);
     io::write_all(1, &out);
 }
 
 // Refused texts: the line ff number line(2) text.
 fn print_turned(number: u8, text: u8, line: usize) {
-    let mut out = [0u8; 11];
-    let high = (line / 256 % 256) as u8;
-    let low = (line % 256) as u8;
-    let i = put_first(&mut out, 0, &[0xff, number, high, low, text], 5);
-    let _ = put_end(&mut out, i);
+    let out = turned_line(number, text, line);
     io::write_all(1, &out);
 }
 

@@ -1,5 +1,6 @@
 -- `exports::planning::packed` meets its contract: by what the answer is.
-use Rattle.exports.proofs.PlanLaws.{packed-written, packed-refused}
+use Rattle.exports.proofs.PlanLaws.{packed-case}
+use mathlib.Core.Path.{refl}
 use borrow.Author.Needs.{needs}
 use Rattle.exports.proofs.planning.packed.Statement.{statement}
 use Rattle.exports.proofs.planning.packed.Tie as tie
@@ -28,23 +29,14 @@ add-result-3 c = search needs
 enum-known-p-2 : tie.Need-enum-known-p-2
 enum-known-p-2 c = search needs
 
-cast-result : tie.Need-cast-result
-cast-result c = search needs
-
-mul-result-4 : tie.Need-mul-result-4
-mul-result-4 c = search needs
-
-add-result-4 : tie.Need-add-result-4
-add-result-4 c = search needs
-
-add-result-5 : tie.Need-add-result-5
-add-result-5 c = search needs
+refusal-requires : tie.Need-refusal-requires
+refusal-requires c κs = search needs
 
 returns : tie.Need-returns
-returns c = packed-written _ _ _ _ _ (c .before .p .given .1)
+returns c = packed-case _ _ _ (c .before .p .given .1) refl
 
 returns-2 : tie.Need-returns-2
-returns-2 c = packed-refused _ _ _ (c .before .p2 .given .1)
+returns-2 c = packed-case _ _ _ (c .before .before .p2 .given .1) (c .refusal .ensures)
 
 pub packed-spec : {M : Type 1} → statement M
 packed-spec =
@@ -58,9 +50,6 @@ packed-spec =
     mul-result-3
     add-result-3
     enum-known-p-2
-    cast-result
-    mul-result-4
-    add-result-4
-    add-result-5
+    refusal-requires
     returns
     returns-2)

@@ -14,7 +14,7 @@ same-length : tie.Need-same-length
 same-length c = search needs
 
 returns : tie.Need-returns
-returns c = (planned-number _ _ _ (c .before .before .before .plan .result) _ (c .before .before .before .plan .ensures) (c .packed .ensures), planned-output _ _ _ (c .before .before .before .plan .result) (c .before .before .before .plan .ensures))
+returns c = (planned-number _ _ _ (c .before .before .before .plan .result) (c .before .before .before .plan .ensures) _ (c .packed .ensures), planned-output _ _ _ (c .before .before .before .plan .result) (c .before .before .before .plan .ensures))
 
 pub rimdovek-plan-spec : {M : Type 1} → statement M
 rimdovek-plan-spec = tie.close (tie.spec plan-requires packed-requires same-length returns)
