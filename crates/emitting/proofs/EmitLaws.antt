@@ -10,9 +10,8 @@ use lib.Seq.{length-take-le}
 use borrow.Author.Tests.{ltb-true, leb-true, eq-eqb, ne-eqb}
 use Rattle.base.specs.Choose.{both-hold}
 use Rattle.frames.specs.First.{isAtom}
-use Rattle.frames.specs.Kinds.{kinds, kindAt}
-use Rattle.frames.specs.Frames.{frameLength}
-use Rattle.frames.specs.Sheet.{frameAt}
+use Rattle.frames.specs.Kinds.{kinds, kindAt, fixedLength}
+use Rattle.frames.specs.Frames.{kindOf}
 use Rattle.model.specs.Atoms.{localOf, Step, Atom}
 use Rattle.model.specs.Bound.{Bound, add, most}
 use Rattle.model.specs.Lowering.{childLookups, containsLookups, markAll, emitReadChildren, lower}
@@ -23,7 +22,7 @@ use Rattle.plans.specs.PlanText.{textLength}
 use Rattle.lowering.specs.AtomLines.{itemOperands, boundBehind, Lowers}
 use Rattle.lowering.proofs.SetLaws.{add-size}
 use Rattle.lowering.proofs.AtomLaws.{by-kind, items-kind, node-kind}
-use Rattle.output.specs.Written.{PutsFrames, PutsStep}
+use Rattle.output.specs.Written.{fixedIn, PutsFrames, PutsStep}
 use Rattle.output.proofs.PutLaws.{frames-none, frames-then}
 use Rattle.step_bytes.specs.Begun.{Begins, Becomes, noStep, stepsOf, behindOf}
 use Rattle.joining.specs.Joins.{joinOf}
@@ -88,9 +87,9 @@ module _ (f : List ℕ) (e : Emittable f) (h : getD f 0 0 ≡ 1) (B : Bound) (si
 
 -- ---- the others
 
-short-line : (b : List ℕ) → frameLength b ≤ length b → length b ≤ 16 → (o q : List ℕ) (at r : ℕ) → PutsFrames o at (frameAt b 0 ∷ []) q r → r ≤ at + 33
+short-line : (b : List ℕ) → fixedLength (kindOf b) ≤ length b → length b ≤ 16 → (o q : List ℕ) (at r : ℕ) → PutsFrames o at (fixedIn b ∷ []) q r → r ≤ at + 33
 unfolding textLength
-short-line b l m o q at r u = omega (arith, u .next, length-take-le (frameLength b) b l)
+short-line b l m o q at r u = omega (arith, u .next, length-take-le (fixedLength (kindOf b)) b l)
 
 module _ (f : List ℕ) (e : Emittable f) (B : Bound) (k : ℕ) where
   pub collection-most : getD f 0 0 < 15
@@ -99,20 +98,20 @@ module _ (f : List ℕ) (e : Emittable f) (B : Bound) (k : ℕ) where
   pub collection-emits : (o p q : List ℕ) (at i r : ℕ) → 6 < getD f 0 0 → PutsStep o at (joinOf B k f) p i → PutsFrames p i (map frameOf (behindOf (atomOfFrame f))) q r → r ≤ i + 4096 → Emits B k (atomOfFrame f) o at q r
   collection-emits o p q at i r h u v l = then-steps (joinOf B k f) (behindOf (atomOfFrame f)) B k (atomOfFrame f) o p q at i r (collection-steps B k f (e .atom .kind) h) u v l
 
-  pub literal-emits : (b : List ℕ) (o p q : List ℕ) (at i r : ℕ) → 1 < getD f 0 0 → getD f 0 0 < 4 → PutsStep o at (joinOf B k f) p i → Begins b (map frameOf (behindOf (atomOfFrame f))) → PutsFrames p i (frameAt b 0 ∷ []) q r → Emits B k (atomOfFrame f) o at q r
+  pub literal-emits : (b : List ℕ) (o p q : List ℕ) (at i r : ℕ) → 1 < getD f 0 0 → getD f 0 0 < 4 → PutsStep o at (joinOf B k f) p i → Begins b (map frameOf (behindOf (atomOfFrame f))) → PutsFrames p i (fixedIn b ∷ []) q r → Emits B k (atomOfFrame f) o at q r
   literal-emits b o p q at i r l m u z v = then-steps (joinOf B k f) (behindOf (atomOfFrame f)) B k (atomOfFrame f) o p q at i r (literal-steps B k f (e .atom .kind) l m) u (subst (λ (x : List (List ℕ)). PutsFrames p i x q r) (z .is) v) (omega (arith, short-line b (z .fits) (z .few) p q i r v))
 
   module _ (l : 3 < getD f 0 0) (m : getD f 0 0 < 7) (b : List ℕ) (z : Becomes b (stepsOf (lower B 0 (atomOfFrame f)))) (o : List ℕ) (at : ℕ) where
     begun-none : getD b 0 0 ≡ noStep → map frameOf (stepsOf (lower B 0 (atomOfFrame f))) ≡ []
     begun-none h = sym (z .is) ∙ rw (eq-eqb (getD b 0 0) noStep h)
 
-    begun-one : (getD b 0 0 ≡ noStep → ⊥) → map frameOf (stepsOf (lower B 0 (atomOfFrame f))) ≡ frameAt b 0 ∷ []
+    begun-one : (getD b 0 0 ≡ noStep → ⊥) → map frameOf (stepsOf (lower B 0 (atomOfFrame f))) ≡ fixedIn b ∷ []
     begun-one h = sym (z .is) ∙ rw (ne-eqb (getD b 0 0) noStep h)
 
     pub lone-waits : getD b 0 0 ≡ noStep → Emits B k (atomOfFrame f) o at o at
     lone-waits h = record { puts = rw (lone-steps B k f (e .atom .kind) l m, begun-none h) (frames-none o at); near = omega arith }
 
-    pub lone-emits : (q : List ℕ) (r : ℕ) → (getD b 0 0 ≡ noStep → ⊥) → PutsFrames o at (frameAt b 0 ∷ []) q r → Emits B k (atomOfFrame f) o at q r
+    pub lone-emits : (q : List ℕ) (r : ℕ) → (getD b 0 0 ≡ noStep → ⊥) → PutsFrames o at (fixedIn b ∷ []) q r → Emits B k (atomOfFrame f) o at q r
     lone-emits q r h u = record { puts = rw (lone-steps B k f (e .atom .kind) l m, begun-one h) u; near = omega (arith, short-line b (z .fits) (z .few) o q at r u) }
 
 pub literal-least : (f : List ℕ) → Emittable f → (getD f 0 0 ≡ 1 → ⊥) → 1 < getD f 0 0

@@ -13,7 +13,7 @@ use hex::byte_at;
 use joining::join::join;
 use lowering::atom::lower_bound;
 use lowering::sets::set_bound;
-use output::parts::put_frame;
+use output::parts::put_line;
 use step_bytes::single::NO_STEP;
 use step_bytes::single::literal_step;
 use step_bytes::single::lone_step;
@@ -42,7 +42,7 @@ fn emit_literal(frame: &[u8], k: u8, bound: &[bool], out: &mut [u8], at: usize) 
 {
     let next = join(frame, k, bound, out, at);
     let step = literal_step(frame);
-    put_frame(out, next, &step)
+    put_line(out, next, &step)
 }
 
 // 04 Eq, 05 EqGlobal, 06 Pred: one step, none where the atom waits.
@@ -57,7 +57,7 @@ fn emit_lone(frame: &[u8], k: u8, bound: &[bool], out: &mut [u8], at: usize) -> 
     if step[0] == NO_STEP {
         return at;
     }
-    put_frame(out, at, &step)
+    put_line(out, at, &step)
 }
 
 // 07 to 0e: the Join, then the step with the elements.

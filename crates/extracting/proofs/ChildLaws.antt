@@ -9,7 +9,6 @@ use lib.ListN.{length, getD}
 use Rattle.frames.specs.Fields.{width}
 use Rattle.frames.specs.Kinds.{kindAt, fixedLength, itemsOf}
 use Rattle.frames.specs.Frames.{kindOf}
-use Rattle.frames.specs.Sheet.{frameAt}
 use Rattle.model.specs.Atoms.{Operand, local, global, localOf}
 use Rattle.model.specs.Bound.{Bound}
 use Rattle.model.specs.Lowering.{pvIsBound, pvMarkBound, markAll, readChild, emitReadChildren}
@@ -19,7 +18,7 @@ use Rattle.plans.specs.StepFrames.{frameOf}
 use Rattle.plans.specs.PlanText.{textOf, textLength}
 use Rattle.lowering.specs.AtomLines.{itemOperands}
 use Rattle.lowering.proofs.OperandLaws.{Marked, marked-none, marked-again, marked-all, next-below, operands-more}
-use Rattle.output.specs.Written.{PutsFrames}
+use Rattle.output.specs.Written.{fixedIn, PutsFrames}
 use Rattle.output.proofs.PutLaws.{written-size, frames-none, frames-then}
 use Rattle.step_bytes.specs.Begun.{Begins}
 use Rattle.step_bytes.proofs.PieceLaws.{Placed, placed-items}
@@ -31,7 +30,7 @@ child-short (local v) false n i = omega arith
 child-short (global g) true n i = omega arith
 child-short (global g) false n i = omega arith
 
-pub begun-put : (b : List ℕ) (fs : List (List ℕ)) (o q : List ℕ) (at r : ℕ) → Begins b fs → PutsFrames o at (frameAt b 0 ∷ []) q r → PutsFrames o at fs q r
+pub begun-put : (b : List ℕ) (fs : List (List ℕ)) (o q : List ℕ) (at r : ℕ) → Begins b fs → PutsFrames o at (fixedIn b ∷ []) q r → PutsFrames o at fs q r
 begun-put b fs o q at r e u = subst (λ (x : List (List ℕ)). PutsFrames o at x q r) (e .is) u
 
 -- the steps of the children from the k-th on

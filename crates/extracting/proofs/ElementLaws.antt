@@ -20,8 +20,7 @@ use Rattle.step_bytes.specs.Begun.{behindOf, Opens}
 -- ---- n items
 
 -- k items are put, and those left give the rest
-pub record Listing (f : List ℕ) (step : ℕ) (o₀ : List ℕ) (from w n : ℕ) (o : List ℕ) (j at k : ℕ) : Type 0 where
-  pub wide : w ≡ width (kindAt step .item)
+pub record Listing (f : List ℕ) (w : ℕ) (o₀ : List ℕ) (from n : ℕ) (o : List ℕ) (j at k : ℕ) : Type 0 where
   pub narrow : w ≤ 3
   pub many : n ≡ itemsOf (kindOf f) f
   pub small : n < 256
@@ -33,21 +32,20 @@ pub record Listing (f : List ℕ) (step : ℕ) (o₀ : List ℕ) (from w n : ℕ
   pub puts : PutsBytes o₀ from done o at
   pub rest : done ++ itemsBytes w f j (n - k) ≡ itemsBytes w f (fixedLength (kindOf f)) n
 
-pub listing-none : (f : List ℕ) (step : ℕ) (o : List ℕ) (from w n kind j : ℕ) → width (kindAt step .item) ≤ 3 → w ≡ width (kindAt step .item) → n ≡ itemsOf (kindOf f) f → n < 256 → kind ≡ getD f 0 0 → j ≡ fixedLength (kindAt kind) → j < 16 → Listing f step o from w n o j from 0
-listing-none f step o from w n kind j l hw hn ln is hj lj =
+pub listing-none : (f : List ℕ) (w : ℕ) (o : List ℕ) (from n kind j : ℕ) → w ≤ 3 → n ≡ itemsOf (kindOf f) f → n < 256 → kind ≡ getD f 0 0 → j ≡ fixedLength (kindAt kind) → j < 16 → Listing f w o from n o j from 0
+listing-none f w o from n kind j l hn ln is hj lj =
     let e : n - 0 ≡ n = omega arith in
     let g : j ≡ fixedLength (kindOf f) = rw (hj, is) in
-    record { wide = hw; narrow = omega arith; many = hn; small = ln; few = omega arith; place = omega arith; room = omega arith; size = refl; done = []; puts = bytes-none o from; rest = rw (e, g) }
+    record { narrow = l; many = hn; small = ln; few = omega arith; place = omega arith; room = omega arith; size = refl; done = []; puts = bytes-none o from; rest = rw (e, g) }
 
-module _ (f : List ℕ) (step : ℕ) (o₀ : List ℕ) (from w n : ℕ) (o : List ℕ) (j at k : ℕ) (m : Listing f step o₀ from w n o j at k) where
+module _ (f : List ℕ) (w : ℕ) (o₀ : List ℕ) (from n : ℕ) (o : List ℕ) (j at k : ℕ) (m : Listing f w o₀ from n o j at k) where
   module _ (x : List ℕ) (e : x ≡ tagOf (operandAt f j) ∷ indexOf (operandAt f j) ∷ getD f (j + 2) 0 ∷ []) where
     pub item-fits : w ≤ length x
     item-fits = omega (arith, m .narrow, ap length e)
 
-    pub listing-again : (q : List ℕ) (r : ℕ) → k < n → PutsBytes o at (take w x) q r → Listing f step o₀ from w n q (j + w) r (k + 1)
+    pub listing-again : (q : List ℕ) (r : ℕ) → k < n → PutsBytes o at (take w x) q r → Listing f w o₀ from n q (j + w) r (k + 1)
     unfolding itemsBytes
     listing-again q r h v = record {
-      wide = m .wide;
       narrow = m .narrow;
       many = m .many;
       small = m .small;
@@ -67,30 +65,37 @@ module _ (f : List ℕ) (step : ℕ) (o₀ : List ℕ) (from w n : ℕ) (o : Lis
         more = let g : n - k ≡ suc (n - (k + 1)) = omega arith in rw g
 
   module _ (h : n ≤ k) where
-    pub listed : PutsBytes o₀ from (itemsBytes (width (kindAt step .item)) f (fixedLength (kindOf f)) (itemsOf (kindOf f) f)) o at
+    pub listed : PutsBytes o₀ from (itemsBytes w f (fixedLength (kindOf f)) (itemsOf (kindOf f) f)) o at
     unfolding itemsBytes
     listed =
         let e : n - k ≡ 0 = omega arith in
         let d : m .done ++ [] ≡ itemsBytes w f (fixedLength (kindOf f)) n = rw e at (m .rest) in
-        rw (← m .wide, ← m .many) (subst (λ (x : List ℕ). PutsBytes o₀ from x o at) (sym (append-nil (m .done)) ∙ d) (m .puts))
+        rw (← m .many) (subst (λ (x : List ℕ). PutsBytes o₀ from x o at) (sym (append-nil (m .done)) ∙ d) (m .puts))
 
     pub listed-room : at ≤ from + 2048
     listed-room = omega (arith, m .room, m .few, m .small)
 
 -- ---- the line
 
-module _ (f b : List ℕ) (z : Opens f b) (o p : List ℕ) (at a : ℕ) (u : PutsBytes o at (take (fixedLength (kindOf b)) b) p a) where
-  near : a ≤ at + 32
-  near = omega (arith, u .next, z .few, z .fits, length-take-le (fixedLength (kindOf b)) b (z .fits))
+module _ (f b : List ℕ) (z : Opens f b) (n : ℕ) (hn : n ≡ fixedLength (kindOf b)) where
+  pub part-fits : n ≤ length b
+  part-fits = omega (arith, z .fits)
 
-  pub part-near : at < 0x2000_0000 → a < 0x2800_0000
-  part-near l = omega (arith, near)
+  module _ (o p : List ℕ) (at a : ℕ) (u : PutsBytes o at (take n b) p a) where
+    near : a ≤ at + 32
+    near = omega (arith, u .next, z .few, length-take-le n b part-fits)
 
-  pub items-near : (c : ℕ) → at < 0x2000_0000 → c ≤ a + 2048 → c < 0x8000_0000
-  items-near c l m = omega (arith, near)
+    pub part-near : at < 0x2000_0000 → a < 0x2800_0000
+    part-near l = omega (arith, near)
 
-  pub line-near : (s q : List ℕ) (c r : ℕ) → c ≤ a + 2048 → Puts s c (lineEnd ∷ []) q r → r ≤ at + 4096
-  line-near s q c r m e = omega (arith, near, e .next)
+    pub items-near : (c : ℕ) → at < 0x2000_0000 → c ≤ a + 2048 → c < 0x8000_0000
+    items-near c l m = omega (arith, near)
 
-  pub opened : (s q : List ℕ) (c r : ℕ) → PutsBytes p a (itemsBytes (width (kindOf b .item)) f (fixedLength (kindOf f)) (itemsOf (kindOf f) f)) s c → Puts s c (lineEnd ∷ []) q r → PutsFrames o at (map frameOf (behindOf (atomOfFrame f))) q r
-  opened s q c r v e = subst (λ (x : List (List ℕ)). PutsFrames o at x q r) (z .is) (line-put (take (fixedLength (kindOf b)) b ++ itemsBytes (width (kindOf b .item)) f (fixedLength (kindOf f)) (itemsOf (kindOf f) f)) (bytes-then (take (fixedLength (kindOf b)) b) (itemsBytes (width (kindOf b .item)) f (fixedLength (kindOf f)) (itemsOf (kindOf f) f)) u v) e)
+    pub line-near : (s q : List ℕ) (c r : ℕ) → c ≤ a + 2048 → Puts s c (lineEnd ∷ []) q r → r ≤ at + 4096
+    line-near s q c r m e = omega (arith, near, e .next)
+
+    pub opened : (w : ℕ) (s q : List ℕ) (c r : ℕ) → w ≡ width (kindOf b .item) → PutsBytes p a (itemsBytes w f (fixedLength (kindOf f)) (itemsOf (kindOf f) f)) s c → Puts s c (lineEnd ∷ []) q r → PutsFrames o at (map frameOf (behindOf (atomOfFrame f))) q r
+    opened w s q c r hw v e = subst (λ (x : List (List ℕ)). PutsFrames o at x q r) whole (line-put (take n b ++ itemsBytes w f (fixedLength (kindOf f)) (itemsOf (kindOf f) f)) (bytes-then (take n b) (itemsBytes w f (fixedLength (kindOf f)) (itemsOf (kindOf f) f)) u v) e)
+      where
+        whole : (take n b ++ itemsBytes w f (fixedLength (kindOf f)) (itemsOf (kindOf f) f)) ∷ [] ≡ map frameOf (behindOf (atomOfFrame f))
+        whole = rw (hn, hw) (z .is)

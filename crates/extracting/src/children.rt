@@ -16,7 +16,7 @@ use frames::kinds::fixed_length;
 use frames::kinds::item_width;
 use hex::byte_at;
 use lowering::operands::pv_mark_bound;
-use output::parts::put_frame;
+use output::parts::put_line;
 use step_bytes::operand::child_at;
 
 // The step of the child at byte j; what it binds is set.
@@ -36,7 +36,7 @@ fn read_child(
 {
     let step = child_at(frame, j, position, bound);
     pv_mark_bound(frame, j, bound);
-    put_frame(out, at, &step)
+    put_line(out, at, &step)
 }
 
 // A step for each child; what a child binds counts for those behind it.

@@ -2,8 +2,7 @@
 ghost use mathlib.Core.List.{map};
 ghost use Prim.Native.Nat.{_+_, _<_, _≤_};
 ghost use lib.ListN.{getD};
-ghost use Rattle.frames.specs.Fields.{width};
-ghost use Rattle.frames.specs.Kinds.{kindAt, fixedLength, itemsOf};
+ghost use Rattle.frames.specs.Kinds.{fixedLength, itemsOf};
 ghost use Rattle.frames.specs.Frames.{kindOf};
 ghost use Rattle.cost.specs.QueryAtoms.{atomOfFrame};
 ghost use Rattle.plans.specs.StepFrames.{frameOf};
@@ -16,18 +15,16 @@ use frames::kinds::item_width;
 use hex::byte_at;
 use output::bytes::put_end;
 use output::bytes::put_first;
-use output::parts::put_fixed;
 use step_bytes::collection::expand_part;
 use step_bytes::operand::item_at;
 
-// The items of a frame, each as wide as the table of kinds has those of the step.
-fn put_items(frame: &[u8], step: u8, out: &mut [u8], from: usize) -> usize
-    requires { ⌜ width (kindAt step .item) ≤ 3 ⌝ }
+// The items of a frame, each w bytes wide.
+fn put_items(frame: &[u8], w: usize, out: &mut [u8], from: usize) -> usize
+    requires { ⌜ w ≤ 3 ⌝ }
     requires { ⌜ from < 0x2800_0000 ⌝ }
     ensures { λ r. ⌜ r ≤ from + 2048 ⌝ }
-    ensures { λ r. ⌜ PutsBytes (now (out .entry)) from (itemsBytes (width (kindAt step .item)) (now (frame .entry)) (fixedLength (kindOf (now (frame .entry)))) (itemsOf (kindOf (now (frame .entry))) (now (frame .entry)))) (now (out .exit)) r ⌝ }
+    ensures { λ r. ⌜ PutsBytes (now (out .entry)) from (itemsBytes w (now (frame .entry)) (fixedLength (kindOf (now (frame .entry)))) (itemsOf (kindOf (now (frame .entry))) (now (frame .entry)))) (now (out .exit)) r ⌝ }
 {
-    let w = item_width(step);
     let n = items_of(frame);
     let mut j = fixed_length(byte_at(frame, 0));
     let mut at = from;
@@ -41,7 +38,7 @@ fn put_items(frame: &[u8], step: u8, out: &mut [u8], from: usize) -> usize
     at
 }
 
-// The step behind the Join of a collection: its fixed part, its items, the end of its line.
+// The step behind the Join of a collection: its fixed part, its items, the end of its line. Both are as long as the table of kinds has them.
 pub fn expand(frame: &[u8], out: &mut [u8], at: usize) -> usize
     requires { ⌜ 6 < getD (now frame) 0 0 ⌝ }
     requires { ⌜ getD (now frame) 0 0 < 15 ⌝ }
@@ -50,7 +47,10 @@ pub fn expand(frame: &[u8], out: &mut [u8], at: usize) -> usize
     ensures { λ r. ⌜ PutsFrames (now (out .entry)) at (map frameOf (behindOf (atomOfFrame (now (frame .entry))))) (now (out .exit)) r ⌝ }
 {
     let part = expand_part(frame);
-    let a = put_fixed(out, at, &part);
-    let b = put_items(frame, part[0], out, a);
+    let step = part[0];
+    let n = fixed_length(step);
+    let w = item_width(step);
+    let a = put_first(out, at, &part, n);
+    let b = put_items(frame, w, out, a);
     put_end(out, b)
 }

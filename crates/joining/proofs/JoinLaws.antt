@@ -16,7 +16,6 @@ use Rattle.plans.specs.PlanText.{textLength}
 use Rattle.plans.specs.StepFrames.{lookupBytes, frameOf}
 use Rattle.output.specs.Written.{Puts, PutsBytes, PutsFrames, PutsStep}
 use Rattle.output.proofs.PutLaws.{bytes-then, line-put}
-use Rattle.step_bytes.specs.Begun.{Begins}
 use Rattle.joining.specs.Joins.{operandLookups, joinOf}
 
 -- ---- by the operator and by the operands that are bound
@@ -70,16 +69,20 @@ alone-put L b n k op count o q at r e g z u = record { puts = rw (no-lookups L (
 
 -- ---- whether the node is bound
 
+pub class-fits : (b : List ℕ) (n k op : ℕ) → b ≡ frameOf (Join n k (ByRepr n ∷ ByOp op ∷ [])) → frameLength b ≤ length b
+unfolding frameOf flatMap kindAt kinds
+class-fits b n k op e = rw e (omega arith)
+
 module _ (f : List ℕ) (B : Bound) (n : ℕ) (hn : n ≡ getD f 1 0) (t : Bool) (is : t ≡ has B n) (o q : List ℕ) (at r k : ℕ) where
   held : has B (getD f 1 0) ≡ t
   held = rw (← hn) (sym is)
 
-  pub join-bound : (b : List ℕ) → t ≡ true → Begins b (frameOf (Join (getD f 1 0) k (ByRepr (getD f 1 0) ∷ ByOp (getD f 2 0) ∷ [])) ∷ []) → PutsFrames o at (frameAt b 0 ∷ []) q r → PutsStep o at (joinOf B k f) q r
-  unfolding frameOf flatMap textLength
+  pub join-bound : (b : List ℕ) → t ≡ true → b ≡ frameOf (Join (getD f 1 0) k (ByRepr (getD f 1 0) ∷ ByOp (getD f 2 0) ∷ [])) → PutsFrames o at (frameAt b 0 ∷ []) q r → PutsStep o at (joinOf B k f) q r
+  unfolding frameOf flatMap textLength kindAt kinds
   join-bound b h e u = record { puts = rw (held ∙ h) v; near = omega (arith, v .next) }
     where
       v : PutsFrames o at (frameOf (Join (getD f 1 0) k (ByRepr (getD f 1 0) ∷ ByOp (getD f 2 0) ∷ [])) ∷ []) q r
-      v = subst (λ (x : List (List ℕ)). PutsFrames o at x q r) (e .is) u
+      v = rw e at u
 
   pub join-free : t ≡ false → PutsStep o at (Join (getD f 1 0) k (ByOp (getD f 2 0) ∷ operandLookups B f)) q r → PutsStep o at (joinOf B k f) q r
   join-free h u = rw (held ∙ h) u

@@ -16,7 +16,7 @@ use Rattle.model.specs.Limits.{lineEnd}
 use Rattle.plans.specs.PlanText.{textOf, textLength}
 use Rattle.plans.specs.Texts.{text-length}
 use Rattle.plans.specs.StepFrames.{wordBytes}
-use Rattle.output.specs.Written.{written, Puts, PutsBytes, PutsFrames}
+use Rattle.output.specs.Written.{fixedIn, written, Puts, PutsBytes, PutsFrames}
 
 written-then : (x o : List ℕ) (at : ℕ) (y : List ℕ) → written (written o at x) (at + length x) y ≡ written o at (x ++ y)
 unfolding written
@@ -40,22 +40,23 @@ digits-append [] g = refl
 digits-append (b ∷ f) g = rw (digits-append f g)
 
 -- the two digits of a byte: both have room, the first alone, none
-module _ (b d e : ℕ) (byte : b < 256) (high : d ≡ hexDigit (b / 16 % 16)) (low : e ≡ hexDigit (b % 16)) (o : List ℕ) (at : ℕ) where
-  pub byte-both : PutsBytes o at (b ∷ []) (set (set o at d) (at + 1) e) (at + 2)
-  unfolding written
-  byte-both =
-      let m : b / 16 % 16 ≡ b / 16 = omega arith in
-      record { is = rw (add-one at, high, low, m); next = refl }
-
-  pub byte-first : length o ≤ at + 1 → PutsBytes o at (b ∷ []) (set o at d) (at + 2)
-  unfolding written
-  byte-first h =
-      let m : b / 16 % 16 ≡ b / 16 = omega arith in
-      let g : length (set o at (hexDigit (b / 16))) ≤ suc at = omega (arith, length-set o at (hexDigit (b / 16))) in
-      record { is = rw (high, m) (sym (set-out (set o at (hexDigit (b / 16))) (suc at) (hexDigit (b % 16)) g)); next = refl }
-
+module _ (o : List ℕ) (at b : ℕ) where
   pub byte-none : length o ≤ at → PutsBytes o at (b ∷ []) o (at + 2)
   byte-none h = record { is = sym (written-past (digitsOf (b ∷ [])) o at h); next = refl }
+
+  module _ (d : ℕ) (byte : b < 256) (high : d ≡ hexDigit (b / 16 % 16)) where
+    pub byte-first : length o ≤ at + 1 → PutsBytes o at (b ∷ []) (set o at d) (at + 2)
+    unfolding written
+    byte-first h =
+        let m : b / 16 % 16 ≡ b / 16 = omega arith in
+        let g : length (set o at (hexDigit (b / 16))) ≤ suc at = omega (arith, length-set o at (hexDigit (b / 16))) in
+        record { is = rw (high, m) (sym (set-out (set o at (hexDigit (b / 16))) (suc at) (hexDigit (b % 16)) g)); next = refl }
+
+    pub byte-both : (e : ℕ) → e ≡ hexDigit (b % 16) → PutsBytes o at (b ∷ []) (set (set o at d) (at + 1) e) (at + 2)
+    unfolding written
+    byte-both e low =
+        let m : b / 16 % 16 ≡ b / 16 = omega arith in
+        record { is = rw (add-one at, high, low, m); next = refl }
 
 pub bytes-then : (f g : List ℕ) {o p q : List ℕ} {at i r : ℕ} → PutsBytes o at f p i → PutsBytes p i g q r → PutsBytes o at (f ++ g) q r
 bytes-then f g {o} {p} {q} {at} {i} {r} u v =
@@ -90,22 +91,17 @@ module _ (x : List ℕ) (n : ℕ) (o₀ : List ℕ) (from : ℕ) (o : List ℕ) 
       more : take (i + 1) x ≡ take i x ++ b ∷ []
       more = let g : i < length x = omega arith in rw (add-one i, take-suc x i 0 g, e)
 
+  pub storing-again : (d e : ℕ) → n ≤ length x → i < n → getD x i 0 < 256 → d ≡ hexDigit (getD x i 0 / 16 % 16) → e ≡ hexDigit (getD x i 0 % 16) → Putting x n o₀ from (set (set o at d) (at + 1) e) (at + 2) (i + 1)
+  storing-again d e l h byte high low = putting-again (getD x i 0) (set (set o at d) (at + 1) e) (at + 2) l h refl (byte-both o at (getD x i 0) d byte high e low)
+
   pub putting-all : n ≤ i → PutsBytes o₀ from (take n x) o at
   putting-all h = let e : n ≡ i = omega (arith, m .few) in rw e (m .puts)
 
+  pub stored-all : n ≤ i → PutsBytes o₀ from (take n x) o (from + 2 * n)
+  stored-all h = let e : from + 2 * n ≡ at = omega (arith, m .few, m .place) in rw e (putting-all h)
+
 pub none-put : (x : List ℕ) (n : ℕ) (o : List ℕ) (at : ℕ) → n ≤ length x → length o ≤ at → PutsBytes o at (take n x) o (at + 2 * n)
 none-put x n o at l h = record { is = sym (written-past (digitsOf (take n x)) o at h); next = omega (arith, length-take-le n x l) }
-
--- as many as the table of kinds has
-module _ (x : List ℕ) (b n : ℕ) (is : b ≡ getD x 0 0) (e : n ≡ fixedLength (kindAt b)) where
-  many : n ≡ fixedLength (kindOf x)
-  many = rw (e, is)
-
-  pub fixed-many : fixedLength (kindOf x) ≤ length x → n ≤ length x
-  fixed-many h = omega (arith, many)
-
-  pub fixed-put : (o q : List ℕ) (at r : ℕ) → PutsBytes o at (take n x) q r → PutsBytes o at (take (fixedLength (kindOf x)) x) q r
-  fixed-put o q at r u = subst (λ (m : ℕ). PutsBytes o at (take m x) q r) many u
 
 pub short-put : (o q : List ℕ) (at r x a b : ℕ) → a ≡ x / 0x100 → b ≡ x % 0x100 → PutsBytes o at (a ∷ b ∷ []) q r → PutsBytes o at (x / 0x100 ∷ x % 0x100 ∷ []) q r
 short-put o q at r x a b h k u = rw (← h, ← k) u
@@ -127,6 +123,20 @@ unfolding textOf textLength
 line-put f {o} {p} {q} {at} {i} {r} u v =
     let n : i ≡ at + length (digitsOf f) = omega (arith, u .next, digits-length f) in
     record { is = v .is ∙ rw (n, u .is) (written-then (digitsOf f) o at (lineEnd ∷ [])); next = omega (arith, u .next, v .next) }
+
+module _ (x : List ℕ) (b n : ℕ) (is : b ≡ getD x 0 0) (e : n ≡ fixedLength (kindAt b)) where
+  many : n ≡ fixedLength (kindOf x)
+  many = rw (e, is)
+
+  pub fixed-many : fixedLength (kindOf x) ≤ length x → n ≤ length x
+  fixed-many h = omega (arith, many)
+
+  module _ (o p : List ℕ) (at i : ℕ) (u : PutsBytes o at (take n x) p i) where
+    pub fixed-near : fixedLength (kindOf x) ≤ length x → at < 0x5000_0000 → n < 16 → i < 0x8000_0000
+    fixed-near h l m = omega (arith, u .next, length-take-le n x (fixed-many h))
+
+    pub fixed-put : (q : List ℕ) (r : ℕ) → Puts p i (lineEnd ∷ []) q r → PutsFrames o at (fixedIn x ∷ []) q r
+    fixed-put q r v = line-put (fixedIn x) (subst (λ (m : ℕ). PutsBytes o at (take m x) p i) many u) v
 
 module _ (x : List ℕ) (n : ℕ) (e : n ≡ frameLength x) (o p : List ℕ) (at i : ℕ) (u : PutsBytes o at (take n x) p i) where
   pub frame-near : frameLength x ≤ length x → at < 0x5000_0000 → n < 0x1_0000 → i < 0x8000_0000

@@ -2,12 +2,18 @@
 use Prim.Native.Nat.{ℕ, _+_, _*_, _≤_}
 use mathlib.Core.Path.{_≡_}
 use mathlib.Core.List.{List, [], _∷_}
-use lib.ListN.{length}
+use lib.ListN.{length, take}
 use lib.Seq.{sets}
 use Rattle.hex.specs.Digits.{digitsOf}
+use Rattle.frames.specs.Kinds.{fixedLength}
+use Rattle.frames.specs.Frames.{kindOf}
 use Rattle.plans.specs.PlanText.{textOf, textLength}
 use Rattle.plans.specs.StepFrames.{frameOf}
 use Rattle.model.specs.Atoms.{Step}
+
+-- the fixed part that the bytes b begin with, by the table of kinds
+abbrev pub fixedIn : List ℕ → List ℕ
+fixedIn b = take (fixedLength (kindOf b)) b
 
 -- the output o with the text x from `at` on, as far as there is room
 unfoldable pub written : List ℕ → ℕ → List ℕ → List ℕ

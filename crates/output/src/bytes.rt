@@ -20,35 +20,30 @@ pub fn put_end(out: &mut [u8], at: usize) -> usize
     at + 1
 }
 
-// The two digits of a byte. The room is tested once where there is enough.
+// The two digits of a byte, each where there is room for it.
 pub fn put_byte(out: &mut [u8], at: usize, b: u8) -> usize
     requires { ⌜ at < 0x7000_0000 ⌝ }
     ensures { λ r. ⌜ PutsBytes (now (out .entry)) at (b ∷ []) (now (out .exit)) r ⌝ }
 {
-    let high = hex_digit(b / 16);
-    let low = hex_digit(b);
     if at + 1 < out.len() {
-        out[at] = high;
-        out[at + 1] = low;
+        out[at] = hex_digit(b / 16);
+        out[at + 1] = hex_digit(b);
         return at + 2;
     }
     if at < out.len() {
-        out[at] = high;
+        out[at] = hex_digit(b / 16);
         return at + 2;
     }
     at + 2
 }
 
-// The digits of the first n bytes. Where there is no room nothing is read.
-pub fn put_first(out: &mut [u8], at: usize, bytes: &[u8], n: usize) -> usize
+// The digits of the first n bytes, each where there is room for it.
+fn put_each(out: &mut [u8], at: usize, bytes: &[u8], n: usize) -> usize
     requires { ⌜ n ≤ length (now bytes) ⌝ }
     requires { ⌜ n < 0x1_0000 ⌝ }
     requires { ⌜ at < 0x6000_0000 ⌝ }
     ensures { λ r. ⌜ PutsBytes (now (out .entry)) at (take n (now (bytes .entry))) (now (out .exit)) r ⌝ }
 {
-    if out.len() <= at {
-        return at + 2 * n;
-    }
     let mut to = at;
     let mut i: usize = 0;
     while i < n {
@@ -56,6 +51,41 @@ pub fn put_first(out: &mut [u8], at: usize, bytes: &[u8], n: usize) -> usize
         i += 1;
     }
     to
+}
+
+// The digits of the first n bytes, where there is room for all of them.
+fn store_first(out: &mut [u8], at: usize, bytes: &[u8], n: usize)
+    requires { ⌜ n ≤ length (now bytes) ⌝ }
+    requires { ⌜ at + 2 * n ≤ length (now out) ⌝ }
+    ensures { λ r. ⌜ PutsBytes (now (out .entry)) at (take n (now (bytes .entry))) (now (out .exit)) (at + 2 * n) ⌝ }
+{
+    let mut to = at;
+    let mut i: usize = 0;
+    while i < n {
+        let b = bytes[i];
+        out[to] = hex_digit(b / 16);
+        out[to + 1] = hex_digit(b);
+        to += 2;
+        i += 1;
+    }
+}
+
+// The digits of the first n bytes. The room is tested once, where it is enough and where there is none.
+pub fn put_first(out: &mut [u8], at: usize, bytes: &[u8], n: usize) -> usize
+    requires { ⌜ n ≤ length (now bytes) ⌝ }
+    requires { ⌜ n < 0x1_0000 ⌝ }
+    requires { ⌜ at < 0x6000_0000 ⌝ }
+    ensures { λ r. ⌜ PutsBytes (now (out .entry)) at (take n (now (bytes .entry))) (now (out .exit)) r ⌝ }
+{
+    let end = at + 2 * n;
+    if end <= out.len() {
+        store_first(out, at, bytes, n);
+        return end;
+    }
+    if out.len() <= at {
+        return end;
+    }
+    put_each(out, at, bytes, n)
 }
 
 fn low_byte(x: u32) -> u8

@@ -1,28 +1,29 @@
-// Frames and their parts: of the bytes that are lent as many as the table of kinds has.
+// The lines of frames: of the bytes that are lent as many as the table of kinds has.
 ghost use mathlib.Core.List.{[], _∷_};
 ghost use Prim.Native.Nat.{_<_, _≤_};
-ghost use lib.ListN.{length, take};
+ghost use lib.ListN.{length};
 ghost use Rattle.frames.specs.Kinds.{fixedLength};
 ghost use Rattle.frames.specs.Frames.{kindOf, frameLength};
 ghost use Rattle.frames.specs.Sheet.{frameAt};
-ghost use Rattle.output.specs.Written.{PutsBytes, PutsFrames};
+ghost use Rattle.output.specs.Written.{fixedIn, PutsFrames};
 use super::bytes::put_end;
 use super::bytes::put_first;
 use frames::frame::frame_length;
 use frames::kinds::fixed_length;
 use hex::byte_at;
 
-// The fixed part of a frame: as many bytes as its kind has before its items.
-pub fn put_fixed(out: &mut [u8], at: usize, bytes: &[u8]) -> usize
+// The line of a frame without items: as many bytes as its kind has.
+pub fn put_line(out: &mut [u8], at: usize, bytes: &[u8]) -> usize
     requires { ⌜ fixedLength (kindOf (now bytes)) ≤ length (now bytes) ⌝ }
     requires { ⌜ at < 0x5000_0000 ⌝ }
-    ensures { λ r. ⌜ PutsBytes (now (out .entry)) at (take (fixedLength (kindOf (now (bytes .entry)))) (now (bytes .entry))) (now (out .exit)) r ⌝ }
+    ensures { λ r. ⌜ PutsFrames (now (out .entry)) at (fixedIn (now (bytes .entry)) ∷ []) (now (out .exit)) r ⌝ }
 {
     let n = fixed_length(byte_at(bytes, 0));
-    put_first(out, at, bytes, n)
+    let i = put_first(out, at, bytes, n);
+    put_end(out, i)
 }
 
-// The line of a whole frame: as many bytes as its kind and its n say.
+// The line of a frame with items: as many bytes as its kind and its n say.
 pub fn put_frame(out: &mut [u8], at: usize, bytes: &[u8]) -> usize
     requires { ⌜ frameLength (now bytes) ≤ length (now bytes) ⌝ }
     requires { ⌜ at < 0x5000_0000 ⌝ }

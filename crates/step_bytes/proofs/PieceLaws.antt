@@ -82,9 +82,9 @@ module _ (f : List ℕ) (B : Bound) (j : ℕ) (t : Bool) (is : t ≡ pvIsBound B
 -- ---- a Join
 
 module _ (f : List ℕ) (n op : ℕ) (hn : n ≡ getD f 1 0) (ho : op ≡ getD f 2 0) where
-  pub class-begins : (k : ℕ) → Begins (0x40 ∷ n ∷ k ∷ 2 ∷ 2 ∷ n ∷ 0 ∷ 0 ∷ 0 ∷ op ∷ 0 ∷ 0 ∷ []) (frameOf (Join (getD f 1 0) k (ByRepr (getD f 1 0) ∷ ByOp (getD f 2 0) ∷ [])) ∷ [])
-  unfolding frameOf flatMap kindAt kinds
-  class-begins k = rw (← hn, ← ho) (record { fits = omega arith; few = omega arith; is = refl })
+  pub class-bytes : (k : ℕ) → 0x40 ∷ n ∷ k ∷ 2 ∷ 2 ∷ n ∷ 0 ∷ 0 ∷ 0 ∷ op ∷ 0 ∷ 0 ∷ [] ≡ frameOf (Join (getD f 1 0) k (ByRepr (getD f 1 0) ∷ ByOp (getD f 2 0) ∷ []))
+  unfolding frameOf flatMap
+  class-bytes k = rw (hn, ho)
 
   pub op-bytes : (k m : ℕ) → 0x40 ∷ n ∷ k ∷ m ∷ 0 ∷ op ∷ 0 ∷ 0 ∷ [] ≡ 0x40 ∷ getD f 1 0 ∷ k ∷ m ∷ 0 ∷ getD f 2 0 ∷ 0 ∷ 0 ∷ []
   op-bytes k m = rw (hn, ho)

@@ -3,24 +3,24 @@ use Prim.Native.Nat.{ℕ, _≤_}
 use mathlib.Core.Path.{_≡_}
 use mathlib.Core.Option.{Option, none, some}
 use mathlib.Core.List.{List, [], _∷_, _++_, map}
-use lib.ListN.{length, getD, take}
+use lib.ListN.{length, getD}
 use lib.Dec.{eqb}
 use Rattle.base.specs.Choose.{pick}
 use Rattle.frames.specs.Fields.{width}
 use Rattle.frames.specs.Kinds.{fixedLength, itemsOf}
-use Rattle.frames.specs.Frames.{kindOf, frameLength}
-use Rattle.frames.specs.Sheet.{frameAt}
+use Rattle.frames.specs.Frames.{kindOf}
 use Rattle.model.specs.Atoms.{Atom, Plain, Lit, LitBind, Eq, EqGlobal, Pred, Variadic, Step, Expand, ExtractLitVal, CheckLit}
 use Rattle.model.specs.Lowering.{Emitted}
 use Rattle.cost.specs.QueryAtoms.{atomOfFrame}
 use Rattle.plans.specs.StepFrames.{frameOf}
+use Rattle.output.specs.Written.{fixedIn}
 use Rattle.step_bytes.specs.Pieces.{itemsBytes}
 
 -- the few bytes b begin with a frame, the only one of fs
 pub record Begins (b : List ℕ) (fs : List (List ℕ)) : Type 0 where
-  pub fits : frameLength b ≤ length b
+  pub fits : fixedLength (kindOf b) ≤ length b
   pub few : length b ≤ 16
-  pub is : frameAt b 0 ∷ [] ≡ fs
+  pub is : fixedIn b ∷ [] ≡ fs
 
 -- no step has this kind
 abbrev pub noStep : ℕ
@@ -28,11 +28,11 @@ noStep = 0xff
 
 -- the frame that the bytes b begin with, none where they begin with no step's kind
 abbrev pub begun : List ℕ → List (List ℕ)
-begun b = pick (eqb (getD b 0 0) noStep) [] (frameAt b 0 ∷ [])
+begun b = pick (eqb (getD b 0 0) noStep) [] (fixedIn b ∷ [])
 
 -- the few bytes b are those of the steps ss, of which there is one at most
 pub record Becomes (b : List ℕ) (ss : List Step) : Type 0 where
-  pub fits : frameLength b ≤ length b
+  pub fits : fixedLength (kindOf b) ≤ length b
   pub few : length b ≤ 16
   pub is : begun b ≡ map frameOf ss
 
@@ -56,4 +56,4 @@ pub record Opens (f b : List ℕ) : Type 0 where
   pub fits : fixedLength (kindOf b) ≤ length b
   pub few : length b ≤ 16
   pub narrow : width (kindOf b .item) ≤ 3
-  pub is : (take (fixedLength (kindOf b)) b ++ itemsBytes (width (kindOf b .item)) f (fixedLength (kindOf f)) (itemsOf (kindOf f) f)) ∷ [] ≡ map frameOf (behindOf (atomOfFrame f))
+  pub is : (fixedIn b ++ itemsBytes (width (kindOf b .item)) f (fixedLength (kindOf f)) (itemsOf (kindOf f) f)) ∷ [] ≡ map frameOf (behindOf (atomOfFrame f))

@@ -4,12 +4,11 @@ ghost use mathlib.Core.List.{[], _∷_};
 ghost use lib.ListN.{getD};
 ghost use Rattle.model.specs.Atoms.{ByOp, ByRepr, Join};
 ghost use Rattle.plans.specs.StepFrames.{frameOf};
-ghost use Rattle.step_bytes.specs.Begun.{Begins};
 use hex::byte_at;
 
 // Within the node's class: by the node, then by the operator.
 pub fn class_join(frame: &[u8], k: u8) -> [u8; 12]
-    ensures { λ r. ⌜ Begins r (frameOf (Join (getD (now (frame .entry)) 1 0) k (ByRepr (getD (now (frame .entry)) 1 0) ∷ ByOp (getD (now (frame .entry)) 2 0) ∷ [])) ∷ []) ⌝ }
+    ensures { λ r. ⌜ r ≡ frameOf (Join (getD (now (frame .entry)) 1 0) k (ByRepr (getD (now (frame .entry)) 1 0) ∷ ByOp (getD (now (frame .entry)) 2 0) ∷ [])) ⌝ }
 {
     let node = byte_at(frame, 1);
     [0x40, node, k, 2, 2, node, 0, 0, 0, byte_at(frame, 2), 0, 0]

@@ -9,15 +9,14 @@ use lib.ListN.{length, getD}
 use borrow.Author.Tests.{lt-ltb, le-ltb, eq-eqb, ne-eqb}
 use Rattle.base.specs.Choose.{pick}
 use Rattle.frames.specs.First.{isAtom}
-use Rattle.frames.specs.Kinds.{kinds, kindAt, itemsOf}
-use Rattle.frames.specs.Frames.{kindOf, frameLength}
-use Rattle.frames.specs.Sheet.{frameAt}
+use Rattle.frames.specs.Kinds.{kinds, kindAt, fixedLength, itemsOf}
+use Rattle.frames.specs.Frames.{kindOf}
 use Rattle.cost.specs.Operands.{operands-length}
 use Rattle.cost.specs.QueryAtoms.{atomOfFrame}
 use Rattle.plans.specs.StepFrames.{headerOf}
 use Rattle.lowering.specs.AtomLines.{AtomLine}
 use Rattle.lowering.proofs.AtomLaws.{by-kind}
-use Rattle.output.specs.Written.{PutsFrames}
+use Rattle.output.specs.Written.{fixedIn, PutsFrames}
 use Rattle.writing.specs.Steps.{stepCount}
 
 -- ---- the header
@@ -26,11 +25,11 @@ pub header-is : (v g n x y z xh xl yh yl zh zl : ℕ) → xh ≡ x / 0x100 → x
 header-is v g n x y z xh xl yh yl zh zl a b c d e f = rw (← a, ← b, ← c, ← d, ← e, ← f)
 
 module _ (v g n x y z : ℕ) (b : List ℕ) (is : b ≡ headerOf v g n x y z) where
-  pub header-fits : frameLength b ≤ length b
+  pub header-fits : fixedLength (kindOf b) ≤ length b
   unfolding kindAt kinds
   header-fits = rw is (omega arith)
 
-  pub header-put : (o q : List ℕ) (at r : ℕ) → PutsFrames o at (frameAt b 0 ∷ []) q r → PutsFrames o at (headerOf v g n x y z ∷ []) q r
+  pub header-put : (o q : List ℕ) (at r : ℕ) → PutsFrames o at (fixedIn b ∷ []) q r → PutsFrames o at (headerOf v g n x y z ∷ []) q r
   unfolding kindAt kinds
   header-put o q at r u = rw is at u
 

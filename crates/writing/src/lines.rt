@@ -6,7 +6,7 @@ ghost use Rattle.plans.specs.StepFrames.{headerOf};
 ghost use Rattle.output.specs.Written.{PutsFrames};
 use output::bytes::high_of;
 use output::bytes::low_of;
-use output::parts::put_frame;
+use output::parts::put_line;
 
 // 3f variables globals literals steps(2) tallied(2) rejected(2)
 fn header_bytes(
@@ -47,5 +47,5 @@ pub fn header(
     ensures { λ r. ⌜ PutsFrames (now (out .entry)) at (headerOf variables globals literals steps tallied rejected ∷ []) (now (out .exit)) r ⌝ }
 {
     let line = header_bytes(variables, globals, literals, steps, tallied, rejected);
-    put_frame(out, at, &line)
+    put_line(out, at, &line)
 }

@@ -10,11 +10,11 @@ join-requires c κs = search needs
 literal-step-requires : tie.Need-literal-step-requires
 literal-step-requires c κs = search needs
 
-slice-aggregate-put-frame : tie.Need-slice-aggregate-put-frame
-slice-aggregate-put-frame c = search needs
+slice-aggregate-put-line : tie.Need-slice-aggregate-put-line
+slice-aggregate-put-line c = search needs
 
-put-frame-requires : tie.Need-put-frame-requires
-put-frame-requires c κs = search needs
+put-line-requires : tie.Need-put-line-requires
+put-line-requires c κs = search needs
 
 same-length : tie.Need-same-length
 same-length c = search needs
@@ -28,7 +28,7 @@ emit-literal-spec =
     (tie.spec
     join-requires
     literal-step-requires
-    slice-aggregate-put-frame
-    put-frame-requires
+    slice-aggregate-put-line
+    put-line-requires
     same-length
     returns)

@@ -13,11 +13,11 @@ array-read-if1 c = search needs
 returns : tie.Need-returns
 returns c = search lone-waits
 
-slice-aggregate-put-frame : tie.Need-slice-aggregate-put-frame
-slice-aggregate-put-frame c = search needs
+slice-aggregate-put-line : tie.Need-slice-aggregate-put-line
+slice-aggregate-put-line c = search needs
 
-put-frame-requires : tie.Need-put-frame-requires
-put-frame-requires c κs = search needs
+put-line-requires : tie.Need-put-line-requires
+put-line-requires c κs = search needs
 
 same-length : tie.Need-same-length
 same-length c = search needs
@@ -32,7 +32,7 @@ emit-lone-spec =
     lone-step-requires
     array-read-if1
     returns
-    slice-aggregate-put-frame
-    put-frame-requires
+    slice-aggregate-put-line
+    put-line-requires
     same-length
     returns-2)

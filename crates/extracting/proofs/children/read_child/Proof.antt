@@ -10,11 +10,11 @@ child-at-requires c κs = search needs
 pv-mark-bound-requires : tie.Need-pv-mark-bound-requires
 pv-mark-bound-requires c κs = search needs
 
-slice-aggregate-put-frame : tie.Need-slice-aggregate-put-frame
-slice-aggregate-put-frame c = search needs
+slice-aggregate-put-line : tie.Need-slice-aggregate-put-line
+slice-aggregate-put-line c = search needs
 
-put-frame-requires : tie.Need-put-frame-requires
-put-frame-requires c κs = search needs
+put-line-requires : tie.Need-put-line-requires
+put-line-requires c κs = search needs
 
 same-length : tie.Need-same-length
 same-length c = search needs
@@ -31,8 +31,8 @@ read-child-spec =
     (tie.spec
     child-at-requires
     pv-mark-bound-requires
-    slice-aggregate-put-frame
-    put-frame-requires
+    slice-aggregate-put-line
+    put-line-requires
     same-length
     same-length-2
     returns)

@@ -1,30 +1,53 @@
--- `extracting::elements::expand` meets its contract: its fixed part, its items, its end.
+use Rattle.extracting.proofs.ElementLaws.{part-fits, part-near, items-near, line-near, opened}
 use borrow.Author.Needs.{needs}
-use Rattle.extracting.proofs.ElementLaws.{part-near, items-near, line-near, opened}
 use Rattle.extracting.proofs.elements.expand.Statement.{statement}
 use Rattle.extracting.proofs.elements.expand.Tie as tie
+use Rattle.extracting.proofs.elements.expand.Reads as reads
+use Rattle.extracting.proofs.elements.expand.Lts as lts
+use Rattle.extracting.proofs.elements.put_items.Reads as put-items-reads
+use Rattle.frames.proofs.kinds.fixed_length.Reads as fixed-length-reads
+use Rattle.frames.proofs.kinds.item_width.Reads as item-width-reads
+use Rattle.output.proofs.bytes.put_end.Reads as put-end-reads
+use Rattle.output.proofs.bytes.put_first.Reads as put-first-reads
+use Rattle.step_bytes.proofs.collection.expand_part.Reads as expand-part-reads
 
+-- src/elements.rt:49:16
 expand-part-requires : tie.Need-expand-part-requires
 expand-part-requires c κs = search needs
 
-slice-aggregate-put-fixed : tie.Need-slice-aggregate-put-fixed
-slice-aggregate-put-fixed c = search needs
+-- src/elements.rt:50:16
+array-read-step : tie.Need-array-read-step
+array-read-step c = search needs
 
-put-fixed-requires : tie.Need-put-fixed-requires
-put-fixed-requires c κs = search needs
+-- src/elements.rt:51:9
+fixed-length-requires : tie.Need-fixed-length-requires
+fixed-length-requires c κs = search needs
 
-array-read-put-items : tie.Need-array-read-put-items
-array-read-put-items c = search needs
+-- src/elements.rt:52:9
+item-width-requires : tie.Need-item-width-requires
+item-width-requires c κs = search needs
 
+-- src/elements.rt:53:32
+slice-aggregate-put-first : tie.Need-slice-aggregate-put-first
+slice-aggregate-put-first c = search needs
+
+-- src/elements.rt:53:9
+put-first-requires : tie.Need-put-first-requires
+put-first-requires c κs = (search part-fits, search needs)
+
+-- src/elements.rt:54:9
 put-items-requires : tie.Need-put-items-requires
 put-items-requires c κs = (search needs, search part-near)
 
+-- src/elements.rt:55:5
 put-end-requires : tie.Need-put-end-requires
 put-end-requires c κs = search items-near
 
+-- src/elements.rt:42:1
 same-length : tie.Need-same-length
 same-length c = search needs
 
+-- src/elements.rt:42:1
 returns : tie.Need-returns
 returns c = (search line-near, search opened)
 
@@ -33,9 +56,11 @@ expand-spec =
     tie.close
     (tie.spec
     expand-part-requires
-    slice-aggregate-put-fixed
-    put-fixed-requires
-    array-read-put-items
+    array-read-step
+    fixed-length-requires
+    item-width-requires
+    slice-aggregate-put-first
+    put-first-requires
     put-items-requires
     put-end-requires
     same-length

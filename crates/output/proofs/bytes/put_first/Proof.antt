@@ -1,63 +1,58 @@
--- `output::bytes::put_first` meets its contract: the bytes put so far, byte by byte.
+use Rattle.output.proofs.PutLaws.{none-put}
 use borrow.Author.Needs.{needs}
-use Prim.Native.Nat.{_-_}
-use Rattle.output.proofs.PutLaws.{none-put, Putting, putting-none, putting-again, putting-all}
 use Rattle.output.proofs.bytes.put_first.Statement.{statement}
 use Rattle.output.proofs.bytes.put_first.Tie as tie
+use Rattle.output.proofs.bytes.put_first.Reads as reads
+use Rattle.output.proofs.bytes.put_first.Lts as lts
+use Rattle.output.proofs.bytes.put_each.Reads as put-each-reads
+use Rattle.output.proofs.bytes.store_first.Reads as store-first-reads
 
-abbrev Inv-loop : tie.InvT-loop
-Inv-loop out₀ at bytes n to₀ i₀ out to i = Putting bytes n out₀ at out to i
+-- src/bytes.rt:80:20
+mul-end : tie.Need-mul-end
+mul-end c = search needs
 
-abbrev μ-loop : tie.MeasureT-loop
-μ-loop out₀ at bytes n to₀ i₀ out to i = n - i
+-- src/bytes.rt:80:15
+add-end : tie.Need-add-end
+add-end c = search needs
 
-mul-result : tie.Need-mul-result Inv-loop μ-loop
-mul-result c = search needs
+-- src/bytes.rt:82:9
+store-first-requires : tie.Need-store-first-requires
+store-first-requires c κs = search needs
 
-add-result : tie.Need-add-result Inv-loop μ-loop
-add-result c = search needs
-
-returns : tie.Need-returns Inv-loop μ-loop
-returns c = search none-put
-
-loop-holds : tie.Need-loop-holds Inv-loop μ-loop
-loop-holds c = search putting-none
-
-shared-slice-read-put-byte : tie.Need-shared-slice-read-put-byte Inv-loop μ-loop
-shared-slice-read-put-byte c = search needs
-
-put-byte-requires : tie.Need-put-byte-requires Inv-loop μ-loop
-put-byte-requires c κs = search needs
-
-add-i : tie.Need-add-i Inv-loop μ-loop
-add-i c = search needs
-
-loop-less : tie.Need-loop-less Inv-loop μ-loop
-loop-less c = search needs
-
-loop-again : tie.Need-loop-again Inv-loop μ-loop
-loop-again c = search putting-again
-
-same-length : tie.Need-same-length Inv-loop μ-loop
+-- src/bytes.rt:83:9
+same-length : tie.Need-same-length
 same-length c = search needs
 
-returns-2 : tie.Need-returns-2 Inv-loop μ-loop
-returns-2 c = search putting-all
+-- src/bytes.rt:83:9
+returns : tie.Need-returns
+returns c = search needs
+
+-- src/bytes.rt:86:9
+returns-2 : tie.Need-returns-2
+returns-2 c = search none-put
+
+-- src/bytes.rt:88:5
+put-each-requires : tie.Need-put-each-requires
+put-each-requires c κs = search needs
+
+-- src/bytes.rt:74:1
+same-length-2 : tie.Need-same-length-2
+same-length-2 c = search needs
+
+-- src/bytes.rt:74:1
+returns-3 : tie.Need-returns-3
+returns-3 c = search needs
 
 pub put-first-spec : {M : Type 1} → statement M
 put-first-spec =
     tie.close
     (tie.spec
-    Inv-loop
-    μ-loop
-    mul-result
-    add-result
-    returns
-    loop-holds
-    shared-slice-read-put-byte
-    put-byte-requires
-    add-i
-    loop-less
-    loop-again
+    mul-end
+    add-end
+    store-first-requires
     same-length
-    returns-2)
+    returns
+    returns-2
+    put-each-requires
+    same-length-2
+    returns-3)

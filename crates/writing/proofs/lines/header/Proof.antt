@@ -7,11 +7,11 @@ use Rattle.writing.proofs.lines.header.Tie as tie
 header-bytes-requires : tie.Need-header-bytes-requires
 header-bytes-requires c κs = search needs
 
-slice-aggregate-put-frame : tie.Need-slice-aggregate-put-frame
-slice-aggregate-put-frame c = search needs
+slice-aggregate-put-line : tie.Need-slice-aggregate-put-line
+slice-aggregate-put-line c = search needs
 
-put-frame-requires : tie.Need-put-frame-requires
-put-frame-requires c κs = (search header-fits, search needs)
+put-line-requires : tie.Need-put-line-requires
+put-line-requires c κs = (search header-fits, search needs)
 
 same-length : tie.Need-same-length
 same-length c = search needs
@@ -24,7 +24,7 @@ header-spec =
     tie.close
     (tie.spec
     header-bytes-requires
-    slice-aggregate-put-frame
-    put-frame-requires
+    slice-aggregate-put-line
+    put-line-requires
     same-length
     returns)
