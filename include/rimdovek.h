@@ -15,7 +15,7 @@ extern "C" {
 /* The highest bit of an answer: the texts are refused, and nothing is written. */
 #define RIMDOVEK_REFUSED UINT64_C(0x8000000000000000)
 
-/* Of a refusal: the document's number, the text (0 query, 1 plan, 2 table) and the line, by its last 16 bits. */
+/* Of a refusal: the document's number, the text (0 query, 1 plan, 2 table) and the line, at most 32,769. */
 static inline uint8_t rimdovek_refusal_number(uint64_t answer) { return (uint8_t)(answer >> 24); }
 static inline uint8_t rimdovek_refusal_text(uint64_t answer) { return (uint8_t)(answer >> 16); }
 static inline uint16_t rimdovek_refusal_line(uint64_t answer) { return (uint16_t)answer; }

@@ -3,4 +3,5 @@ pub mod Plans
 pub mod Runs
 pub mod Replied
 pub mod Rounds
+pub mod FewLines
 pub mod Unpacked

@@ -8,6 +8,7 @@ use borrow.Author.Tests.{lt-leb, le-leb, ne-eqb}
 use lib.ListN.{length}
 use lib.Dec.{ltb, leb}
 use Rattle.base.specs.Choose.{pick-elim}
+use Rattle.frames.specs.First.{textNumber}
 use Rattle.frames.specs.declared.first.Text.{Text}
 use Rattle.frames.specs.declared.first.Text.the-variants.{Query, Plan, Table}
 use Rattle.frames.specs.declared.first.Reading.{Reading}
@@ -20,7 +21,8 @@ use Rattle.planner.specs.Promised.{read-back}
 use Rattle.model.specs.Limits.{Status, Done, Spent, Full}
 use Rattle.running.specs.Run.{Ran}
 use Rattle.exports.specs.Runs.{code, packedRefusal, packedRun}
-use Rattle.exports.specs.Plans.{textNumber, packedCounts, packedAnswer}
+use Rattle.exports.specs.Plans.{packedCounts, packedAnswer}
+use Rattle.exports.specs.FewLines.{few-lines}
 
 -- ---- the parts of a number
 
@@ -66,15 +68,15 @@ no-bit n h = lt-leb _ _ h
 
 -- ---- a refusal, of whatever text
 
--- the number n tells the refusal by number k of the text numbered x; the line by its last 16 bits
+-- the number n tells the refusal by number k of the text numbered x at line l
 pub record TellsRefusal (k x l n : ℕ) : Type 0 where
   pub told : isRefused n ≡ true
   pub number : numberIn n ≡ k
   pub text : textIn n ≡ x
-  pub line : lineIn n ≡ l % 0x1_0000
+  pub line : lineIn n ≡ l
 
-pub refusal-told : (k x l : ℕ) → k < 0x100 → x < 0x100 → TellsRefusal k x l (packedRefusal k x l)
-refusal-told k x l p q = record { told = refused-bit (packedRefusal k x l) (omega arith); number = omega arith; text = omega arith; line = omega arith }
+pub refusal-told : (k x l : ℕ) → k < 0x100 → x < 0x100 → l < 0x1_0000 → TellsRefusal k x l (packedRefusal k x l)
+refusal-told k x l p q r = record { told = refused-bit (packedRefusal k x l) (omega arith); number = omega arith; text = omega arith; line = omega arith }
 
 -- ---- a plan
 
@@ -90,6 +92,7 @@ pub record TellsPlan (a : Answer) (n : ℕ) : Type 0 where
 pub record Within (a : Answer) : Type 0 where
   pub number : a .number ≤ 8
   pub planned : a .number ≡ 0 → 21 ≤ a .bytes
+  pub line : a .line ≤ 32769
   pub bytes : a .bytes ≤ 20565
   pub steps : a .steps ≤ 1088
   pub tallied : a .tallied ≤ 1024
@@ -100,14 +103,14 @@ unfolding plan planOf stepsOf
 plan-within x o = go (reading Query x) refl
   where
     go : (a : Reading) → reading Query x ≡ a → Within (plan x o .answer)
-    go (Refused k l) e = let z = refused-number Query x k l e in rw e (record { number = omega arith; planned = λ q. absurd (omega arith); bytes = omega arith; steps = omega arith; tallied = omega arith; rejected = omega arith })
+    go (Refused k l) e = let z = refused-number Query x k l e in rw e (record { number = omega arith; planned = λ q. absurd (omega arith); line = few-lines Query x k l e; bytes = omega arith; steps = omega arith; tallied = omega arith; rejected = omega arith })
     go (Accepted n c) e =
         let b = read-back x n c e in
         let k = few-keys x n c e in
         rw e
         (pick-elim (λ (r : Result). Within (r .answer)) (ltb (length o) (length (planOf x .text))) (turnedBack 8 0 o) (written (planOf x) o)
-        (λ _. record { number = omega arith; planned = λ q. absurd (omega arith); bytes = omega arith; steps = omega arith; tallied = omega arith; rejected = omega arith })
-        (λ _. record { number = omega arith; planned = λ q. omega (arith, b .long); bytes = b .short; steps = b .few; tallied = k .tallied-few; rejected = k .rejected-few }))
+        (λ _. record { number = omega arith; planned = λ q. absurd (omega arith); line = omega arith; bytes = omega arith; steps = omega arith; tallied = omega arith; rejected = omega arith })
+        (λ _. record { number = omega arith; planned = λ q. omega (arith, b .long); line = omega arith; bytes = b .short; steps = b .few; tallied = k .tallied-few; rejected = k .rejected-few }))
 
 few-texts : (t : Text) → textNumber t < 0x100
 few-texts Query = omega arith
@@ -129,7 +132,7 @@ pub refused-told : (x o : List ℕ) → (plan x o .answer .number ≡ 0 → ⊥)
 refused-told x o z = by (plan x o .answer) (plan-within x o) z
   where
     by : (a : Answer) → Within a → (a .number ≡ 0 → ⊥) → TellsRefusal (a .number) (textNumber (a .text)) (a .line) (packedAnswer a)
-    by a w z = rw (ne-eqb (a .number) 0 z) (refusal-told (a .number) (textNumber (a .text)) (a .line) (omega (arith, w .number)) (few-texts (a .text)))
+    by a w z = rw (ne-eqb (a .number) 0 z) (refusal-told (a .number) (textNumber (a .text)) (a .line) (omega (arith, w .number)) (few-texts (a .text)) (omega (arith, w .line)))
 
 -- ---- a run
 
