@@ -15,7 +15,7 @@ extern "C" {
 /* The highest bit of an answer: the texts are refused, and nothing is written. */
 #define RIMDOVEK_REFUSED UINT64_C(0x8000000000000000)
 
-/* Of a refusal: the document's number, the text (0 query, 1 plan, 2 table) and the line, at most 32,769. */
+/* Of a refusal: the document's number, the text (0 query, 1 plan, 2 table) and the line; a text of 65,536 bytes has less than 32,770 lines. */
 static inline uint8_t rimdovek_refusal_number(uint64_t answer) { return (uint8_t)(answer >> 24); }
 static inline uint8_t rimdovek_refusal_text(uint64_t answer) { return (uint8_t)(answer >> 16); }
 static inline uint16_t rimdovek_refusal_line(uint64_t answer) { return (uint16_t)answer; }
@@ -44,9 +44,9 @@ uint64_t rimdovek_plan(const uint8_t *query, size_t query_len, uint8_t *out, siz
 uint64_t rimdovek_round_costs(const uint8_t *query, size_t query_len, size_t round, uint64_t *costs, size_t costs_len);
 
 /* Runs a plan over a table with an allowance of tries, a line for each match. Accepted: 0 done, 1 spent or 2 full in bits 32 and 33, the bytes
-   written below, modulo 4,294,967,296: lend at most 4,294,967,295 bytes, or count the bytes by the matches, whose lines are equally long.
-   Tries and matches are set; a refusal sets 0. The run takes some 2,200 bytes of stack for a Join and 100,000 besides: 250,000 for a
-   plan of the planner, which has at most 64 Joins, and less than 6,000,000 for the longest plan text that is accepted. */
+   written below, modulo 4,294,967,296: lend at most 4,294,967,295 bytes, so that they are told whole. Tries and matches are set; a refusal
+   sets 0. The run takes some 2,200 bytes of stack for a Join and 100,000 besides: 250,000 for a plan of the planner, which has at most 64
+   Joins, and less than 6,000,000 for the longest plan text that is accepted. */
 uint64_t rimdovek_run(const uint8_t *plan, size_t plan_len, const uint8_t *table, size_t table_len, uint64_t allowance, uint8_t *out,
                       size_t out_len, uint64_t *tries, uint64_t *matches);
 

@@ -7,7 +7,7 @@ use Rattle.hex.specs.Digits.{digitsOf}
 unfoldable pub lineOf : List ℕ → List ℕ
 lineOf f = digitsOf f ++ (0x0a ∷ [])
 
--- "A refused query prints one line: ff number line(2)"; the line modulo 65,536, and none above 32,769 is told
+-- "A refused query prints one line: ff number line(2)"; the line modulo 65,536, which a text of 65,536 bytes does not reach
 abbrev pub refusalLine : ℕ → ℕ → List ℕ
 refusalLine k l = lineOf (0xff ∷ k ∷ l / 0x100 % 0x100 ∷ l % 0x100 ∷ [])
 

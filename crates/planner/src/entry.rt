@@ -13,8 +13,8 @@ use super::text::plan_size;
 use super::text::write_plan;
 use frames::first::Reading;
 use frames::first::Text;
-use lowering::places::atom_places;
 use frames::first::sheet_size;
+use lowering::places::atom_places;
 use reading::second::LONG_INDEX;
 use reading::second::LONG_SHEET;
 use reading::second::SHORT_INDEX;
@@ -65,7 +65,17 @@ fn plan_in_order(sheet: &[u8], from: &[usize], n: usize, s: Scheduled, out: &mut
     let steps = count_steps(sheet, from, n, &order, s.count);
     let tallied = s.tallied;
     let rejected = s.rejected;
-    let size = write_plan(sheet, from, n, &order, s.count, steps, tallied, rejected, out);
+    let size = write_plan(
+        sheet,
+        from,
+        n,
+        &order,
+        s.count,
+        steps,
+        tallied,
+        rejected,
+        out,
+    );
     Planned::Written(size, steps, tallied, rejected)
 }
 

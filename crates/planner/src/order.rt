@@ -44,7 +44,18 @@ fn order_by(
     ensures { λ r. ⌜ Rounded (now (sheet .entry)) last (now (costs .exit)) r ⌝ }
 {
     fill_prices(sheet, index, from, n, prices);
-    schedule(sheet, index, from, n, prices, how, keys, values, last, costs)
+    schedule(
+        sheet,
+        index,
+        from,
+        n,
+        prices,
+        how,
+        keys,
+        values,
+        last,
+        costs,
+    )
 }
 
 // How many atoms have room in a small table of prices, and in a middling one.
@@ -78,14 +89,47 @@ fn order_in(
 {
     if n <= FEW_ATOMS {
         let mut prices = [0.0; FEW_PRICES];
-        return order_by(sheet, index, from, n, &mut prices, how, keys, values, last, costs);
+        return order_by(
+            sheet,
+            index,
+            from,
+            n,
+            &mut prices,
+            how,
+            keys,
+            values,
+            last,
+            costs,
+        );
     }
     if n <= SOME_ATOMS {
         let mut prices = [0.0; SOME_PRICES];
-        return order_by(sheet, index, from, n, &mut prices, how, keys, values, last, costs);
+        return order_by(
+            sheet,
+            index,
+            from,
+            n,
+            &mut prices,
+            how,
+            keys,
+            values,
+            last,
+            costs,
+        );
     }
     let mut prices = [0.0; TABLE_SIZE];
-    order_by(sheet, index, from, n, &mut prices, how, keys, values, last, costs)
+    order_by(
+        sheet,
+        index,
+        from,
+        n,
+        &mut prices,
+        how,
+        keys,
+        values,
+        last,
+        costs,
+    )
 }
 
 // Where sampling is off nothing is remembered; where it is on there is a key for each item of each atom at most.
@@ -106,9 +150,29 @@ pub fn find_order(
     let Sampled::On(cfg) = how else {
         let mut keys = [0u64; 1];
         let mut values = [0.0; 1];
-        return order_in(sheet, index, from, n, Sampled::Off, &mut keys, &mut values, last, costs);
+        return order_in(
+            sheet,
+            index,
+            from,
+            n,
+            Sampled::Off,
+            &mut keys,
+            &mut values,
+            last,
+            costs,
+        );
     };
     let mut keys = [0u64; KEYS_MOST];
     let mut values = [0.0; KEYS_MOST];
-    order_in(sheet, index, from, n, Sampled::On(cfg), &mut keys, &mut values, last, costs)
+    order_in(
+        sheet,
+        index,
+        from,
+        n,
+        Sampled::On(cfg),
+        &mut keys,
+        &mut values,
+        last,
+        costs,
+    )
 }

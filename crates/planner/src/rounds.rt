@@ -11,8 +11,8 @@ ghost use Rattle.planner.specs.Costs.{roundOf, bitsIn, told, resultOf, r
 use super::order::find_order;
 use frames::first::Reading;
 use frames::first::Text;
-use lowering::places::atom_places;
 use frames::first::sheet_size;
+use lowering::places::atom_places;
 use reading::second::LONG_INDEX;
 use reading::second::LONG_SHEET;
 use reading::second::SHORT_INDEX;

@@ -198,17 +198,7 @@ fn item_cost(
     let q = item_probe(x);
     let t = c.tallies;
     let j = x.at;
-    let s = sampled(
-        sheet,
-        index,
-        frame,
-        j,
-        em,
-        q,
-        keys,
-        values,
-        t,
-    );
+    let s = sampled(sheet, index, frame, j, em, q, keys, values, t);
     let drawn = s.fan;
     let tallies = s.tallies;
     let cost = c.cost * item_selectivity(sheet, index, row, x, drawn);
@@ -270,17 +260,7 @@ fn item_costs(
     let mut k: usize = 0;
     while k < n {
         let x = item_at(frame, g, k, bound);
-        c = item_cost(
-            sheet,
-            index,
-            frame,
-            row,
-            x,
-            em,
-            keys,
-            values,
-            c,
-        );
+        c = item_cost(sheet, index, frame, row, x, em, keys, values, c);
         k += 1;
     }
     c
@@ -332,15 +312,5 @@ pub fn estimate_cost(
         return Costed { cost, tallies: s };
     }
     let c = Costed { cost, tallies: s };
-    item_costs(
-        sheet,
-        index,
-        frame,
-        row,
-        bound,
-        em,
-        keys,
-        values,
-        c,
-    )
+    item_costs(sheet, index, frame, row, bound, em, keys, values, c)
 }
