@@ -35,7 +35,7 @@ uint64_t rimdovek_path_selectivity(bool measured, uint64_t fanout, uint32_t deno
 uint8_t rimdovek_estimate_draws(const double *draws, size_t draws_len, size_t k, size_t bootstrap, uint64_t cv, uint64_t *mean);
 
 /* Plans a query text. Accepted: bytes written in bits 48 to 62 (no plan is longer than 20,565), steps in 32 to 47, tallied in 16 to 31,
-   rejected in 0 to 15. It takes less than 115,000 bytes of stack. */
+   rejected in 0 to 15. It takes less than 120,000 bytes of stack. */
 uint64_t rimdovek_plan(const uint8_t *query, size_t query_len, uint8_t *out, size_t out_len);
 
 /* The costs of round number `round` of a query, from 0: the bits of the first atoms' costs, as far as the array is long, and all ones for an
