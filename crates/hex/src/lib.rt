@@ -1,4 +1,4 @@
-// Lines of hexadecimal digits, each ended by byte 0a. A line in hand is a part of the caller's text; its bytes are read where they stand.
+// Lines of hexadecimal digits, each ended by byte 0a, decoded onto a sheet of raw bytes; and the fields of a raw frame.
 ghost use mathlib.Core.Path.{_≡_};
 ghost use Prim.Native.Nat.{_+_, _*_, _-_, _%_, _<_, _≤_};
 ghost use lib.ListN.{length, getD, drop};

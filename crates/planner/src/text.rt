@@ -1,4 +1,4 @@
-// The plan's sheet, by the order of the atoms.
+// The plan's text, by the order of the atoms.
 ghost use mathlib.Core.Path.{_≡_};
 ghost use mathlib.Core.List.{_∷_, map};
 ghost use Prim.Native.Nat.{_+_, _<_, _≤_};
