@@ -39,8 +39,8 @@ use Rattle.plan_facts.specs.Remembered.{keysMost, FewKeys, never, nothing-sampl
 use Rattle.lowering.specs.AtomLines.{AtomLine}
 use Rattle.lowering.specs.Eager.{Located, atomsOf}
 use Rattle.lowering.specs.Places.{Places, located}
-use Rattle.pricing.specs.Prices.{rowSize, tableSize, FewItems}
-use Rattle.pricing.specs.Remembering.{Samples}
+use Rattle.prices.specs.Prices.{rowSize, tableSize, FewItems}
+use Rattle.samples.specs.Remembering.{Samples}
 use Rattle.scheduling.specs.Rounds.{Scheduling}
 use Rattle.scheduling.specs.declared.schedule.Scheduled.{Scheduled}
 use Rattle.writing.specs.Steps.{stepsAlong, countAlong, lowered-steps, lowered-count, Ordered, PutsSteps}

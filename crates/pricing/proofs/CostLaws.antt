@@ -24,12 +24,13 @@ use Rattle.cost.specs.Costs.{Costed as Cost, childCosts, elementCosts, byReprCo
 use Rattle.cost.specs.declared.memo.Sampling.{Sampling}
 use Rattle.lowering.specs.AtomLines.{AtomLine, itemOperands}
 use Rattle.lowering.proofs.AtomLaws.{by-kind}
-use Rattle.pricing.specs.Items.{itemCosts, frameCosts, literalKind}
-use Rattle.pricing.specs.Prices.{Row}
-use Rattle.pricing.specs.Remembering.{Remembers, Stands, costAt}
+use Rattle.pricing.specs.ItemCosts.{itemCosts, frameCosts, literalKind}
+use Rattle.prices.specs.Prices.{Row}
+use Rattle.samples.specs.Remembering.{Remembers}
+use Rattle.pricing.specs.ItemCosts.{Stands, costAt}
 use Rattle.pricing.specs.declared.costs.Costed.{Costed}
 use Rattle.pricing.proofs.ItemLaws.{children-are, elements-are}
-use Rattle.pricing.proofs.PriceLaws.{row-base, row-node}
+use Rattle.prices.proofs.PriceLaws.{row-base, row-node}
 
 module _ (fs : List (List ℕ)) (em : Emitters) (B : Bound) (i : ℕ) (t : Tally) where
   -- 04, 05, 06

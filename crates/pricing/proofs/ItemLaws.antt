@@ -22,13 +22,15 @@ use Rattle.cost.specs.QueryAtoms.{operandAt, operandsFrom}
 use Rattle.cost.specs.Costs.{Costed as Cost, sampled, orMeasured, childCosts, elementCosts}
 use Rattle.plan_facts.specs.Remembered.{children-grow, elements-grow}
 use Rattle.lowering.proofs.OperandLaws.{operands-more}
-use Rattle.pricing.specs.Items.{itemProbe, itemFan, orFan, itemCost, oneCost, itemCosts, ItemsOf, itemAt, costBehind, frameCosts}
-use Rattle.pricing.specs.Remembering.{Samples, Remembers, Gives, Stands, costAt}
-use Rattle.pricing.specs.declared.memo.Sample.{Sample}
+use Rattle.pricing.specs.ItemCosts.{itemProbe, itemCost, oneCost, itemCosts, costBehind, frameCosts}
+use Rattle.prices.specs.Items.{itemFan, orFan, ItemsOf, itemAt}
+use Rattle.samples.specs.Remembering.{Samples, Remembers, Gives}
+use Rattle.pricing.specs.ItemCosts.{Stands, costAt}
+use Rattle.samples.specs.declared.memo.Sample.{Sample}
 use Rattle.pricing.specs.declared.costs.Costed.{Costed}
-use Rattle.pricing.specs.declared.costs.Probe.{Probe}
-use Rattle.pricing.specs.declared.costs.Items.{Items}
-use Rattle.pricing.specs.declared.costs.Item.{Item}
+use Rattle.samples.specs.declared.sampled.Probe.{Probe}
+use Rattle.prices.specs.declared.items.Items.{Items}
+use Rattle.prices.specs.declared.items.Item.{Item}
 
 -- ---- one item
 
@@ -99,10 +101,6 @@ module _ (fs : List (List ℕ)) (em : Emitters) (B : Bound) (f : List ℕ) (g : 
       record { few = omega arith; place = omega (arith, z .early); keys = refl; places = refl; memo = m; is = rw (e, p, z .first, z .width, z .count, z .op, z .elements) }
 
   module _ (ks : List ℕ) (xs : List Float) (c : Costed) (k : ℕ) (m : Counting fs em B f g how ks₀ xs₀ c₀ ks xs c k) where
-    -- by the settings that it has itself
-    pub next-own : Samples fs how → Samples fs (c .tallies .how) × Remembers fs (c .tallies .how) ks xs (c .tallies)
-    next-own z = (subst (Samples fs) (sym (m .memo .set)) z, subst (λ (h : Sampled). Remembers fs h ks xs (c .tallies)) (sym (m .memo .set)) (m .memo))
-
     next-is : k < g .count → itemCosts fs em B (g .op) (g .elements) (k + 1) (operandsFrom f (g .first + g .width * (k + 1)) (g .width) (g .count - (k + 1))) (costBehind fs em f (itemAt f g k B) (costAt ks c)) ≡ frameCosts fs em B f (costAt ks₀ c₀)
     unfolding itemCosts
     next-is h = rw (add-one k) (rw (operands-more f (g .first) (g .width) (g .count) k h, add-one k) at (m .is))

@@ -1,7 +1,3 @@
-pub mod MemoLaws
-pub mod LeafLaws
-pub mod PriceLaws
-pub mod EstimateLaws
-pub mod SampleLaws
+pub mod ProbeLaws
 pub mod ItemLaws
 pub mod CostLaws

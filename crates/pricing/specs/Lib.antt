@@ -1,3 +1,1 @@
-pub mod Items
-pub mod Remembering
-pub mod Prices
+pub mod ItemCosts

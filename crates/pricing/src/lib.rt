@@ -1,4 +1,2 @@
-// The cost of an atom: the prices that no sample changes, the memo of what was sampled, and `estimate_cost`.
+// The cost of an atom: its price, and the selectivity of each bound item, sampled or not.
 pub mod costs;
-pub mod memo;
-pub mod prices;

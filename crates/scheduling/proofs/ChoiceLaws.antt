@@ -29,7 +29,8 @@ use Rattle.cost.specs.Choice.{isCandidate, offer, offered, offers}
 use Rattle.cost.specs.declared.memo.Sampling.{Sampling}
 use Rattle.plan_facts.specs.Remembered.{Grows, grows-self, cost-grows}
 use Rattle.lowering.specs.Eager.{Located, atomsOf}
-use Rattle.pricing.specs.Remembering.{Samples, Remembers, Stands}
+use Rattle.samples.specs.Remembering.{Samples, Remembers}
+use Rattle.pricing.specs.ItemCosts.{Stands}
 use Rattle.pricing.specs.declared.costs.Costed.{Costed as CostedAs}
 use Rattle.scheduling.specs.declared.choose.Best.{Best}
 use Rattle.scheduling.specs.Choosing.{bidOf, orBest, candidates, noCost, costBits, noted, Chose, betterOf}
@@ -115,13 +116,6 @@ pub scanning-none : (x : List ℕ) (em : Emitters) (U B : Bound) (n : ℕ) (s : 
 scanning-none x em U B n s keys values costs m = record { few = omega arith; is = refl; costs-are = λ h. refl; memo = m; keys-size = refl; values-size = refl; costs-size = refl }
 
 module _ (x from : List ℕ) (em : Emitters) (U B : Bound) (n : ℕ) (s₀ : Sampling) (keys₀ : List ℕ) (values₀ : List Float) (costs₀ keys : List ℕ) (values : List Float) (costs : List ℕ) (b : Best) (i : ℕ) (r : Scanning x em U B n s₀ keys₀ values₀ costs₀ keys values costs b i) (z : Located x from n) where
-  -- by the settings that it has itself
-  pub own-samples : Samples (framesIn x) (s₀ .how) → Samples (framesIn x) (b .tallies .how)
-  own-samples h = subst (Samples (framesIn x)) (sym (r .memo .set)) h
-
-  pub own-memo : Remembers (framesIn x) (b .tallies .how) keys values (b .tallies)
-  own-memo = subst (λ (h : Sampled). Remembers (framesIn x) h keys values (b .tallies)) (sym (r .memo .set)) (r .memo)
-
   module _ (h : i < n) (s : List ℕ) (line : s ≡ frameAt x (getD from i 0)) (v : ℕ) (e : v ≡ i) where
     abbrev behind : Tally
     behind = offered (framesIn x) em U B v (atomOfFrame s) (tallyAt keys (b .tallies))

@@ -27,7 +27,7 @@ use Rattle.cost.specs.declared.memo.Sampling.{Sampling}
 use Rattle.plan_facts.specs.Remembered.{keysMost, loop-grows}
 use Rattle.lowering.specs.Eager.{state, Went, Located, Ready, atomsOf}
 use Rattle.lowering.proofs.EagerLaws.{lowered-then}
-use Rattle.pricing.specs.Remembering.{Samples, Remembers}
+use Rattle.samples.specs.Remembering.{Samples, Remembers}
 use Rattle.scheduling.specs.Choosing.{bidOf, orBest, candidates, costBits}
 use Rattle.scheduling.specs.Rounds.{emittersOf, Prepared, Chooses, TakesNext, RoundRoom, Ordering, Scheduling, Rounded}
 use Rattle.scheduling.specs.declared.choose.Scheduler.{Scheduler}
@@ -177,13 +177,6 @@ module _ (x : List ℕ) where
 
     pub prepared : Prepared x d
     prepared = record { ready = r .sofar .ready; emitters = r .emitters }
-
-    -- by the settings that it has itself
-    pub own-samples : Samples (framesIn x) how → Samples (framesIn x) (s .how)
-    own-samples h = subst (Samples (framesIn x)) (sym (r .memo .set)) h
-
-    pub own-memo : Remembers (framesIn x) (s .how) keys values s
-    own-memo = subst (λ (h : Sampled). Remembers (framesIn x) h keys values s) (sym (r .memo .set)) (r .memo)
 
     pub round-room : length (rounds (framesIn x) (atomsOf x) (suc last) .memory .tally .memo) ≤ length keys₀ → RoundRoom x d keys s
     round-room l =

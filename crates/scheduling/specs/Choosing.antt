@@ -17,7 +17,7 @@ use Rattle.cost.specs.Emitters.{Emitters}
 use Rattle.cost.specs.Sampling.{Tally}
 use Rattle.cost.specs.Choice.{offer, offered}
 use Rattle.cost.specs.Memo.{tallyAt}
-use Rattle.pricing.specs.Remembering.{Remembers}
+use Rattle.samples.specs.Remembering.{Remembers}
 use Rattle.pricing.specs.declared.costs.Costed.{Costed as CostedAs}
 use Rattle.scheduling.specs.declared.choose.Best.{Best}
 

@@ -14,17 +14,17 @@ ghost use Rattle.cost.specs.Memo.{tallyAt};
 ghost use Rattle.cost.specs.Choice.{isCandidate, offers};
 ghost use Rattle.lowering.specs.AtomLines.{AtomLine};
 ghost use Rattle.lowering.specs.Eager.{Located, atomsOf};
-ghost use Rattle.pricing.specs.Prices.{Priced};
-ghost use Rattle.pricing.specs.Remembering.{Samples, Remembers};
+ghost use Rattle.prices.specs.Prices.{Priced};
+ghost use Rattle.samples.specs.Remembering.{Samples, Remembers};
 ghost use Rattle.scheduling.specs.Choosing.{noted, candidates, Chose, betterOf};
 use cost::memo::Sampling;
 use frames::fields::narrow;
 use lowering::atom::scans;
 use lowering::eager::atom_line;
 use lowering::sets::is_set;
+use prices::table::ROW_SIZE;
 use pricing::costs::Costed;
 use pricing::costs::estimate_cost;
-use pricing::prices::ROW_SIZE;
 use sqrt::bits_of;
 
 // The scheduler's state: the atoms lowered, the variables bound, the atoms that were lowered when emitters were last recorded, the

@@ -4,8 +4,9 @@ use Prim.Native.Nat.{_-_}
 use mathlib.Core.List.{map}
 use Rattle.frames.specs.Sheet.{framesIn}
 use Rattle.cost.specs.Emitters.{decode}
-use Rattle.pricing.proofs.ItemLaws.{Counting, counting-none, next-own, next-small, next-at, next-room, counting-again, counting-all}
-use Rattle.pricing.proofs.PriceLaws.{item-priced}
+use Rattle.pricing.proofs.ItemLaws.{Counting, counting-none, next-small, next-at, next-room, counting-again, counting-all}
+use Rattle.samples.proofs.OwnLaws.{own-samples, own-memo}
+use Rattle.prices.proofs.PriceLaws.{item-priced}
 use Rattle.pricing.proofs.costs.item_costs.Statement.{statement}
 use Rattle.pricing.proofs.costs.item_costs.Tie as tie
 
@@ -25,7 +26,7 @@ item-at-requires : tie.Need-item-at-requires Inv-loop μ-loop
 item-at-requires c κs = next-small _ _ _ _ _ _ _ _ _ _ _ _ _ (c .before .loop .inv) (c .before .before .items-at .ensures) (c .loop-test .taken)
 
 item-cost-requires : tie.Need-item-cost-requires Inv-loop μ-loop
-item-cost-requires c κs = (next-at _ _ _ _ _ _ _ _ _ _ _ _ _ (c .before .before .before .before .loop .inv) _ (c .before .before .item-at .ensures) (c .before .before .before .loop-test .taken) (c .before .before .before .before .before .items-at .ensures), (next-own _ _ _ _ _ _ _ _ _ _ _ _ _ (c .before .before .before .before .loop .inv) (c .before .before .before .before .before .before .before .before .before .before .before .before .before .before .pre .0) .0, (next-own _ _ _ _ _ _ _ _ _ _ _ _ _ (c .before .before .before .before .loop .inv) (c .before .before .before .before .before .before .before .before .before .before .before .before .before .before .pre .0) .1, (next-room _ _ _ _ _ _ _ _ _ _ _ _ _ (c .before .before .before .before .loop .inv) _ (c .before .before .item-at .ensures) (c .before .before .before .loop-test .taken) (c .before .before .before .before .before .before .before .before .before .before .before .before .before .before .pre .1 .1 .0), (c .before .before .before .before .before .before .before .before .before .before .before .before .before .before .pre .1 .1 .1 .0, item-priced _ _ _ _ _ _ _ (c .before .before .before .before .before .items-at .ensures) (c .before .before .before .before .before .before .before .before .before .before .before .before .before .before .pre .1 .1 .1 .1) (c .before .before .item-at .ensures) (c .before .before .before .loop-test .taken))))))
+item-cost-requires c κs = (next-at _ _ _ _ _ _ _ _ _ _ _ _ _ (c .before .before .before .before .loop .inv) _ (c .before .before .item-at .ensures) (c .before .before .before .loop-test .taken) (c .before .before .before .before .before .items-at .ensures), (own-samples _ _ _ _ _ (c .before .before .before .before .loop .inv .memo) (c .before .before .before .before .before .before .before .before .before .before .before .before .before .before .pre .0), (own-memo _ _ _ _ _ (c .before .before .before .before .loop .inv .memo), (next-room _ _ _ _ _ _ _ _ _ _ _ _ _ (c .before .before .before .before .loop .inv) _ (c .before .before .item-at .ensures) (c .before .before .before .loop-test .taken) (c .before .before .before .before .before .before .before .before .before .before .before .before .before .before .pre .1 .1 .0), (c .before .before .before .before .before .before .before .before .before .before .before .before .before .before .pre .1 .1 .1 .0, item-priced _ _ _ _ _ _ _ (c .before .before .before .before .before .items-at .ensures) (c .before .before .before .before .before .before .before .before .before .before .before .before .before .before .pre .1 .1 .1 .1) (c .before .before .item-at .ensures) (c .before .before .before .loop-test .taken))))))
 
 add-k : tie.Need-add-k Inv-loop μ-loop
 add-k c = search needs

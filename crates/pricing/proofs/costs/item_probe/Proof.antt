@@ -1,5 +1,5 @@
 -- `pricing::costs::item_probe` meets its contract: a child or an element.
-use Rattle.pricing.proofs.LeafLaws.{element-probe, child-probe}
+use Rattle.pricing.proofs.ProbeLaws.{element-probe, child-probe}
 use Rattle.pricing.proofs.costs.item_probe.Statement.{statement}
 use Rattle.pricing.proofs.costs.item_probe.Tie as tie
 

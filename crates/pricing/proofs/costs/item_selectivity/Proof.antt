@@ -1,5 +1,5 @@
 -- `pricing::costs::item_selectivity` meets its contract: by whether there is a sample.
-use Rattle.pricing.proofs.PriceLaws.{by-sample, by-row}
+use Rattle.prices.proofs.PriceLaws.{by-sample, by-row}
 use borrow.Author.Needs.{needs}
 use Rattle.pricing.proofs.costs.item_selectivity.Statement.{statement}
 use Rattle.pricing.proofs.costs.item_selectivity.Tie as tie

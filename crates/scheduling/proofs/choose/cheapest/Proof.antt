@@ -5,9 +5,10 @@ use Prim.Native.Nat.{_-_}
 use mathlib.Core.Path.{sym}
 use mathlib.Core.List.{map}
 use Rattle.cost.specs.Emitters.{decode}
-use Rattle.pricing.proofs.PriceLaws.{row-within, row-priced}
+use Rattle.prices.proofs.PriceLaws.{row-within, row-priced}
 use Rattle.lowering.specs.LocatedLaws.{place-sized, place-within, number-small, line-ready}
-use Rattle.scheduling.proofs.ChoiceLaws.{Scanning, scanning-none, own-samples, own-memo, scanning-not, cost-room, scanning-cost, scanned}
+use Rattle.samples.proofs.OwnLaws.{own-samples, own-memo}
+use Rattle.scheduling.proofs.ChoiceLaws.{Scanning, scanning-none, scanning-not, cost-room, scanning-cost, scanned}
 use Rattle.scheduling.proofs.choose.cheapest.Statement.{statement}
 use Rattle.scheduling.proofs.choose.cheapest.Tie as tie
 
@@ -69,7 +70,7 @@ slice-aggregate-estimate-cost-2 : tie.Need-slice-aggregate-estimate-cost-2 Inv-l
 slice-aggregate-estimate-cost-2 c = sym (c .before .before .before .before .before .before .before .before .before .before .before .before .before .before .before .before .before .before .before .before .before .pre .1 .0 .1)
 
 estimate-cost-requires : tie.Need-estimate-cost-requires Inv-loop μ-loop
-estimate-cost-requires c κs = (line-ready _ _ _ (c .before .before .before .before .before .before .before .before .before .before .before .before .before .before .before .before .before .before .before .before .before .before .before .pre .0) _ (c .before .before .before .before .before .before .before .before .before .before .before .loop-test .taken) _ (c .before .before .before .before .before .before .before .before .before .atom-line .ensures), (own-samples _ _ _ _ _ _ _ _ _ _ _ _ _ _ _ (c .before .before .before .before .before .before .before .before .before .before .before .before .loop .inv) (c .before .before .before .before .before .before .before .before .before .before .before .before .before .before .before .before .before .before .before .before .before .before .before .pre .0) (c .before .before .before .before .before .before .before .before .before .before .before .before .before .before .before .before .before .before .before .before .before .before .before .pre .1 .1 .0), (own-memo _ _ _ _ _ _ _ _ _ _ _ _ _ _ _ (c .before .before .before .before .before .before .before .before .before .before .before .before .loop .inv) (c .before .before .before .before .before .before .before .before .before .before .before .before .before .before .before .before .before .before .before .before .before .before .before .pre .0), (cost-room _ _ _ _ _ _ _ _ _ _ _ _ _ _ _ (c .before .before .before .before .before .before .before .before .before .before .before .before .loop .inv) (c .before .before .before .before .before .before .before .before .before .before .before .before .before .before .before .before .before .before .before .before .before .before .before .pre .0) (c .before .before .before .before .before .before .before .before .before .before .before .loop-test .taken) _ (c .before .before .before .before .before .before .before .before .before .atom-line .ensures) _ (c .before .before .before .before .before .before .before .before .before .before .narrow .ensures) _ (c .before .before .before .before .before .before .before .is-candidate .ensures) (c .before .before .before .before .before .before .if1 .left) (c .before .before .before .before .before .before .before .before .before .before .before .before .before .before .before .before .before .before .before .before .before .before .before .pre .1 .1 .1 .1 .0), (c .before .before .before .before .before .before .before .before .before .before .before .before .before .before .before .before .before .before .before .before .before .before .before .pre .1 .1 .1 .1 .1 .0, row-priced _ _ _ _ (c .before .before .before .before .before .before .before .before .before .before .before .before .before .before .before .before .before .before .before .before .before .before .before .pre .1 .1 .1 .1 .1 .1) _ (c .before .before .before .before .before .before .before .before .before .before .before .loop-test .taken) _ _ (c .before .before .before .before .before .before .before .before .before .before .narrow .ensures) (c .before .before .before .before .before .before .before .before .before .atom-line .ensures))))))
+estimate-cost-requires c κs = (line-ready _ _ _ (c .before .before .before .before .before .before .before .before .before .before .before .before .before .before .before .before .before .before .before .before .before .before .before .pre .0) _ (c .before .before .before .before .before .before .before .before .before .before .before .loop-test .taken) _ (c .before .before .before .before .before .before .before .before .before .atom-line .ensures), (own-samples _ _ _ _ _ (c .before .before .before .before .before .before .before .before .before .before .before .before .loop .inv .memo) (c .before .before .before .before .before .before .before .before .before .before .before .before .before .before .before .before .before .before .before .before .before .before .before .pre .1 .1 .0), (own-memo _ _ _ _ _ (c .before .before .before .before .before .before .before .before .before .before .before .before .loop .inv .memo), (cost-room _ _ _ _ _ _ _ _ _ _ _ _ _ _ _ (c .before .before .before .before .before .before .before .before .before .before .before .before .loop .inv) (c .before .before .before .before .before .before .before .before .before .before .before .before .before .before .before .before .before .before .before .before .before .before .before .pre .0) (c .before .before .before .before .before .before .before .before .before .before .before .loop-test .taken) _ (c .before .before .before .before .before .before .before .before .before .atom-line .ensures) _ (c .before .before .before .before .before .before .before .before .before .before .narrow .ensures) _ (c .before .before .before .before .before .before .before .is-candidate .ensures) (c .before .before .before .before .before .before .if1 .left) (c .before .before .before .before .before .before .before .before .before .before .before .before .before .before .before .before .before .before .before .before .before .before .before .pre .1 .1 .1 .1 .0), (c .before .before .before .before .before .before .before .before .before .before .before .before .before .before .before .before .before .before .before .before .before .before .before .pre .1 .1 .1 .1 .1 .0, row-priced _ _ _ _ (c .before .before .before .before .before .before .before .before .before .before .before .before .before .before .before .before .before .before .before .before .before .before .before .pre .1 .1 .1 .1 .1 .1) _ (c .before .before .before .before .before .before .before .before .before .before .before .loop-test .taken) _ _ (c .before .before .before .before .before .before .before .before .before .before .narrow .ensures) (c .before .before .before .before .before .before .before .before .before .atom-line .ensures))))))
 
 bits-of-requires : tie.Need-bits-of-requires Inv-loop μ-loop
 bits-of-requires c κs = search needs

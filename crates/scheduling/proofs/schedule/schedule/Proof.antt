@@ -1,7 +1,8 @@
 -- `scheduling::schedule::schedule` meets its contract: the rounds left give what all give.
 use borrow.Author.Needs.{needs}
 use mathlib.Core.Path.{_∙_}
-use Rattle.scheduling.proofs.LoopLaws.{Rounding, rounding-start, prepared, own-samples, own-memo, round-room, rounding-ends, next-below, next-scans, next-unused, next-prepared, rounding-over, rounding-again}
+use Rattle.samples.proofs.OwnLaws.{own-samples, own-memo}
+use Rattle.scheduling.proofs.LoopLaws.{Rounding, rounding-start, prepared, round-room, rounding-ends, next-below, next-scans, next-unused, next-prepared, rounding-over, rounding-again}
 use Rattle.scheduling.proofs.schedule.schedule.Statement.{statement}
 use Rattle.scheduling.proofs.schedule.schedule.Tie as tie
 
@@ -15,7 +16,7 @@ loop-holds : tie.Need-loop-holds Inv-loop μ-loop
 loop-holds c = rounding-start (c .before .before .before .before .before .before .before .args .sheet .now) _ _ (c .before .before .before .before .before .before .before .pre .0) _ _ _ _ _ (c .before .before .before .before .before .before .before .pre .1 .1 .0)
 
 choose-next-requires : tie.Need-choose-next-requires Inv-loop μ-loop
-choose-next-requires c κs = (c .before .before .before .before .before .before .before .before .before .before .before .pre .0, (prepared (c .before .before .before .before .before .before .before .before .before .before .before .args .sheet .now) _ _ (c .before .before .before .before .before .before .before .before .before .before .before .pre .0) _ _ _ _ _ _ _ _ _ _ _ (c .before .before .before .loop .inv), (own-samples (c .before .before .before .before .before .before .before .before .before .before .before .args .sheet .now) _ _ (c .before .before .before .before .before .before .before .before .before .before .before .pre .0) _ _ _ _ _ _ _ _ _ _ _ (c .before .before .before .loop .inv) (c .before .before .before .before .before .before .before .before .before .before .before .pre .1 .0), (own-memo (c .before .before .before .before .before .before .before .before .before .before .before .args .sheet .now) _ _ (c .before .before .before .before .before .before .before .before .before .before .before .pre .0) _ _ _ _ _ _ _ _ _ _ _ (c .before .before .before .loop .inv), (round-room (c .before .before .before .before .before .before .before .before .before .before .before .args .sheet .now) _ _ (c .before .before .before .before .before .before .before .before .before .before .before .pre .0) _ _ _ _ _ _ _ _ _ _ _ (c .before .before .before .loop .inv) (c .before .before .before .before .before .before .before .before .before .before .before .pre .1 .1 .1 .0), (c .before .before .before .before .before .before .before .before .before .before .before .pre .1 .1 .1 .1 .0, c .before .before .before .before .before .before .before .before .before .before .before .pre .1 .1 .1 .1 .1))))))
+choose-next-requires c κs = (c .before .before .before .before .before .before .before .before .before .before .before .pre .0, (prepared (c .before .before .before .before .before .before .before .before .before .before .before .args .sheet .now) _ _ (c .before .before .before .before .before .before .before .before .before .before .before .pre .0) _ _ _ _ _ _ _ _ _ _ _ (c .before .before .before .loop .inv), (own-samples _ _ _ _ _ (c .before .before .before .loop .inv .memo) (c .before .before .before .before .before .before .before .before .before .before .before .pre .1 .0), (own-memo _ _ _ _ _ (c .before .before .before .loop .inv .memo), (round-room (c .before .before .before .before .before .before .before .before .before .before .before .args .sheet .now) _ _ (c .before .before .before .before .before .before .before .before .before .before .before .pre .0) _ _ _ _ _ _ _ _ _ _ _ (c .before .before .before .loop .inv) (c .before .before .before .before .before .before .before .before .before .before .before .pre .1 .1 .1 .0), (c .before .before .before .before .before .before .before .before .before .before .before .pre .1 .1 .1 .1 .0, c .before .before .before .before .before .before .before .before .before .before .before .pre .1 .1 .1 .1 .1))))))
 
 ended-requires : tie.Need-ended-requires Inv-loop μ-loop
 ended-requires c κs = search needs

@@ -1,0 +1,5 @@
+pub mod MemoLaws
+pub mod KeyLaws
+pub mod EstimateLaws
+pub mod SampleLaws
+pub mod OwnLaws
