@@ -12,7 +12,7 @@ use Rattle.reading.specs.Second.{reading}
 use Rattle.model.specs.Tabulate.{tabulate}
 use Rattle.cost.specs.QueryAtoms.{atomsIn}
 use Rattle.cost.specs.Choice.{Memory, rounds}
-use Rattle.scheduling.specs.Choosing.{noCost, costBits}
+use Rattle.choosing.specs.Choosing.{noCost, costBits}
 use Rattle.planner.specs.declared.rounds.RoundCosts.{RoundCosts}
 use Rattle.planner.specs.declared.rounds.RoundCosts.the-variants.{Chosen as Chose, Ended as Over, Refused as TurnsBack}
 

@@ -5,7 +5,7 @@ ghost use lib.ListN.{length, getD, take};
 ghost use Rattle.frames.specs.Sheet.{framesIn};
 ghost use Rattle.reading.specs.Index.{Indexed};
 ghost use Rattle.reading.specs.IndexedReading.{Lent};
-ghost use Rattle.scheduling.specs.Choosing.{noCost};
+ghost use Rattle.choosing.specs.Choosing.{noCost};
 ghost use Rattle.planner.specs.Entry.{Accepts};
 ghost use Rattle.planner.specs.Costs.{roundOf, bitsIn, told, resultOf, roundCosts};
 use super::order::find_order;
@@ -22,7 +22,7 @@ use reading::second::TINY_INDEX;
 use reading::second::TINY_SHEET;
 use reading::second::TINY_TEXT;
 use reading::second::read_indexed;
-use scheduling::choose::NO_COST;
+use choosing::choose::NO_COST;
 
 pub enum RoundCosts {
     // the atom chosen

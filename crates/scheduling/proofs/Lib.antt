@@ -1,3 +1,2 @@
-pub mod ChoiceLaws
 pub mod RoundLaws
 pub mod LoopLaws

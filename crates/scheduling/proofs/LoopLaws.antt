@@ -28,12 +28,12 @@ use Rattle.plan_facts.specs.Remembered.{keysMost, loop-grows}
 use Rattle.lowering.specs.Eager.{state, Went, Located, Ready, atomsOf}
 use Rattle.lowering.proofs.EagerLaws.{lowered-then}
 use Rattle.samples.specs.Remembering.{Samples, Remembers}
-use Rattle.scheduling.specs.Choosing.{bidOf, orBest, candidates, costBits}
+use Rattle.choosing.specs.Choosing.{bidOf, orBest, candidates, costBits}
 use Rattle.scheduling.specs.Rounds.{emittersOf, Prepared, Chooses, TakesNext, RoundRoom, Ordering, Scheduling, Rounded}
-use Rattle.scheduling.specs.declared.choose.Scheduler.{Scheduler}
+use Rattle.choosing.specs.declared.choose.Scheduler.{Scheduler}
 use Rattle.scheduling.specs.declared.schedule.Round.{Round}
 use Rattle.scheduling.specs.declared.schedule.Scheduled.{Scheduled}
-use Rattle.scheduling.proofs.ChoiceLaws.{offers-number}
+use Rattle.choosing.proofs.ChoiceLaws.{offers-number}
 
 -- ---- the choice by cost, over the tally alone
 

@@ -21,9 +21,9 @@ use Rattle.lowering.specs.AtomLines.{AtomLine, lowers, boundBehind, Lowers}
 use Rattle.lowering.specs.Eager.{Went, LoweredEager, Lined, Located, Ready, atomsOf}
 use Rattle.lowering.specs.LocatedLaws.{place-sized, place-within, number-among, line-ready}
 use Rattle.lowering.proofs.EagerLaws.{went-one}
-use Rattle.scheduling.specs.Choosing.{candidates}
+use Rattle.choosing.specs.Choosing.{candidates}
 use Rattle.scheduling.specs.Rounds.{emittersOf, Advances, Takes, TakesNext, roundTally, RoundRoom}
-use Rattle.scheduling.specs.declared.choose.Scheduler.{Scheduler}
+use Rattle.choosing.specs.declared.choose.Scheduler.{Scheduler}
 
 -- ---- an eager round, and the choice
 

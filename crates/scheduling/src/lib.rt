@@ -1,3 +1,2 @@
-// The choice by cost, and the greedy loop.
-pub mod choose;
+// The greedy loop: eager rounds, and the cheapest atom behind each.
 pub mod schedule;

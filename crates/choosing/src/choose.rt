@@ -16,7 +16,7 @@ ghost use Rattle.lowering.specs.AtomLines.{AtomLine};
 ghost use Rattle.lowering.specs.Eager.{Located, atomsOf};
 ghost use Rattle.prices.specs.Prices.{Priced};
 ghost use Rattle.samples.specs.Remembering.{Samples, Remembers};
-ghost use Rattle.scheduling.specs.Choosing.{noted, candidates, Chose, betterOf};
+ghost use Rattle.choosing.specs.Choosing.{noted, candidates, Chose, betterOf};
 use cost::memo::Sampling;
 use frames::fields::narrow;
 use lowering::atom::scans;
@@ -139,9 +139,18 @@ pub fn cheapest(
         }
         let at = ROW_SIZE * i;
         let end = at + ROW_SIZE;
-        let row = &prices[at..end];
-        let t = b.tallies;
-        let c = estimate_cost(sheet, index, frame, row, k, &bound, &em, keys, values, t);
+        let c = estimate_cost(
+            sheet,
+            index,
+            frame,
+            &prices[at..end],
+            k,
+            &bound,
+            &em,
+            keys,
+            values,
+            b.tallies,
+        );
         note_cost(costs, i, bits_of(c.cost));
         b = better(k, c, b);
         i += 1;

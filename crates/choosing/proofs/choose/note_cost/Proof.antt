@@ -1,8 +1,8 @@
--- `scheduling::choose::note_cost` meets its contract: where there is a place.
+-- `choosing::choose::note_cost` meets its contract: where there is a place.
 use borrow.Author.Tests.{lt-ltb, le-ltb}
 use borrow.Author.Needs.{needs}
-use Rattle.scheduling.proofs.choose.note_cost.Statement.{statement}
-use Rattle.scheduling.proofs.choose.note_cost.Tie as tie
+use Rattle.choosing.proofs.choose.note_cost.Statement.{statement}
+use Rattle.choosing.proofs.choose.note_cost.Tie as tie
 
 mul-costs : tie.Need-mul-costs
 mul-costs c = search needs

@@ -32,8 +32,8 @@ use Rattle.lowering.specs.Eager.{Located, atomsOf}
 use Rattle.samples.specs.Remembering.{Samples, Remembers}
 use Rattle.pricing.specs.ItemCosts.{Stands}
 use Rattle.pricing.specs.declared.costs.Costed.{Costed as CostedAs}
-use Rattle.scheduling.specs.declared.choose.Best.{Best}
-use Rattle.scheduling.specs.Choosing.{bidOf, orBest, candidates, noCost, costBits, noted, Chose, betterOf}
+use Rattle.choosing.specs.declared.choose.Best.{Best}
+use Rattle.choosing.specs.Choosing.{bidOf, orBest, candidates, noCost, costBits, noted, Chose, betterOf}
 
 -- ---- one atom
 

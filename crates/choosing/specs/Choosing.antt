@@ -19,7 +19,7 @@ use Rattle.cost.specs.Choice.{offer, offered}
 use Rattle.cost.specs.Memo.{tallyAt}
 use Rattle.samples.specs.Remembering.{Remembers}
 use Rattle.pricing.specs.declared.costs.Costed.{Costed as CostedAs}
-use Rattle.scheduling.specs.declared.choose.Best.{Best}
+use Rattle.choosing.specs.declared.choose.Best.{Best}
 
 -- the best so far, where there is one
 abbrev pub bidOf : Bool → ℕ → Float → Option (Bid Float)

@@ -1,8 +1,8 @@
--- `scheduling::choose::is_candidate` meets its contract: used, or by what scans.
-use Rattle.scheduling.proofs.ChoiceLaws.{candidate-used, candidate-scans}
+-- `choosing::choose::is_candidate` meets its contract: used, or by what scans.
+use Rattle.choosing.proofs.ChoiceLaws.{candidate-used, candidate-scans}
 use borrow.Author.Needs.{needs}
-use Rattle.scheduling.proofs.choose.is_candidate.Statement.{statement}
-use Rattle.scheduling.proofs.choose.is_candidate.Tie as tie
+use Rattle.choosing.proofs.choose.is_candidate.Statement.{statement}
+use Rattle.choosing.proofs.choose.is_candidate.Tie as tie
 
 is-set-requires : tie.Need-is-set-requires
 is-set-requires c κs = search needs
