@@ -1,3 +1,1 @@
 pub mod EmitterLaws
-pub mod ItemLaws
-pub mod RecordLaws

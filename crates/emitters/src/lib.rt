@@ -1,3 +1,2 @@
-// The emitters of a query's variables, recorded atom by atom as the atoms are lowered.
+// The emitters of a query's variables, a number for each.
 pub mod numbers;
-pub mod record;

@@ -9,6 +9,7 @@ ghost use Rattle.choosing.specs.Choosing.{noCost};
 ghost use Rattle.planner.specs.Entry.{Accepts};
 ghost use Rattle.planner.specs.Costs.{roundOf, bitsIn, told, resultOf, roundCosts};
 use super::order::find_order;
+use choosing::choose::NO_COST;
 use frames::first::Reading;
 use frames::first::Text;
 use frames::first::sheet_size;
@@ -22,7 +23,6 @@ use reading::second::TINY_INDEX;
 use reading::second::TINY_SHEET;
 use reading::second::TINY_TEXT;
 use reading::second::read_indexed;
-use choosing::choose::NO_COST;
 
 pub enum RoundCosts {
     // the atom chosen

@@ -14,7 +14,9 @@ use Rattle.model.specs.Lowering.{Emitted, lower}
 use Rattle.model.specs.Scheduling.{State, scans, emitAt, atomOf, numbers}
 use Rattle.model.specs.Scheduled.{unlowered-lt}
 use Rattle.cost.specs.QueryAtoms.{atomOfFrame}
-use Rattle.cost.specs.Emitters.{Emitters, recordAtom, recordEmitters}
+use Rattle.cost.specs.Emitters.{Emitters, recordAtom}
+use Rattle.recording.specs.Changed.{changedFrom, recordNumbers}
+use Rattle.recording.proofs.ChangedLaws.{changed-recorded}
 use Rattle.cost.specs.Memo.{tallyAt}
 use Rattle.cost.specs.declared.memo.Sampling.{Sampling}
 use Rattle.lowering.specs.AtomLines.{AtomLine, lowers, boundBehind, Lowers}
@@ -28,8 +30,9 @@ use Rattle.choosing.specs.declared.choose.Scheduler.{Scheduler}
 -- ---- an eager round, and the choice
 
 module _ (x : List ℕ) (d e : Scheduler) where
-  pub advances : LoweredEager x (d .used) (d .bound) (d .order) (d .count) (e .used) (e .bound) (e .order) (e .count) → emittersOf e ≡ recordEmitters (d .before) (e .used) 0 (atomsOf x) (emittersOf d) → length (e .emitters) ≡ most → Advances x d e
-  advances w q l = record { went = w; emitters = q; size = l }
+  pub advances : (from : List ℕ) (n : ℕ) (l : List ℕ) → Located x from n → LoweredEager x (d .used) (d .bound) (d .order) (d .count) (e .used) (e .bound) (e .order) (e .count)
+      → l ≡ changedFrom (d .before) (e .used) 0 n → emittersOf e ≡ recordNumbers (atomsOf x) l (emittersOf d) → length (e .emitters) ≡ most → Advances x d e
+  advances from n l z w c q s = record { went = w; emitters = q ∙ rw c (changed-recorded (d .before) (e .used) (atomsOf x) 0 n (emittersOf d) (omega (arith, z .count))); size = s }
 
   pub choice-room : Advances x d e → (keys : List ℕ) (s : Sampling) → RoundRoom x d keys s → length (candidates (framesIn x) (emittersOf e) (atomsOf x) (e .used) (e .bound) (numbers (atomsOf x)) (tallyAt keys s) none .next .memo) ≤ length keys
   choice-room a keys s r = rw (a .emitters) (subst (λ (st : State). length (roundTally x st (d .before) (emittersOf d) keys s .memo) ≤ length keys) (a .went .is (r .steps)) (r .room))

@@ -19,14 +19,15 @@ use choosing::choose::Best;
 use choosing::choose::Scheduler;
 use choosing::choose::cheapest;
 use cost::memo::Sampling;
-use emitters::record::record_atom;
-use emitters::record::record_emitters;
 use frames::fields::wide;
 use lowering::atom::lower_bound;
 use lowering::eager::atom_line;
 use lowering::eager::lower_eager;
 use lowering::sets::set_bound;
 use query::statistics::Sampled;
+use recording::changed::changed;
+use recording::record::record_atom;
+use recording::record::record_numbers;
 
 // The state behind an eager round, and the cheapest of the atoms left.
 pub struct Round {
@@ -44,7 +45,7 @@ pub struct Scheduled {
     pub who: u8,
 }
 
-// An eager round, and the emitters of what it lowered.
+// An eager round, and the emitters of what it lowered, recorded by atom number.
 fn advance(sheet: &[u8], from: &[usize], n: usize, d: Scheduler) -> Scheduler
     requires { ⌜ Located (now sheet) (now from) n ⌝ }
     requires { ⌜ Prepared (now sheet) d ⌝ }
@@ -56,7 +57,9 @@ fn advance(sheet: &[u8], from: &[usize], n: usize, d: Scheduler) -> Scheduler
     let mut emitters = d.emitters;
     let before = d.before;
     let count = lower_eager(sheet, from, n, &mut used, &mut bound, &mut order, d.count);
-    record_emitters(&mut emitters, sheet, from, n, &before, &used);
+    let mut fresh = [0u8; 64];
+    let m = changed(&before, &used, n, &mut fresh);
+    record_numbers(&mut emitters, sheet, from, n, &fresh, m);
     Scheduler {
         used,
         bound,

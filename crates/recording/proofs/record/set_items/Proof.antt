@@ -1,9 +1,9 @@
--- `emitters::record::set_items` meets its contract: the items left, set, give what all give.
+-- `recording::record::set_items` meets its contract: the items left, set, give what all give.
 use Prim.Native.Nat.{_-_}
-use Rattle.emitters.proofs.ItemLaws.{Setting, setting-none, next-below, setting-again, setting-all}
+use Rattle.recording.proofs.ItemLaws.{Setting, setting-none, next-below, setting-again, setting-all}
 use borrow.Author.Needs.{needs}
-use Rattle.emitters.proofs.record.set_items.Statement.{statement}
-use Rattle.emitters.proofs.record.set_items.Tie as tie
+use Rattle.recording.proofs.record.set_items.Statement.{statement}
+use Rattle.recording.proofs.record.set_items.Tie as tie
 
 abbrev Inv-loop : tie.InvT-loop
 Inv-loop em₀ line i w n atom elements k₀ em k = Setting line i w n atom elements em₀ em k

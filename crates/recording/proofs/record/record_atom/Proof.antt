@@ -1,9 +1,9 @@
--- `emitters::record::record_atom` meets its contract: kind by kind.
+-- `recording::record::record_atom` meets its contract: kind by kind.
 use Rattle.lowering.proofs.AtomLaws.{left-below, right-below, node-below, items-below}
-use Rattle.emitters.proofs.RecordLaws.{record-pred, record-eq, record-global, record-scan}
+use Rattle.recording.proofs.RecordLaws.{record-pred, record-eq, record-global, record-scan}
 use borrow.Author.Needs.{needs}
-use Rattle.emitters.proofs.record.record_atom.Statement.{statement}
-use Rattle.emitters.proofs.record.record_atom.Tie as tie
+use Rattle.recording.proofs.record.record_atom.Statement.{statement}
+use Rattle.recording.proofs.record.record_atom.Tie as tie
 
 byte-at-requires : tie.Need-byte-at-requires
 byte-at-requires c κs = search needs

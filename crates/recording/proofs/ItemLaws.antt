@@ -16,7 +16,7 @@ use Rattle.cost.specs.QueryAtoms.{operandAt, operandsFrom}
 use Rattle.cost.specs.Emitters.{Emitters, decode, setOperand, setChildren, setElements}
 use Rattle.lowering.specs.AtomLines.{itemOperands}
 use Rattle.lowering.proofs.OperandLaws.{operands-more, below-next, items-are}
-use Rattle.emitters.specs.Items.{itemEmitter, setItems}
+use Rattle.recording.specs.Items.{itemEmitter, setItems}
 
 -- children and elements are items
 pub children-are : (cs : List Operand) (em : Emitters) (a p : ℕ) → setItems em a false p cs ≡ setChildren em a p cs

@@ -1,8 +1,8 @@
--- `emitters::record::record_scan` meets its contract: its node, then its items.
-use Rattle.emitters.proofs.RecordLaws.{still-below, node-and-items}
+-- `recording::record::record_scan` meets its contract: its node, then its items.
+use Rattle.recording.proofs.RecordLaws.{still-below, node-and-items}
 use borrow.Author.Needs.{needs}
-use Rattle.emitters.proofs.record.record_scan.Statement.{statement}
-use Rattle.emitters.proofs.record.record_scan.Tie as tie
+use Rattle.recording.proofs.record.record_scan.Statement.{statement}
+use Rattle.recording.proofs.record.record_scan.Tie as tie
 
 packed-requires : tie.Need-packed-requires
 packed-requires c κs = search needs

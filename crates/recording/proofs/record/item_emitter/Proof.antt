@@ -1,8 +1,8 @@
--- `emitters::record::item_emitter` meets its contract: a child or an element.
-use Rattle.emitters.proofs.ItemLaws.{an-element, a-child}
+-- `recording::record::item_emitter` meets its contract: a child or an element.
+use Rattle.recording.proofs.ItemLaws.{an-element, a-child}
 use borrow.Author.Needs.{needs}
-use Rattle.emitters.proofs.record.item_emitter.Statement.{statement}
-use Rattle.emitters.proofs.record.item_emitter.Tie as tie
+use Rattle.recording.proofs.record.item_emitter.Statement.{statement}
+use Rattle.recording.proofs.record.item_emitter.Tie as tie
 
 packed-requires : tie.Need-packed-requires
 packed-requires c κs = search needs

@@ -1,9 +1,9 @@
--- `emitters::record::record_items` meets its contract: the items are the operands that the table of kinds gives.
+-- `recording::record::record_items` meets its contract: the items are the operands that the table of kinds gives.
 use Rattle.lowering.proofs.OperandLaws.{items-below}
-use Rattle.emitters.proofs.ItemLaws.{items-set}
+use Rattle.recording.proofs.ItemLaws.{items-set}
 use borrow.Author.Needs.{needs}
-use Rattle.emitters.proofs.record.record_items.Statement.{statement}
-use Rattle.emitters.proofs.record.record_items.Tie as tie
+use Rattle.recording.proofs.record.record_items.Statement.{statement}
+use Rattle.recording.proofs.record.record_items.Tie as tie
 
 byte-at-requires : tie.Need-byte-at-requires
 byte-at-requires c κs = search needs

@@ -1,4 +1,4 @@
--- What an atom's kind says of the emitters it gives, and the atoms in turn. Proved kind by kind, and from what one atom gives.
+-- What an atom's kind says of the emitters it gives. Proved kind by kind.
 use Prim.Native.Nat.{ℕ, suc, _+_, _<_, _≤_}
 use mathlib.Core.Path.{_≡_, refl, sym, subst, _∙_}
 use mathlib.Core.Bool.{Bool, true, false, Bool·beq}
@@ -20,8 +20,8 @@ use Rattle.cost.specs.Emitters.{Emitters, decode, from, emitterOf, setEmitter, 
 use Rattle.lowering.specs.AtomLines.{AtomLine, itemOperands, scansKind}
 use Rattle.lowering.specs.Eager.{atomsOf, Located}
 use Rattle.lowering.proofs.AtomLaws.{by-kind, scanning}
-use Rattle.emitters.specs.Items.{setItems, recordIfNew}
-use Rattle.emitters.proofs.ItemLaws.{children-are, elements-are}
+use Rattle.recording.specs.Items.{setItems}
+use Rattle.recording.proofs.ItemLaws.{children-are, elements-are}
 
 -- an atom that scans gives its node and its items
 record-kind : (em : Emitters) (i : ℕ) (f : List ℕ) → isAtom (getD f 0 0) ≡ true → scansKind (getD f 0 0) ≡ true
@@ -58,45 +58,3 @@ module _ (f : List ℕ) (k : ℕ) (is : k ≡ getD f 0 0) where
   module _ (line : AtomLine f) (p : k ≡ 6 → ⊥) (q : k ≡ 4 → ⊥) (r : k ≡ 5 → ⊥) where
     pub record-scan : (em o : Emitters) (i a : ℕ) → a ≡ getD f 1 0 → o ≡ setItems (setEmitter em a (from i 0 0)) i (ltb 6 (getD f 0 0)) 0 (itemOperands f) → o ≡ recordAtom em i (atomOfFrame f)
     record-scan em o i a n h = h ∙ rw n (record-kind em i f (line .kind) (scanning f k is line p q r))
-
--- ---- atom number k, where its use has changed
-
-module _ (U B : Bound) (a : Atom) (k : ℕ) (em : Emitters) (t u : Bool) (p : t ≡ has U k) (q : u ≡ has B k) where
-  pub record-same : Bool·beq t u ≡ true → em ≡ recordIfNew B U k a em
-  record-same h = rw (← p, ← q, h)
-
-  pub record-changed : (o : Emitters) → Bool·beq t u ≡ false → o ≡ recordAtom em k a → o ≡ recordIfNew B U k a em
-  record-changed o h e = rw (← p, ← q, h) e
-
--- ---- the atoms in turn
-
--- i atoms are recorded, and those left give the rest
-pub record Recording (x : List ℕ) (n : ℕ) (B U : Bound) (l₀ l : List ℕ) (i : ℕ) : Type 0 where
-  pub few : i ≤ n
-  pub size : length l ≡ length l₀
-  pub is : recordEmitters B U i (drop i (atomsOf x)) (map decode l) ≡ recordEmitters B U 0 (atomsOf x) (map decode l₀)
-
-pub recording-none : (x : List ℕ) (n : ℕ) (B U : Bound) (l : List ℕ) → Recording x n B U l l 0
-recording-none x n B U l = record { few = omega arith; size = refl; is = refl }
-
-atoms-drop : (qs : List Atom) (i : ℕ) → i < length qs → drop i qs ≡ atomOf qs i ∷ drop (suc i) qs
-unfolding atomOf
-atoms-drop qs i h = drop-cons qs i (Eq 0 0) h
-
-module _ (x from : List ℕ) (n : ℕ) (B U : Bound) (l₀ l : List ℕ) (i : ℕ) (r : Recording x n B U l₀ l i) (z : Located x from n) where
-  module _ (h : i < n) where
-    module _ (s : List ℕ) (line : s ≡ frameAt x (getD from i 0)) where
-      pub recording-again : (v : ℕ) (o : List ℕ) → v ≡ i → length o ≡ length l → map decode o ≡ recordIfNew B U v (atomOfFrame s) (map decode l) → Recording x n B U l₀ o (i + 1)
-      unfolding recordEmitters
-      recording-again v o e g d = record {
-        few = omega arith;
-        size = g ∙ r .size;
-        is = rw (d, e, line, ← z .is i h, add-one i) (rw (atoms-drop (atomsOf x) i (omega (arith, z .count))) at (r .is));
-      }
-
-  pub em-sized : length l₀ ≡ most → length l ≡ most
-  em-sized s = r .size ∙ s
-
-  pub recorded : n ≤ i → map decode l ≡ recordEmitters B U 0 (atomsOf x) (map decode l₀)
-  unfolding recordEmitters
-  recorded h = rw (drop-of-length-le (atomsOf x) (let g : length (atomsOf x) ≤ i = omega (arith, z .count) in g)) at (r .is)

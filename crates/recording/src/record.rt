@@ -3,27 +3,28 @@ ghost use mathlib.Core.Path.{_≡_};
 ghost use mathlib.Core.Bool.{Bool, true};
 ghost use mathlib.Core.List.{map, flatMap};
 ghost use Prim.Native.Nat.{ℕ, _+_, _*_, _<_, _≤_};
-ghost use lib.ListN.{length, getD};
+ghost use lib.ListN.{length, getD, take};
 ghost use lib.Dec.{ltb};
 ghost use Rattle.model.specs.Atoms.{localOf};
 ghost use Rattle.model.specs.Bound.{most};
 ghost use Rattle.model.specs.Premises.{numbersBelow};
 ghost use Rattle.cost.specs.QueryAtoms.{operandsFrom, atomOfFrame};
-ghost use Rattle.cost.specs.Emitters.{decode, from, setEmitter, recordAtom, recordEmitters};
+ghost use Rattle.cost.specs.Emitters.{decode, from, setEmitter, recordAtom};
 ghost use Rattle.lowering.specs.AtomLines.{AtomLine, itemOperands};
 ghost use Rattle.lowering.specs.Eager.{Located, atomsOf};
-ghost use Rattle.emitters.specs.Items.{itemEmitter, setItems, recordIfNew};
-use super::numbers::copy_emitter;
-use super::numbers::packed;
-use super::numbers::set_emitter;
-use super::numbers::set_operand;
+ghost use Rattle.recording.specs.Items.{itemEmitter, setItems};
+ghost use Rattle.recording.specs.Changed.{recordNumber, recordNumbers};
+use emitters::numbers::copy_emitter;
+use emitters::numbers::packed;
+use emitters::numbers::set_emitter;
+use emitters::numbers::set_operand;
 use frames::fields::narrow;
+use frames::fields::wide;
 use frames::frame::items_of;
 use frames::kinds::fixed_length;
 use frames::kinds::item_width;
 use hex::byte_at;
 use lowering::eager::atom_line;
-use lowering::sets::is_set;
 
 // The number of the emitter of item p: an element, or the child at position p.
 fn item_emitter(atom: u8, elements: bool, p: u8) -> u32
@@ -94,35 +95,31 @@ pub fn record_atom(em: &mut [u32], frame: &[u8], k: u8)
     record_scan(em, frame, a, k);
 }
 
-// Atom number k, where its use has changed.
-fn record_new(em: &mut [u32], frame: &[u8], k: u8, before: &[bool], used: &[bool])
-    requires { ⌜ AtomLine (now frame) ⌝ }
-    requires { ⌜ length (now em) ≡ most ⌝ }
-    ensures { λ _. ⌜ map decode (now (em .exit)) ≡ recordIfNew (now (before .entry)) (now (used .entry)) k (atomOfFrame (now (frame .entry))) (map decode (now (em .entry))) ⌝ }
-{
-    if is_set(used, k) == is_set(before, k) {
-        return;
-    }
-    record_atom(em, frame, k);
-}
-
-// The atoms whose use has changed, by atom number.
-pub fn record_emitters(
-    em: &mut [u32],
-    sheet: &[u8],
-    from: &[usize],
-    n: usize,
-    before: &[bool],
-    used: &[bool],
-)
+// Atom number k, where there is one.
+fn record_number(em: &mut [u32], sheet: &[u8], from: &[usize], n: usize, k: u8)
     requires { ⌜ Located (now sheet) (now from) n ⌝ }
     requires { ⌜ length (now em) ≡ most ⌝ }
-    ensures { λ _. ⌜ map decode (now (em .exit)) ≡ recordEmitters (now (before .entry)) (now (used .entry)) 0 (atomsOf (now (sheet .entry))) (map decode (now (em .entry))) ⌝ }
+    ensures { λ _. ⌜ map decode (now (em .exit)) ≡ recordNumber (atomsOf (now (sheet .entry))) (map decode (now (em .entry))) k ⌝ }
 {
-    let mut i: usize = 0;
-    while i < n {
-        let frame = atom_line(sheet, from, i);
-        record_new(em, frame, narrow(i), before, used);
-        i += 1;
+    let i = wide(k);
+    if n <= i {
+        return;
+    }
+    record_atom(em, atom_line(sheet, from, i), k);
+}
+
+// The atoms with the first m numbers of a list, in its order.
+pub fn record_numbers(em: &mut [u32], sheet: &[u8], from: &[usize], n: usize, list: &[u8], m: usize)
+    requires { ⌜ Located (now sheet) (now from) n ⌝ }
+    requires { ⌜ length (now em) ≡ most ⌝ }
+    ensures { λ _. ⌜ map decode (now (em .exit)) ≡ recordNumbers (atomsOf (now (sheet .entry))) (take m (now (list .entry))) (map decode (now (em .entry))) ⌝ }
+{
+    let mut j: usize = 0;
+    while j < list.len() {
+        if m <= j {
+            return;
+        }
+        record_number(em, sheet, from, n, list[j]);
+        j += 1;
     }
 }

@@ -1,0 +1,3 @@
+// The emitters are recorded, atom by atom, as the atoms are lowered.
+pub mod changed;
+pub mod record;
