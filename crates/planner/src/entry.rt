@@ -17,6 +17,9 @@ use frames::first::sheet_size;
 use lowering::places::atom_places;
 use reading::second::LONG_INDEX;
 use reading::second::LONG_SHEET;
+use reading::second::MIDDLE_INDEX;
+use reading::second::MIDDLE_SHEET;
+use reading::second::MIDDLE_TEXT;
 use reading::second::SHORT_INDEX;
 use reading::second::SHORT_SHEET;
 use reading::second::SHORT_TEXT;
@@ -117,6 +120,11 @@ pub fn plan(text: &[u8], out: &mut [u8]) -> Planned
     if text.len() <= SHORT_TEXT {
         let mut sheet = [0u8; SHORT_SHEET];
         let mut index = [0u16; SHORT_INDEX];
+        return plan_by(text, &mut sheet, &mut index, out);
+    }
+    if text.len() <= MIDDLE_TEXT {
+        let mut sheet = [0u8; MIDDLE_SHEET];
+        let mut index = [0u16; MIDDLE_INDEX];
         return plan_by(text, &mut sheet, &mut index, out);
     }
     let mut sheet = [0u8; LONG_SHEET];
