@@ -110,7 +110,7 @@ fn record_new(em: &mut [u32], frame: &[u8], k: u8, before: &[bool], used: &[bool
 pub fn record_emitters(
     em: &mut [u32],
     sheet: &[u8],
-    from: &[usize],
+    from: &[u16],
     n: usize,
     before: &[bool],
     used: &[bool],

@@ -41,7 +41,7 @@ pub enum Planned {
 pub const PLAN_MOST: usize = 20565;
 
 // Whether the plan fits into so much room. With room for the longest nothing is measured.
-fn fits(sheet: &[u8], from: &[usize], n: usize, s: Scheduled, room: usize) -> bool
+fn fits(sheet: &[u8], from: &[u16], n: usize, s: Scheduled, room: usize) -> bool
     requires { ⌜ Accepts (now sheet) ⌝ }
     requires { ⌜ Places (now sheet) (now from) n ⌝ }
     requires { ⌜ Scheduling (now sheet) s ⌝ }
@@ -55,7 +55,7 @@ fn fits(sheet: &[u8], from: &[usize], n: usize, s: Scheduled, room: usize) -> bo
 }
 
 // The plan by the order that was found, where it fits.
-fn plan_in_order(sheet: &[u8], from: &[usize], n: usize, s: Scheduled, out: &mut [u8]) -> Planned
+fn plan_in_order(sheet: &[u8], from: &[u16], n: usize, s: Scheduled, out: &mut [u8]) -> Planned
     requires { ⌜ Accepts (now sheet) ⌝ }
     requires { ⌜ Places (now sheet) (now from) n ⌝ }
     requires { ⌜ Scheduling (now sheet) s ⌝ }
@@ -87,7 +87,7 @@ fn plan_accepted(sheet: &[u8], index: &[u16], out: &mut [u8]) -> Planned
     requires { ⌜ Indexed (now sheet) (now index) ⌝ }
     ensures { λ r. ⌜ resultOf r (now (out .exit)) ≡ fitted (planOn (now (sheet .entry))) (now (out .entry)) ⌝ }
 {
-    let mut from = [0usize; 128];
+    let mut from = [0u16; 128];
     let n = atom_places(sheet, &mut from);
     let mut costs = [0u64; 1];
     let s = find_order(sheet, index, &from, n, n, &mut costs);

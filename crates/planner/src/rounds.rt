@@ -64,7 +64,7 @@ fn costs_accepted(sheet: &[u8], index: &[u16], round: usize, out: &mut [u64]) ->
     requires { ⌜ Indexed (now sheet) (now index) ⌝ }
     ensures { λ r. ⌜ resultOf r (now (out .exit)) ≡ told (roundOf (framesIn (now (sheet .entry))) round) (now (out .entry)) ⌝ }
 {
-    let mut from = [0usize; 128];
+    let mut from = [0u16; 128];
     let n = atom_places(sheet, &mut from);
     let mut costs = [NO_COST; 64];
     let s = find_order(sheet, index, &from, n, round, &mut costs);
