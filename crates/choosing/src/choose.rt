@@ -101,7 +101,7 @@ fn note_cost(costs: &mut [u64], i: usize, bits: u64)
 pub fn cheapest(
     sheet: &[u8],
     index: &[u16],
-    from: &[usize],
+    from: &[u16],
     n: usize,
     prices: &[f64],
     d: Scheduler,

@@ -73,6 +73,10 @@ module _ (s : List ℕ) (a : Accepts s) where
   pub sheet-few : length (atomFrames (framesIn s)) ≤ most
   sheet-few = rw (a .sheet .frames) (frames-few (a .text) (a .lines) (a .atoms) (a .is))
 
+  -- its places fit two bytes
+  pub sheet-short : length s < 65536
+  sheet-short = omega (arith, a .sheet .size, a .sheet .most)
+
   sheet-lines : (k : ℕ) → k < length (atomFrames (framesIn s)) → AtomLine (getD (atomFrames (framesIn s)) k [])
   sheet-lines = rw (a .sheet .frames) (atom-lines (a .text) (a .lines) (a .atoms) (a .is))
 

@@ -17,6 +17,9 @@ use frames::first::sheet_size;
 use lowering::places::atom_places;
 use reading::second::LONG_INDEX;
 use reading::second::LONG_SHEET;
+use reading::second::MIDDLE_INDEX;
+use reading::second::MIDDLE_SHEET;
+use reading::second::MIDDLE_TEXT;
 use reading::second::SHORT_INDEX;
 use reading::second::SHORT_SHEET;
 use reading::second::SHORT_TEXT;
@@ -38,7 +41,7 @@ pub enum Planned {
 pub const PLAN_MOST: usize = 20565;
 
 // Whether the plan fits into so much room. With room for the longest nothing is measured.
-fn fits(sheet: &[u8], from: &[usize], n: usize, s: Scheduled, room: usize) -> bool
+fn fits(sheet: &[u8], from: &[u16], n: usize, s: Scheduled, room: usize) -> bool
     requires { ⌜ Accepts (now sheet) ⌝ }
     requires { ⌜ Places (now sheet) (now from) n ⌝ }
     requires { ⌜ Scheduling (now sheet) s ⌝ }
@@ -52,7 +55,7 @@ fn fits(sheet: &[u8], from: &[usize], n: usize, s: Scheduled, room: usize) -> bo
 }
 
 // The plan by the order that was found, where it fits.
-fn plan_in_order(sheet: &[u8], from: &[usize], n: usize, s: Scheduled, out: &mut [u8]) -> Planned
+fn plan_in_order(sheet: &[u8], from: &[u16], n: usize, s: Scheduled, out: &mut [u8]) -> Planned
     requires { ⌜ Accepts (now sheet) ⌝ }
     requires { ⌜ Places (now sheet) (now from) n ⌝ }
     requires { ⌜ Scheduling (now sheet) s ⌝ }
@@ -84,7 +87,7 @@ fn plan_accepted(sheet: &[u8], index: &[u16], out: &mut [u8]) -> Planned
     requires { ⌜ Indexed (now sheet) (now index) ⌝ }
     ensures { λ r. ⌜ resultOf r (now (out .exit)) ≡ fitted (planOn (now (sheet .entry))) (now (out .entry)) ⌝ }
 {
-    let mut from = [0usize; 128];
+    let mut from = [0u16; 128];
     let n = atom_places(sheet, &mut from);
     let mut costs = [0u64; 1];
     let s = find_order(sheet, index, &from, n, n, &mut costs);
@@ -117,6 +120,11 @@ pub fn plan(text: &[u8], out: &mut [u8]) -> Planned
     if text.len() <= SHORT_TEXT {
         let mut sheet = [0u8; SHORT_SHEET];
         let mut index = [0u16; SHORT_INDEX];
+        return plan_by(text, &mut sheet, &mut index, out);
+    }
+    if text.len() <= MIDDLE_TEXT {
+        let mut sheet = [0u8; MIDDLE_SHEET];
+        let mut index = [0u16; MIDDLE_INDEX];
         return plan_by(text, &mut sheet, &mut index, out);
     }
     let mut sheet = [0u8; LONG_SHEET];

@@ -25,7 +25,7 @@ use scheduling::schedule::schedule;
 fn order_by(
     sheet: &[u8],
     index: &[u16],
-    from: &[usize],
+    from: &[u16],
     n: usize,
     prices: &mut [f64],
     how: Sampled,
@@ -71,7 +71,7 @@ const SOME_PRICES: usize = SOME_ATOMS * ROW_SIZE;
 fn order_in(
     sheet: &[u8],
     index: &[u16],
-    from: &[usize],
+    from: &[u16],
     n: usize,
     how: Sampled,
     keys: &mut [u64],
@@ -136,7 +136,7 @@ fn order_in(
 pub fn find_order(
     sheet: &[u8],
     index: &[u16],
-    from: &[usize],
+    from: &[u16],
     n: usize,
     last: usize,
     costs: &mut [u64],

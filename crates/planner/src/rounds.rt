@@ -16,6 +16,9 @@ use frames::first::sheet_size;
 use lowering::places::atom_places;
 use reading::second::LONG_INDEX;
 use reading::second::LONG_SHEET;
+use reading::second::MIDDLE_INDEX;
+use reading::second::MIDDLE_SHEET;
+use reading::second::MIDDLE_TEXT;
 use reading::second::SHORT_INDEX;
 use reading::second::SHORT_SHEET;
 use reading::second::SHORT_TEXT;
@@ -61,7 +64,7 @@ fn costs_accepted(sheet: &[u8], index: &[u16], round: usize, out: &mut [u64]) ->
     requires { ⌜ Indexed (now sheet) (now index) ⌝ }
     ensures { λ r. ⌜ resultOf r (now (out .exit)) ≡ told (roundOf (framesIn (now (sheet .entry))) round) (now (out .entry)) ⌝ }
 {
-    let mut from = [0usize; 128];
+    let mut from = [0u16; 128];
     let n = atom_places(sheet, &mut from);
     let mut costs = [NO_COST; 64];
     let s = find_order(sheet, index, &from, n, round, &mut costs);
@@ -105,6 +108,11 @@ pub fn round_costs(text: &[u8], round: usize, costs: &mut [u64]) -> RoundCosts
     if text.len() <= SHORT_TEXT {
         let mut sheet = [0u8; SHORT_SHEET];
         let mut index = [0u16; SHORT_INDEX];
+        return costs_by(text, &mut sheet, &mut index, round, costs);
+    }
+    if text.len() <= MIDDLE_TEXT {
+        let mut sheet = [0u8; MIDDLE_SHEET];
+        let mut index = [0u16; MIDDLE_INDEX];
         return costs_by(text, &mut sheet, &mut index, round, costs);
     }
     let mut sheet = [0u8; LONG_SHEET];

@@ -25,7 +25,7 @@ fn narrow(x: usize) -> u16
 }
 
 // The length of the plan of the first `count` atoms of the order.
-pub fn plan_size(sheet: &[u8], from: &[usize], n: usize, order: &[u8], count: usize) -> usize
+pub fn plan_size(sheet: &[u8], from: &[u16], n: usize, order: &[u8], count: usize) -> usize
     requires { ⌜ Located (now sheet) (now from) n ⌝ }
     requires { ⌜ Ordered (now sheet) (now from) n (now order) count ⌝ }
     ensures { λ r. ⌜ r ≡ 21 + textLength (map frameOf (stepsAlong (atomOf (atomsOf (now (sheet .entry)))) blank (take count (now (order .entry))))) ⌝ }
@@ -38,7 +38,7 @@ pub fn plan_size(sheet: &[u8], from: &[usize], n: usize, order: &[u8], count: us
 // The plan, written from the beginning of the output on; its length.
 pub fn write_plan(
     sheet: &[u8],
-    from: &[usize],
+    from: &[u16],
     n: usize,
     order: &[u8],
     count: usize,

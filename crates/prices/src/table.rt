@@ -70,7 +70,7 @@ fn fill_row(sheet: &[u8], index: &[u16], frame: &[u8], k: u8, repr: f64, row: &m
 }
 
 // The rows of the n atoms.
-pub fn fill_prices(sheet: &[u8], index: &[u16], from: &[usize], n: usize, prices: &mut [f64])
+pub fn fill_prices(sheet: &[u8], index: &[u16], from: &[u16], n: usize, prices: &mut [f64])
     requires { ⌜ Located (now sheet) (now from) n ⌝ }
     requires { ⌜ FewItems (now sheet) (now from) n ⌝ }
     requires { ⌜ rowSize * n ≤ length (now prices) ⌝ }

@@ -96,7 +96,7 @@ pub fn record_atom(em: &mut [u32], frame: &[u8], k: u8)
 }
 
 // Atom number k, where there is one.
-fn record_number(em: &mut [u32], sheet: &[u8], from: &[usize], n: usize, k: u8)
+fn record_number(em: &mut [u32], sheet: &[u8], from: &[u16], n: usize, k: u8)
     requires { ⌜ Located (now sheet) (now from) n ⌝ }
     requires { ⌜ length (now em) ≡ most ⌝ }
     ensures { λ _. ⌜ map decode (now (em .exit)) ≡ recordNumber (atomsOf (now (sheet .entry))) (map decode (now (em .entry))) k ⌝ }
@@ -109,7 +109,7 @@ fn record_number(em: &mut [u32], sheet: &[u8], from: &[usize], n: usize, k: u8)
 }
 
 // The atoms with the first m numbers of a list, in its order.
-pub fn record_numbers(em: &mut [u32], sheet: &[u8], from: &[usize], n: usize, list: &[u8], m: usize)
+pub fn record_numbers(em: &mut [u32], sheet: &[u8], from: &[u16], n: usize, list: &[u8], m: usize)
     requires { ⌜ Located (now sheet) (now from) n ⌝ }
     requires { ⌜ length (now em) ≡ most ⌝ }
     ensures { λ _. ⌜ map decode (now (em .exit)) ≡ recordNumbers (atomsOf (now (sheet .entry))) (take m (now (list .entry))) (map decode (now (em .entry))) ⌝ }

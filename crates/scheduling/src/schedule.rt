@@ -46,7 +46,7 @@ pub struct Scheduled {
 }
 
 // An eager round, and the emitters of what it lowered, recorded by atom number.
-fn advance(sheet: &[u8], from: &[usize], n: usize, d: Scheduler) -> Scheduler
+fn advance(sheet: &[u8], from: &[u16], n: usize, d: Scheduler) -> Scheduler
     requires { ⌜ Located (now sheet) (now from) n ⌝ }
     requires { ⌜ Prepared (now sheet) d ⌝ }
     ensures { λ r. ⌜ Advances (now (sheet .entry)) d r ⌝ }
@@ -74,7 +74,7 @@ fn advance(sheet: &[u8], from: &[usize], n: usize, d: Scheduler) -> Scheduler
 fn choose_next(
     sheet: &[u8],
     index: &[u16],
-    from: &[usize],
+    from: &[u16],
     n: usize,
     prices: &[f64],
     d: Scheduler,
@@ -121,7 +121,7 @@ fn take(
 }
 
 // The atom chosen, number i, is lowered, and its emitters recorded.
-fn take_next(sheet: &[u8], from: &[usize], n: usize, i: u8, d: Scheduler) -> Scheduler
+fn take_next(sheet: &[u8], from: &[u16], n: usize, i: u8, d: Scheduler) -> Scheduler
     requires { ⌜ Located (now sheet) (now from) n ⌝ }
     requires { ⌜ i < n ⌝ }
     requires { ⌜ scans (atomOf (atomsOf (now sheet)) i) ≡ true ⌝ }
@@ -167,7 +167,7 @@ fn ended(d: Scheduler, b: Best) -> Scheduled
 pub fn schedule(
     sheet: &[u8],
     index: &[u16],
-    from: &[usize],
+    from: &[u16],
     n: usize,
     prices: &[f64],
     how: Sampled,

@@ -14,6 +14,9 @@ use frames::first::Text;
 use frames::first::sheet_size;
 use reading::second::LONG_INDEX;
 use reading::second::LONG_SHEET;
+use reading::second::MIDDLE_INDEX;
+use reading::second::MIDDLE_SHEET;
+use reading::second::MIDDLE_TEXT;
 use reading::second::SHORT_INDEX;
 use reading::second::SHORT_SHEET;
 use reading::second::SHORT_TEXT;
@@ -83,6 +86,11 @@ fn table_back(plan: &[u8], table: &[u8], globals: &mut [u16]) -> Turned
     if table.len() <= SHORT_TEXT {
         let mut sheet = [0u8; SHORT_SHEET];
         let mut index = [0u16; SHORT_INDEX];
+        return table_by(plan, table, &mut sheet, &mut index, globals);
+    }
+    if table.len() <= MIDDLE_TEXT {
+        let mut sheet = [0u8; MIDDLE_SHEET];
+        let mut index = [0u16; MIDDLE_INDEX];
         return table_by(plan, table, &mut sheet, &mut index, globals);
     }
     let mut sheet = [0u8; LONG_SHEET];

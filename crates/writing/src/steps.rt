@@ -17,7 +17,7 @@ use lowering::eager::atom_line;
 // The lines of the first `count` atoms of the order.
 pub fn write_steps(
     sheet: &[u8],
-    from: &[usize],
+    from: &[u16],
     n: usize,
     order: &[u8],
     count: usize,
@@ -61,7 +61,7 @@ fn steps_of(frame: &[u8]) -> usize
 }
 
 // How many steps they are, if each atom lowers in its turn.
-pub fn count_steps(sheet: &[u8], from: &[usize], n: usize, order: &[u8], count: usize) -> usize
+pub fn count_steps(sheet: &[u8], from: &[u16], n: usize, order: &[u8], count: usize) -> usize
     requires { ⌜ Located (now sheet) (now from) n ⌝ }
     requires { ⌜ Ordered (now sheet) (now from) n (now order) count ⌝ }
     ensures { λ r. ⌜ (r ≡ countAlong (atomOf (atomsOf (now (sheet .entry)))) (take count (now (order .entry)))) × (r ≤ 0x4000) ⌝ }

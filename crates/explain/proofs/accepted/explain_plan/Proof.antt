@@ -1,5 +1,8 @@
 -- `explain::accepted::explain_plan` meets its contract: the sheet of an accepted plan is within the lent one.
-use Rattle.reading.specs.IndexedReading.{lent-long}
+use mathlib.Core.Path.{refl}
+use Rattle.frames.specs.Limits.{textMost}
+use Rattle.reading.specs.Index.{manySlots}
+use Rattle.reading.proofs.LentLaws.{lent-for}
 use Rattle.turning.proofs.TurnLaws.{size-within, size-fits}
 use borrow.Author.Needs.{needs}
 use Rattle.explain.proofs.accepted.explain_plan.Statement.{statement}
@@ -12,7 +15,7 @@ slice-aggregate-read-indexed-2 : tie.Need-slice-aggregate-read-indexed-2
 slice-aggregate-read-indexed-2 c = search needs
 
 read-indexed-requires : tie.Need-read-indexed-requires
-read-indexed-requires c κs = lent-long _
+read-indexed-requires c κs = lent-for _ textMost manySlots refl (λ h. h)
 
 enum-known-number : tie.Need-enum-known-number
 enum-known-number c = search needs

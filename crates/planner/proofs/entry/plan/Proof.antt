@@ -1,5 +1,9 @@
--- `planner::entry::plan` meets its contract.
-use Rattle.reading.specs.IndexedReading.{lent-tiny, lent-short, lent-long}
+-- `planner::entry::plan` meets its contract: with a sheet and an index of its own, by the length of the text.
+use mathlib.Core.Path.{refl}
+use Rattle.frames.specs.Limits.{textMost}
+use Rattle.reading.specs.Index.{fewSlots, manySlots}
+use Rattle.reading.specs.IndexedReading.{tinyText, shortText, middleText}
+use Rattle.reading.proofs.LentLaws.{lent-for}
 use borrow.Author.Needs.{needs}
 use Rattle.planner.proofs.entry.plan.Statement.{statement}
 use Rattle.planner.proofs.entry.plan.Tie as tie
@@ -11,7 +15,7 @@ slice-aggregate-plan-by-2 : tie.Need-slice-aggregate-plan-by-2
 slice-aggregate-plan-by-2 c = search needs
 
 plan-by-requires : tie.Need-plan-by-requires
-plan-by-requires c κs = lent-tiny _ (c .before .before .before .if1 .taken)
+plan-by-requires c κs = lent-for _ tinyText fewSlots refl (λ _. c .before .before .before .if1 .taken)
 
 same-length : tie.Need-same-length
 same-length c = search needs
@@ -26,7 +30,7 @@ slice-aggregate-plan-by-4 : tie.Need-slice-aggregate-plan-by-4
 slice-aggregate-plan-by-4 c = search needs
 
 plan-by-requires-2 : tie.Need-plan-by-requires-2
-plan-by-requires-2 c κs = lent-short _ (c .before .before .before .if2 .taken)
+plan-by-requires-2 c κs = lent-for _ shortText manySlots refl (λ _. c .before .before .before .if2 .taken)
 
 same-length-2 : tie.Need-same-length-2
 same-length-2 c = search needs
@@ -41,13 +45,28 @@ slice-aggregate-plan-by-6 : tie.Need-slice-aggregate-plan-by-6
 slice-aggregate-plan-by-6 c = search needs
 
 plan-by-requires-3 : tie.Need-plan-by-requires-3
-plan-by-requires-3 c κs = lent-long _
+plan-by-requires-3 c κs = lent-for _ middleText manySlots refl (λ _. c .before .before .before .if3 .taken)
 
 same-length-3 : tie.Need-same-length-3
 same-length-3 c = search needs
 
 returns-3 : tie.Need-returns-3
 returns-3 c = search needs
+
+slice-aggregate-plan-by-7 : tie.Need-slice-aggregate-plan-by-7
+slice-aggregate-plan-by-7 c = search needs
+
+slice-aggregate-plan-by-8 : tie.Need-slice-aggregate-plan-by-8
+slice-aggregate-plan-by-8 c = search needs
+
+plan-by-requires-4 : tie.Need-plan-by-requires-4
+plan-by-requires-4 c κs = lent-for _ textMost manySlots refl (λ h. h)
+
+same-length-4 : tie.Need-same-length-4
+same-length-4 c = search needs
+
+returns-4 : tie.Need-returns-4
+returns-4 c = search needs
 
 pub plan-spec : {M : Type 1} → statement M
 plan-spec =
@@ -67,4 +86,9 @@ plan-spec =
     slice-aggregate-plan-by-6
     plan-by-requires-3
     same-length-3
-    returns-3)
+    returns-3
+    slice-aggregate-plan-by-7
+    slice-aggregate-plan-by-8
+    plan-by-requires-4
+    same-length-4
+    returns-4)

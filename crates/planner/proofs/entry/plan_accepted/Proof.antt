@@ -1,7 +1,7 @@
 -- `planner::entry::plan_accepted` meets its contract: the places, the order, the plan, in turn; as many rounds as atoms, and one, are enough.
 use mathlib.Core.Path.{refl}
 use Rattle.scheduling.proofs.LoopLaws.{rounds-enough}
-use Rattle.planner.proofs.EntryLaws.{sheet-few, places-located}
+use Rattle.planner.proofs.EntryLaws.{sheet-few, sheet-short, places-located}
 use borrow.Author.Needs.{needs}
 use Rattle.planner.proofs.entry.plan_accepted.Statement.{statement}
 use Rattle.planner.proofs.entry.plan_accepted.Tie as tie
@@ -10,7 +10,7 @@ slice-aggregate-atom-places : tie.Need-slice-aggregate-atom-places
 slice-aggregate-atom-places c = search needs
 
 atom-places-requires : tie.Need-atom-places-requires
-atom-places-requires c κs = (sheet-few _ (c .before .before .before .before .pre .0), refl)
+atom-places-requires c κs = (sheet-few _ (c .before .before .before .before .pre .0), (refl, sheet-short _ (c .before .before .before .before .pre .0)))
 
 slice-aggregate-find-order : tie.Need-slice-aggregate-find-order
 slice-aggregate-find-order c = search needs

@@ -1,7 +1,7 @@
 -- `planner::rounds::costs_accepted` meets its contract: the places, the rounds, the costs, by whether an atom was chosen.
 use mathlib.Core.Path.{refl}
 use native.Mathlib.Omega.{arith}
-use Rattle.planner.proofs.EntryLaws.{sheet-few, places-located}
+use Rattle.planner.proofs.EntryLaws.{sheet-few, sheet-short, places-located}
 use Rattle.planner.proofs.CostLaws.{told-ended, told-chosen}
 use borrow.Author.Needs.{needs}
 use Rattle.planner.proofs.rounds.costs_accepted.Statement.{statement}
@@ -11,7 +11,7 @@ slice-aggregate-atom-places : tie.Need-slice-aggregate-atom-places
 slice-aggregate-atom-places c = search needs
 
 atom-places-requires : tie.Need-atom-places-requires
-atom-places-requires c κs = (sheet-few _ (c .before .before .before .before .pre .0), refl)
+atom-places-requires c κs = (sheet-few _ (c .before .before .before .before .pre .0), (refl, sheet-short _ (c .before .before .before .before .pre .0)))
 
 slice-aggregate-find-order : tie.Need-slice-aggregate-find-order
 slice-aggregate-find-order c = search needs

@@ -1,5 +1,9 @@
 -- `turning::turn::table_back` meets its contract: with a sheet and an index of its own, by the length of the table.
-use Rattle.reading.specs.IndexedReading.{lent-tiny, lent-short, lent-long}
+use mathlib.Core.Path.{refl}
+use Rattle.frames.specs.Limits.{textMost}
+use Rattle.reading.specs.Index.{fewSlots, manySlots}
+use Rattle.reading.specs.IndexedReading.{tinyText, shortText, middleText}
+use Rattle.reading.proofs.LentLaws.{lent-for}
 use borrow.Author.Needs.{needs}
 use Rattle.turning.proofs.turn.table_back.Statement.{statement}
 use Rattle.turning.proofs.turn.table_back.Tie as tie
@@ -11,7 +15,7 @@ slice-aggregate-table-by-2 : tie.Need-slice-aggregate-table-by-2
 slice-aggregate-table-by-2 c = search needs
 
 table-by-requires : tie.Need-table-by-requires
-table-by-requires c κs = (search needs, lent-tiny _ (c .before .before .before .if1 .taken))
+table-by-requires c κs = (search needs, lent-for _ tinyText fewSlots refl (λ _. c .before .before .before .if1 .taken))
 
 same-length : tie.Need-same-length
 same-length c = search needs
@@ -26,7 +30,7 @@ slice-aggregate-table-by-4 : tie.Need-slice-aggregate-table-by-4
 slice-aggregate-table-by-4 c = search needs
 
 table-by-requires-2 : tie.Need-table-by-requires-2
-table-by-requires-2 c κs = (search needs, lent-short _ (c .before .before .before .if2 .taken))
+table-by-requires-2 c κs = (search needs, lent-for _ shortText manySlots refl (λ _. c .before .before .before .if2 .taken))
 
 same-length-2 : tie.Need-same-length-2
 same-length-2 c = search needs
@@ -41,13 +45,28 @@ slice-aggregate-table-by-6 : tie.Need-slice-aggregate-table-by-6
 slice-aggregate-table-by-6 c = search needs
 
 table-by-requires-3 : tie.Need-table-by-requires-3
-table-by-requires-3 c κs = (search needs, lent-long _)
+table-by-requires-3 c κs = (search needs, lent-for _ middleText manySlots refl (λ _. c .before .before .before .if3 .taken))
 
 same-length-3 : tie.Need-same-length-3
 same-length-3 c = search needs
 
 returns-3 : tie.Need-returns-3
 returns-3 c = search needs
+
+slice-aggregate-table-by-7 : tie.Need-slice-aggregate-table-by-7
+slice-aggregate-table-by-7 c = search needs
+
+slice-aggregate-table-by-8 : tie.Need-slice-aggregate-table-by-8
+slice-aggregate-table-by-8 c = search needs
+
+table-by-requires-4 : tie.Need-table-by-requires-4
+table-by-requires-4 c κs = (search needs, lent-for _ textMost manySlots refl (λ h. h))
+
+same-length-4 : tie.Need-same-length-4
+same-length-4 c = search needs
+
+returns-4 : tie.Need-returns-4
+returns-4 c = search needs
 
 pub table-back-spec : {M : Type 1} → statement M
 table-back-spec =
@@ -67,4 +86,9 @@ table-back-spec =
     slice-aggregate-table-by-6
     table-by-requires-3
     same-length-3
-    returns-3)
+    returns-3
+    slice-aggregate-table-by-7
+    slice-aggregate-table-by-8
+    table-by-requires-4
+    same-length-4
+    returns-4)
