@@ -28,7 +28,7 @@ use Rattle.cost.specs.Memo.{tallyAt}
 use Rattle.cost.specs.Choice.{isCandidate, offer, offered, offers}
 use Rattle.cost.specs.declared.memo.Sampling.{Sampling}
 use Rattle.plan_facts.specs.Remembered.{Grows, grows-self, cost-grows}
-use Rattle.lowering.specs.Eager.{Located, atomsOf}
+use Rattle.passes.specs.Eager.{Located, atomsOf}
 use Rattle.samples.specs.Remembering.{Samples, Remembers}
 use Rattle.pricing.specs.ItemCosts.{Stands}
 use Rattle.pricing.specs.declared.costs.Costed.{Costed as CostedAs}

@@ -16,7 +16,7 @@ use Rattle.frames.specs.declared.first.Reading.{Reading}
 use Rattle.frames.specs.declared.first.Reading.the-variants.{Accepted, Refused}
 use Rattle.reading.specs.Second.{reading}
 use Rattle.model.specs.Tabulate.{tabulate-at, tabulate-length}
-use Rattle.lowering.specs.Eager.{atomsOf}
+use Rattle.passes.specs.Eager.{atomsOf}
 use Rattle.choosing.specs.Choosing.{noCost, costBits}
 use Rattle.scheduling.specs.Rounds.{Rounded}
 use Rattle.scheduling.specs.declared.schedule.Scheduled.{Scheduled}

@@ -19,7 +19,7 @@ use Rattle.frames.specs.Limits.{itemsMost}
 use Rattle.frames.specs.Kinds.{itemsOf}
 use Rattle.frames.specs.Frames.{kindOf}
 use Rattle.reading.specs.Second.{countsIn, reading}
-use Rattle.reading.specs.Index.{Indexed}
+use Rattle.indexing.specs.Index.{Indexed}
 use Rattle.reading.specs.IndexedReading.{ReadIndexed}
 use Rattle.measure.specs.declared.SamplerConfig.{SamplerConfig}
 use Rattle.query.specs.Statistics.{settings}
@@ -37,8 +37,8 @@ use Rattle.plans.specs.PlanRead.{plan-length}
 use Rattle.plans.specs.Longest.{planMost}
 use Rattle.plan_facts.specs.Remembered.{keysMost, FewKeys, never, nothing-sampled}
 use Rattle.lowering.specs.AtomLines.{AtomLine}
-use Rattle.lowering.specs.Eager.{Located, atomsOf}
-use Rattle.lowering.specs.Places.{Places, located}
+use Rattle.passes.specs.Eager.{Located, atomsOf}
+use Rattle.passes.specs.Places.{Places, located}
 use Rattle.prices.specs.Prices.{rowSize, tableSize, FewItems}
 use Rattle.samples.specs.Remembering.{Samples}
 use Rattle.scheduling.specs.Rounds.{Scheduling}

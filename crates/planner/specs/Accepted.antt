@@ -20,7 +20,7 @@ use Rattle.frames.specs.declared.fields.Field.{Field}
 use Rattle.frames.specs.declared.fields.Test.the-variants.{Limits}
 use Rattle.frames.specs.declared.first.Text.the-variants.{Query}
 use Rattle.frames.specs.declared.first.Reading.the-variants.{Accepted}
-use Rattle.reading.specs.Keys.{begins, find, isFound}
+use Rattle.indexing.specs.Keys.{begins, find, isFound}
 use Rattle.reading.specs.Second.{countsOf, reading}
 use Rattle.reading_facts.specs.Passes.{frame-field}
 use Rattle.reading_facts.specs.Whole.{accepted, query-within}
@@ -36,9 +36,9 @@ use Rattle.cost.specs.Choice.{rounds, remembered}
 use Rattle.plans.specs.StepFrames.{Each}
 use Rattle.plans.specs.Fitting.{AtomFits}
 use Rattle.lowering.specs.AtomLines.{AtomLine}
-use Rattle.lowering.specs.Places.{frames-length}
+use Rattle.passes.specs.Places.{frames-length}
 use Rattle.lowering.proofs.AtomLaws.{by-kind}
-use Rattle.lowering.proofs.AcceptedLaws.{atom-line}
+use Rattle.passes.proofs.AcceptedLaws.{atom-line}
 use Rattle.plan_facts.specs.AtomFrames.{Good}
 use Rattle.plan_facts.specs.QueryPlans.{atomsOf, good, atoms-number, query-fits}
 use Rattle.plan_facts.specs.Remembered.{FewOperands, FewKeys, rounds-few}

@@ -9,7 +9,7 @@ ghost use Rattle.frames.specs.declared.first.Text.the-variants.{Query};
 ghost use Rattle.reading.specs.Second.{countsIn};
 ghost use Rattle.plans.specs.PlanText.{textLength};
 ghost use Rattle.plans.specs.StepFrames.{frameOf, headerOf};
-ghost use Rattle.lowering.specs.Eager.{Located, atomsOf};
+ghost use Rattle.passes.specs.Eager.{Located, atomsOf};
 ghost use Rattle.writing.specs.Steps.{Ordered, stepsAlong};
 ghost use Rattle.output.specs.Written.{PutsFrames};
 use frames::first::Text;

@@ -19,7 +19,7 @@ use Rattle.frames.specs.declared.fields.Counts.{Counts}
 use Rattle.frames.specs.declared.first.Text.the-variants.{Plan}
 use Rattle.frames.specs.declared.first.Reading.{Reading}
 use Rattle.frames.specs.declared.first.Reading.the-variants.{Accepted}
-use Rattle.reading.specs.Keys.{keyGiven}
+use Rattle.indexing.specs.Keys.{keyGiven}
 use Rattle.reading.specs.Second.{countsOf, secondFault, secondFrom, reading}
 use Rattle.model.specs.Atoms.{Step}
 use Rattle.plans.specs.StepFrames.{frameOf, headerOf, stepOf, Each, CountsFit, StepFits}

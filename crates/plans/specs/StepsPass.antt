@@ -19,7 +19,7 @@ use Rattle.frames.specs.declared.fields.Field.the-variants.{Operand as OperandF
 use Rattle.frames.specs.declared.fields.Counts.{Counts}
 use Rattle.frames.specs.declared.fields.Test.the-variants.{Limits, Range, Reals}
 use Rattle.frames.specs.declared.first.Text.the-variants.{Plan}
-use Rattle.reading.specs.Keys.{keyGiven}
+use Rattle.indexing.specs.Keys.{keyGiven}
 use Rattle.model.specs.Bools.{both, first, second}
 use Rattle.model.specs.Atoms.{Operand, local, global, A, AC, ACI, Lookup, ByOp, ByChildPos, ByRepr, ByContains, Step, Join, ExtractChild, CheckChildEq, CheckEq, CheckEqGlobal, BindGlobal, CopyBinding, Expand, ExtractLitVal, CheckLit, CheckPred}
 use Rattle.model.specs.Limited.{flat-length}

@@ -4,7 +4,7 @@ ghost use mathlib.Core.List.{map};
 ghost use Prim.Native.Nat.{_+_, _*_, _<_, _≤_};
 ghost use lib.ListN.{length};
 ghost use Rattle.frames.specs.Sheet.{framesIn};
-ghost use Rattle.reading.specs.Index.{Indexed};
+ghost use Rattle.indexing.specs.Index.{Indexed};
 ghost use Rattle.measure.specs.Selectivity.{pathSelectivity};
 ghost use Rattle.query.specs.Statistics.{denominator as denominatorOf};
 ghost use Rattle.cost.specs.Costs.{estimateCost};

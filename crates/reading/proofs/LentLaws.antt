@@ -6,7 +6,7 @@ use native.Mathlib.Omega.{arith}
 use lib.ListN.{length, replicate, length-replicate}
 use Rattle.base.specs.Lists.{blank-at}
 use Rattle.frames.specs.Limits.{textMost}
-use Rattle.reading.specs.Index.{slotsFor}
+use Rattle.indexing.specs.Index.{slotsFor}
 use Rattle.reading.specs.IndexedReading.{sheetFor, indexFor, Lent}
 
 -- arrays of zeros serve every text of up to `most` bytes, where the index is as long as its slots ask

@@ -1,5 +1,3 @@
-pub mod Keys
-pub mod Index
 pub mod Walk
 pub mod Formed
 pub mod Second

@@ -20,7 +20,7 @@ use Rattle.frames.specs.declared.first.Text.{Text}
 use Rattle.frames.specs.declared.first.Text.the-variants.{Query, Plan, Table}
 use Rattle.frames.specs.declared.first.Reading.{Reading}
 use Rattle.frames.specs.declared.first.Reading.the-variants.{Accepted, Refused}
-use Rattle.reading.specs.Keys.{keyGiven}
+use Rattle.indexing.specs.Keys.{keyGiven}
 use Rattle.reading.specs.Second.{countsOf, secondFault, secondFrom, second, reading}
 
 -- ---- number, text and line of an answer about the text t; an accepted text has number 0

@@ -20,7 +20,7 @@ use Rattle.frames.specs.declared.first.Text.{Text}
 use Rattle.frames.specs.declared.first.Text.the-variants.{Query, Plan, Table}
 use Rattle.frames.specs.declared.first.Reading.{Reading}
 use Rattle.frames.specs.declared.first.Reading.the-variants.{Accepted}
-use Rattle.reading.specs.Keys.{begins, find, isFound, keyOf, keyGiven}
+use Rattle.indexing.specs.Keys.{begins, find, isFound, keyOf, keyGiven}
 use Rattle.reading.specs.Second.{countsOf, secondFrom, reading}
 use Rattle.reading_facts.specs.Whole.{Formed, Named, countFrom, Whole, frames-length}
 

@@ -11,7 +11,7 @@ use Rattle.frames.specs.Frames.{kindOf}
 use Rattle.frames.specs.First.{framesOf}
 use Rattle.frames.specs.declared.first.Text.{Text}
 use Rattle.frames.specs.declared.first.Reading.the-variants.{Accepted}
-use Rattle.reading.specs.Keys.{begins, find, isFound, keyOf}
+use Rattle.indexing.specs.Keys.{begins, find, isFound, keyOf}
 use Rattle.reading.specs.Second.{reading}
 use Rattle.reading_facts.specs.Whole.{accepted, begins-self}
 

@@ -27,7 +27,7 @@ use Rattle.frames.specs.declared.first.Text.{Text}
 use Rattle.frames.specs.declared.first.Text.the-variants.{Query, Plan, Table}
 use Rattle.frames.specs.declared.first.Reading.{Reading}
 use Rattle.frames.specs.declared.first.Reading.the-variants.{Accepted, Refused}
-use Rattle.reading.specs.Keys.{begins, find, isFound, keyOf, keyGiven}
+use Rattle.indexing.specs.Keys.{begins, find, isFound, keyOf, keyGiven}
 pub use Rattle.reading.specs.Formed.{Formed, countFrom}
 use Rattle.reading.specs.Formed.{passes, or-passes, Passed, lines-pass, lines-hex, First, first-accepted}
 use Rattle.reading.specs.Second.{countsOf, secondFault, secondFrom, second, reading}

@@ -16,7 +16,7 @@ use Rattle.model.specs.Bound.{Bound, has, most}
 use Rattle.model.specs.Scheduling.{atomOf}
 use Rattle.cost.specs.QueryAtoms.{atomOfFrame}
 use Rattle.cost.specs.Emitters.{Emitters, decode, recordAtom, recordEmitters}
-use Rattle.lowering.specs.Eager.{atomsOf, Located}
+use Rattle.passes.specs.Eager.{atomsOf, Located}
 use Rattle.recording.specs.Changed.{changedFrom, recordNumber, recordNumbers}
 
 -- ---- the list of the numbers

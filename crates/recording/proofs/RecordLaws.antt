@@ -18,7 +18,7 @@ use Rattle.model.specs.Scheduling.{atomOf}
 use Rattle.cost.specs.QueryAtoms.{operandsFrom, atomOfFrame}
 use Rattle.cost.specs.Emitters.{Emitters, decode, from, emitterOf, setEmitter, setElements, copyEmitter, recordAtom, recordEmitters}
 use Rattle.lowering.specs.AtomLines.{AtomLine, itemOperands, scansKind}
-use Rattle.lowering.specs.Eager.{atomsOf, Located}
+use Rattle.passes.specs.Eager.{atomsOf, Located}
 use Rattle.lowering.proofs.AtomLaws.{by-kind, scanning}
 use Rattle.recording.specs.Items.{setItems}
 use Rattle.recording.proofs.ItemLaws.{children-are, elements-are}

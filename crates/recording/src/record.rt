@@ -11,7 +11,7 @@ ghost use Rattle.model.specs.Premises.{numbersBelow};
 ghost use Rattle.cost.specs.QueryAtoms.{operandsFrom, atomOfFrame};
 ghost use Rattle.cost.specs.Emitters.{decode, from, setEmitter, recordAtom};
 ghost use Rattle.lowering.specs.AtomLines.{AtomLine, itemOperands};
-ghost use Rattle.lowering.specs.Eager.{Located, atomsOf};
+ghost use Rattle.passes.specs.Eager.{Located, atomsOf};
 ghost use Rattle.recording.specs.Items.{itemEmitter, setItems};
 ghost use Rattle.recording.specs.Changed.{recordNumber, recordNumbers};
 use emitters::numbers::copy_emitter;
@@ -24,7 +24,7 @@ use frames::frame::items_of;
 use frames::kinds::fixed_length;
 use frames::kinds::item_width;
 use hex::byte_at;
-use lowering::eager::atom_line;
+use passes::eager::atom_line;
 
 // The number of the emitter of item p: an element, or the child at position p.
 fn item_emitter(atom: u8, elements: bool, p: u8) -> u32

@@ -17,7 +17,7 @@ use Rattle.frames.specs.Frames.{frameLength}
 use Rattle.frames.specs.First.{framesOf, isRow}
 use Rattle.frames.specs.declared.first.Text.the-variants.{Table}
 use Rattle.frames.specs.declared.first.Reading.the-variants.{Accepted}
-use Rattle.reading.specs.Keys.{keyOf}
+use Rattle.indexing.specs.Keys.{keyOf}
 use Rattle.reading.specs.Second.{reading}
 use Rattle.reading_facts.specs.Whole.{accepted, frame-bytes}
 use Rattle.model.specs.Lists.{Pairs}

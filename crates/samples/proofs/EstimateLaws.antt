@@ -11,7 +11,7 @@ use lib.Ieee.{Float}
 use lib.ListN.{length, getD, set, length-set}
 use lib.Seq.{getD-set-same, getD-set-other}
 use borrow.Author.Tests.{lt-ltb, le-ltb, ltb-true, ltb-false}
-use Rattle.reading.specs.Index.{Indexed}
+use Rattle.indexing.specs.Index.{Indexed}
 use Rattle.measure.specs.Selectivity.{zero64}
 use Rattle.measure.specs.declared.FanOut.{FanOut}
 use Rattle.measure.specs.declared.FanOut.the-variants.{Measured, Unmeasured}

@@ -8,7 +8,7 @@ use native.Mathlib.Omega.{arith}
 use lib.Ieee.{Float}
 use lib.ListN.{length, getD, List·getD-map}
 use borrow.Author.Tests.{eq-eqb, ne-eqb}
-use Rattle.reading.specs.Index.{Indexed}
+use Rattle.indexing.specs.Index.{Indexed}
 use Rattle.measure.specs.declared.FanOut.the-variants.{Unmeasured}
 use Rattle.measure.specs.declared.SamplerConfig.{SamplerConfig}
 use Rattle.query.specs.Statistics.{settings}

@@ -5,7 +5,7 @@ ghost use lib.ListN.{length, getD};
 ghost use Rattle.measure.specs.Selectivity.{zero64};
 ghost use Rattle.measure.specs.declared.FanOut.the-variants.{Unmeasured};
 ghost use Rattle.frames.specs.Sheet.{framesIn};
-ghost use Rattle.reading.specs.Index.{Indexed};
+ghost use Rattle.indexing.specs.Index.{Indexed};
 ghost use Rattle.query.specs.declared.statistics.Sampled.the-variants.{On};
 ghost use Rattle.cost.specs.Sampling.{afterEstimate};
 ghost use Rattle.cost.specs.Memo.{hasValue, tallyAt};

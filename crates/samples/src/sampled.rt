@@ -4,7 +4,7 @@ ghost use mathlib.Core.List.{map};
 ghost use Prim.Native.Nat.{_<_, _≤_};
 ghost use lib.ListN.{length, getD};
 ghost use Rattle.frames.specs.Sheet.{framesIn};
-ghost use Rattle.reading.specs.Index.{Indexed};
+ghost use Rattle.indexing.specs.Index.{Indexed};
 ghost use Rattle.measure.specs.declared.FanOut.the-variants.{Unmeasured};
 ghost use Rattle.cost.specs.Costs.{sampled as sampledOf};
 ghost use Rattle.cost.specs.Emitters.{decode};

@@ -25,8 +25,8 @@ use Rattle.cost.specs.Memo.{memoAt, tallyAt}
 use Rattle.cost.specs.Choice.{Memory, fresh, offers, recorded, cost, emittedBy, byCost, choose, choose-fair, roundsFrom, rounds, planned, remembered}
 use Rattle.cost.specs.declared.memo.Sampling.{Sampling}
 use Rattle.plan_facts.specs.Remembered.{keysMost, loop-grows}
-use Rattle.lowering.specs.Eager.{state, Went, Located, Ready, atomsOf}
-use Rattle.lowering.proofs.EagerLaws.{lowered-then}
+use Rattle.passes.specs.Eager.{state, Went, Located, Ready, atomsOf}
+use Rattle.passes.proofs.EagerLaws.{lowered-then}
 use Rattle.samples.specs.Remembering.{Samples, Remembers}
 use Rattle.choosing.specs.Choosing.{bidOf, orBest, candidates, costBits}
 use Rattle.scheduling.specs.Rounds.{emittersOf, Prepared, Chooses, TakesNext, RoundRoom, Ordering, Scheduling, Rounded}

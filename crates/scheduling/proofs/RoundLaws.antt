@@ -20,9 +20,9 @@ use Rattle.recording.proofs.ChangedLaws.{changed-recorded}
 use Rattle.cost.specs.Memo.{tallyAt}
 use Rattle.cost.specs.declared.memo.Sampling.{Sampling}
 use Rattle.lowering.specs.AtomLines.{AtomLine, lowers, boundBehind, Lowers}
-use Rattle.lowering.specs.Eager.{Went, LoweredEager, Lined, Located, Ready, atomsOf}
-use Rattle.lowering.specs.LocatedLaws.{place-sized, place-within, number-among, line-ready}
-use Rattle.lowering.proofs.EagerLaws.{went-one}
+use Rattle.passes.specs.Eager.{Went, LoweredEager, Lined, Located, Ready, atomsOf}
+use Rattle.passes.specs.LocatedLaws.{place-sized, place-within, number-among, line-ready}
+use Rattle.passes.proofs.EagerLaws.{went-one}
 use Rattle.choosing.specs.Choosing.{candidates}
 use Rattle.scheduling.specs.Rounds.{emittersOf, Advances, Takes, TakesNext, roundTally, RoundRoom}
 use Rattle.choosing.specs.declared.choose.Scheduler.{Scheduler}

@@ -19,7 +19,7 @@ use Rattle.cost.specs.Sampling.{Tally}
 use Rattle.cost.specs.Memo.{tallyAt}
 use Rattle.cost.specs.Choice.{Memory, offers, rounds, planned, remembered}
 use Rattle.cost.specs.declared.memo.Sampling.{Sampling}
-use Rattle.lowering.specs.Eager.{state, Went, LoweredEager, Ready, atomsOf}
+use Rattle.passes.specs.Eager.{state, Went, LoweredEager, Ready, atomsOf}
 use Rattle.choosing.specs.Choosing.{costBits, candidates, Chose}
 use Rattle.choosing.specs.declared.choose.Scheduler.{Scheduler}
 use Rattle.scheduling.specs.declared.schedule.Round.{Round}

@@ -14,7 +14,7 @@ use Rattle.frames.specs.declared.first.Text.the-variants.{Plan, Table as TableT
 use Rattle.frames.specs.declared.first.Reading.{Reading}
 use Rattle.frames.specs.declared.first.Reading.the-variants.{Accepted, Refused}
 use Rattle.reading.specs.Second.{reading}
-use Rattle.reading.specs.Index.{Indexed}
+use Rattle.indexing.specs.Index.{Indexed}
 use Rattle.reading.specs.IndexedReading.{ReadIndexed}
 use Rattle.model.specs.Bound.{blank}
 use Rattle.running.specs.Tables.{tableOf}

@@ -2,11 +2,11 @@
 ghost use mathlib.Core.Path.{_≡_};
 ghost use lib.ListN.{length};
 ghost use Rattle.frames.specs.Sheet.{framesIn};
-ghost use Rattle.reading.specs.Index.{Indexed};
+ghost use Rattle.indexing.specs.Index.{Indexed};
 ghost use Rattle.running.specs.Tables.{classFrom, globalIn};
 ghost use Rattle.turning.specs.Plans.{GlobalsRead};
 use hex::short_at;
-use reading::index::find_by;
+use indexing::index::find_by;
 
 // The class of a frame 32; unset where there is no frame.
 fn class_from(frame: &[u8]) -> u16

@@ -2,7 +2,7 @@
 ghost use mathlib.Core.Path.{_≡_};
 ghost use lib.ListN.{length};
 ghost use Rattle.frames.specs.First.{Sheet};
-ghost use Rattle.reading.specs.Index.{Indexed};
+ghost use Rattle.indexing.specs.Index.{Indexed};
 ghost use Rattle.reading.specs.IndexedReading.{Lent};
 ghost use Rattle.turning.specs.Plans.{StepsTested, PlanReady, PlanAccepted, Tested, TableTested, Turns};
 use super::globals::global_classes;

@@ -15,7 +15,7 @@ use Rattle.cost.specs.QueryAtoms.{atomOfFrame}
 use Rattle.plans.specs.PlanText.{textOf}
 use Rattle.plans.specs.StepFrames.{frameOf}
 use Rattle.lowering.specs.AtomLines.{AtomLine, boundBehind}
-use Rattle.lowering.specs.Eager.{atomsOf, Located}
+use Rattle.passes.specs.Eager.{atomsOf, Located}
 use Rattle.output.specs.Written.{PutsFrames}
 use Rattle.output.proofs.PutLaws.{written-size, frames-none, frames-then}
 use Rattle.step_bytes.specs.Begun.{stepsOf}

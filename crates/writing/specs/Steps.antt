@@ -13,7 +13,7 @@ use Rattle.model.specs.Lowering.{Emitted, emitReadChildren, pvMarkBound, lowerE
 use Rattle.model.specs.Scheduling.{atomOf}
 use Rattle.plans.specs.StepFrames.{frameOf}
 use Rattle.lowering.specs.AtomLines.{boundBehind}
-use Rattle.lowering.specs.Eager.{atomsOf}
+use Rattle.passes.specs.Eager.{atomsOf}
 use Rattle.output.specs.Written.{PutsFrames}
 use Rattle.step_bytes.specs.Begun.{stepsOf}
 use Rattle.emitting.specs.Emitting.{Emittable}

@@ -6,13 +6,13 @@ ghost use Rattle.model.specs.Bound.{most};
 ghost use Rattle.model.specs.Scheduling.{atomOf};
 ghost use Rattle.cost.specs.QueryAtoms.{atomOfFrame};
 ghost use Rattle.lowering.specs.AtomLines.{AtomLine};
-ghost use Rattle.lowering.specs.Eager.{atomsOf, Located};
+ghost use Rattle.passes.specs.Eager.{atomsOf, Located};
 ghost use Rattle.writing.specs.Steps.{stepCount, countAlong, Ordered, PutsSteps};
 use emitting::atom::emit_atom;
 use frames::fields::wide;
 use frames::frame::items_of;
 use hex::byte_at;
-use lowering::eager::atom_line;
+use passes::eager::atom_line;
 
 // The lines of the first `count` atoms of the order.
 pub fn write_steps(

@@ -6,7 +6,7 @@ use mathlib.Core.Path.{sym}
 use mathlib.Core.List.{map}
 use Rattle.cost.specs.Emitters.{decode}
 use Rattle.prices.proofs.PriceLaws.{row-within, row-priced}
-use Rattle.lowering.specs.LocatedLaws.{place-sized, place-within, number-small, line-ready}
+use Rattle.passes.specs.LocatedLaws.{place-sized, place-within, number-small, line-ready}
 use Rattle.samples.proofs.OwnLaws.{own-samples, own-memo}
 use Rattle.choosing.proofs.ChoiceLaws.{Scanning, scanning-none, scanning-not, cost-room, scanning-cost, scanned}
 use Rattle.choosing.proofs.choose.cheapest.Statement.{statement}
@@ -17,7 +17,7 @@ use Rattle.choosing.proofs.choose.better.Reads as better-reads
 use Rattle.choosing.proofs.choose.is_candidate.Reads as is-candidate-reads
 use Rattle.choosing.proofs.choose.note_cost.Reads as note-cost-reads
 use Rattle.frames.proofs.fields.narrow.Reads as narrow-reads
-use Rattle.lowering.proofs.eager.atom_line.Reads as atom-line-reads
+use Rattle.passes.proofs.eager.atom_line.Reads as atom-line-reads
 use Rattle.pricing.proofs.costs.estimate_cost.Reads as estimate-cost-reads
 use Rattle.sqrt.proofs.bits_of.Reads as bits-of-reads
 

@@ -1,5 +1,5 @@
 -- `recording::record::record_number` meets its contract: by whether there is such an atom.
-use Rattle.lowering.specs.LocatedLaws.{place-sized, place-within, line-ready}
+use Rattle.passes.specs.LocatedLaws.{place-sized, place-within, line-ready}
 use Rattle.recording.proofs.ChangedLaws.{number-none, number-some}
 use borrow.Author.Needs.{needs}
 use Rattle.recording.proofs.record.record_number.Statement.{statement}
@@ -7,7 +7,7 @@ use Rattle.recording.proofs.record.record_number.Tie as tie
 use Rattle.recording.proofs.record.record_number.Reads as reads
 use Rattle.recording.proofs.record.record_number.Lts as lts
 use Rattle.frames.proofs.fields.wide.Reads as wide-reads
-use Rattle.lowering.proofs.eager.atom_line.Reads as atom-line-reads
+use Rattle.passes.proofs.eager.atom_line.Reads as atom-line-reads
 use Rattle.recording.proofs.record.record_atom.Reads as record-atom-reads
 
 -- src/record.rt:104:9

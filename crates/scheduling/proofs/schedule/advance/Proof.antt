@@ -5,7 +5,7 @@ use Rattle.scheduling.proofs.schedule.advance.Statement.{statement}
 use Rattle.scheduling.proofs.schedule.advance.Tie as tie
 use Rattle.scheduling.proofs.schedule.advance.Reads as reads
 use Rattle.scheduling.proofs.schedule.advance.Lts as lts
-use Rattle.lowering.proofs.eager.lower_eager.Reads as lower-eager-reads
+use Rattle.passes.proofs.eager.lower_eager.Reads as lower-eager-reads
 use Rattle.recording.proofs.changed.changed.Reads as changed-reads
 use Rattle.recording.proofs.record.record_numbers.Reads as record-numbers-reads
 

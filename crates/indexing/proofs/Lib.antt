@@ -1,0 +1,4 @@
+pub mod KeyLaws
+pub mod SlotLaws
+pub mod SearchLaws
+pub mod NoteLaws

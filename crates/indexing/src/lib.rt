@@ -1,0 +1,3 @@
+// Frames found by their keys: an index of a sheet.
+pub mod index;
+pub mod keys;

@@ -1,0 +1,103 @@
+-- The tests of the reading give what the lowering asks of an atom's line. Proved kind by kind.
+use Prim.Native.Nat.{ℕ, zero, suc, _+_, _<_, _≤_}
+use mathlib.Core.Path.{_≡_, refl, sym, _∙_}
+use mathlib.Core.Bool.{Bool, true, false}
+use mathlib.Core.List.{List, [], _∷_, _++_, flatMap}
+use native.Mathlib.Omega.{arith}
+use lib.Dec.{eqb, ltb}
+use lib.ListN.{length, getD, replicate}
+use borrow.Author.Tests.{ltb-true, lt-ltb}
+use Rattle.base.specs.Choose.{pick, both-hold}
+use Rattle.frames.specs.First.{isAtom}
+use Rattle.frames.specs.declared.first.Reading.{Reading}
+use Rattle.frames.specs.declared.first.Reading.the-variants.{Accepted}
+use Rattle.reading.specs.Formed.{or-passes}
+use Rattle.reading.specs.Keys.{keyGiven}
+use Rattle.reading.specs.Second.{secondFault, secondFrom}
+use Rattle.frames.specs.Fields.{width, fieldIn, fieldPasses, operandIn}
+use Rattle.frames.specs.Kinds.{kinds, kindAt}
+use Rattle.frames.specs.Frames.{passAll, framePasses}
+use Rattle.frames.specs.declared.fields.Counts.{Counts}
+use Rattle.frames.specs.declared.fields.Field.{Field}
+use Rattle.frames.specs.declared.fields.Field.the-variants.{Operand, Element}
+use Rattle.frames.specs.declared.fields.Test.the-variants.{Range, Reals}
+use Rattle.model.specs.Atoms.{local, global, localOf, varsIn}
+use Rattle.model.specs.Bools.{both, first, second}
+use Rattle.model.specs.Bound.{most}
+use Rattle.model.specs.Premises.{numbersBelow}
+use Rattle.cost.specs.QueryAtoms.{operandsFrom, atomOfFrame, atomFrames}
+use Rattle.lowering.specs.AtomLines.{AtomLine}
+use Rattle.lowering.proofs.AtomLaws.{by-kind}
+
+below-more : (m n : ℕ) (vs : List ℕ) → m ≤ n → numbersBelow m vs ≡ true → numbersBelow n vs ≡ true
+unfolding numbersBelow
+below-more m n [] l h = refl
+below-more m n (v ∷ vs) l h =
+    let b : v < m = ltb-true v m (first (ltb v m) (numbersBelow m vs) h) in
+    both (lt-ltb v n (omega arith)) (below-more m n vs l (second (ltb v m) (numbersBelow m vs) h))
+
+module _ (n : Counts) where
+  -- the operands of a frame, where each is in range
+  items-in : (x : Field) → ((f : List ℕ) (i : ℕ) → fieldPasses Range n x f i ≡ operandIn n (getD f i 0) (getD f (i + 1) 0)) → (f : List ℕ) (i k : ℕ) → passAll (fieldPasses Range n) (replicate k x) f i ≡ true → numbersBelow (n .variables) (flatMap localOf (operandsFrom f i (width x) k)) ≡ true
+  unfolding passAll numbersBelow flatMap operandsFrom
+  items-in x is f i zero h = refl
+  items-in x is f i (suc k) h = by (eqb (getD f i 0) 0) (sym (is f i) ∙ both-hold (fieldPasses Range n x f i) _ h .0) (items-in x is f (i + width x) k (both-hold (fieldPasses Range n x f i) _ h .1))
+    where
+      by : (t : Bool) → pick t (ltb (getD f (i + 1) 0) (n .variables)) (ltb (getD f (i + 1) 0) (n .globals)) ≡ true → numbersBelow (n .variables) (flatMap localOf (operandsFrom f (i + width x) (width x) k)) ≡ true
+          → numbersBelow (n .variables) (localOf (pick t (local (getD f (i + 1) 0)) (global (getD f (i + 1) 0))) ++ flatMap localOf (operandsFrom f (i + width x) (width x) k)) ≡ true
+      by true a r = both a r
+      by false a r = r
+
+  operand-in : (f : List ℕ) (i : ℕ) → fieldPasses Range n Operand f i ≡ operandIn n (getD f i 0) (getD f (i + 1) 0)
+  unfolding fieldPasses fieldIn
+  operand-in f i = refl
+
+  element-in : (f : List ℕ) (i : ℕ) → fieldPasses Range n Element f i ≡ operandIn n (getD f i 0) (getD f (i + 1) 0)
+  unfolding fieldPasses fieldIn
+  element-in f i = refl
+
+  vars-in : (f : List ℕ) → isAtom (getD f 0 0) ≡ true → framePasses (fieldPasses Range n) f ≡ true → numbersBelow (n .variables) (varsIn (atomOfFrame f)) ≡ true
+  unfolding atomOfFrame kinds kindAt passAll fieldPasses fieldIn numbersBelow
+  vars-in = by-kind (λ f. framePasses (fieldPasses Range n) f ≡ true → numbersBelow (n .variables) (varsIn (atomOfFrame f)) ≡ true)
+      (λ r h. both (both-hold (ltb (getD r 0 0) (n .variables)) _ (both-hold (passAll (fieldPasses Range n) (kindAt 1 .fields) (1 ∷ r) 1) _ h .0) .0) (items-in Operand operand-in (1 ∷ r) 4 (getD (1 ∷ r) 3 0) (both-hold (passAll (fieldPasses Range n) (kindAt 1 .fields) (1 ∷ r) 1) _ h .1)))
+      (λ r h. both (both-hold (ltb (getD r 0 0) (n .variables)) _ (both-hold (passAll (fieldPasses Range n) (kindAt 2 .fields) (2 ∷ r) 1) _ h .0) .0) refl)
+      (λ r h. both (both-hold (ltb (getD r 0 0) (n .variables)) _ (both-hold (passAll (fieldPasses Range n) (kindAt 3 .fields) (3 ∷ r) 1) _ h .0) .0) refl)
+      (λ r h. let g = both-hold (passAll (fieldPasses Range n) (kindAt 4 .fields) (4 ∷ r) 1) _ h .0 in both (both-hold (ltb (getD r 0 0) (n .variables)) _ g .0) (both (both-hold (ltb (getD r 1 0) (n .variables)) true (both-hold (ltb (getD r 0 0) (n .variables)) _ g .1) .0) refl))
+      (λ r h. both (both-hold (ltb (getD r 0 0) (n .variables)) _ (both-hold (passAll (fieldPasses Range n) (kindAt 5 .fields) (5 ∷ r) 1) _ h .0) .0) refl)
+      (λ r h. refl)
+      (λ r h. both (both-hold (ltb (getD r 0 0) (n .variables)) _ (both-hold (passAll (fieldPasses Range n) (kindAt 7 .fields) (7 ∷ r) 1) _ h .0) .0) (items-in Operand operand-in (7 ∷ r) 4 (getD (7 ∷ r) 3 0) (both-hold (passAll (fieldPasses Range n) (kindAt 7 .fields) (7 ∷ r) 1) _ h .1)))
+      (λ r h. both (both-hold (ltb (getD r 0 0) (n .variables)) _ (both-hold (passAll (fieldPasses Range n) (kindAt 8 .fields) (8 ∷ r) 1) _ h .0) .0) (items-in Operand operand-in (8 ∷ r) 5 (getD (8 ∷ r) 4 0) (both-hold (passAll (fieldPasses Range n) (kindAt 8 .fields) (8 ∷ r) 1) _ h .1)))
+      (λ r h. both (both-hold (ltb (getD r 0 0) (n .variables)) _ (both-hold (passAll (fieldPasses Range n) (kindAt 9 .fields) (9 ∷ r) 1) _ h .0) .0) (items-in Operand operand-in (9 ∷ r) 5 (getD (9 ∷ r) 4 0) (both-hold (passAll (fieldPasses Range n) (kindAt 9 .fields) (9 ∷ r) 1) _ h .1)))
+      (λ r h. both (both-hold (ltb (getD r 0 0) (n .variables)) _ (both-hold (passAll (fieldPasses Range n) (kindAt 10 .fields) (10 ∷ r) 1) _ h .0) .0) (items-in Operand operand-in (10 ∷ r) 6 (getD (10 ∷ r) 5 0) (both-hold (passAll (fieldPasses Range n) (kindAt 10 .fields) (10 ∷ r) 1) _ h .1)))
+      (λ r h. both (both-hold (ltb (getD r 0 0) (n .variables)) _ (both-hold (passAll (fieldPasses Range n) (kindAt 11 .fields) (11 ∷ r) 1) _ h .0) .0) (items-in Element element-in (11 ∷ r) 4 (getD (11 ∷ r) 3 0) (both-hold (passAll (fieldPasses Range n) (kindAt 11 .fields) (11 ∷ r) 1) _ h .1)))
+      (λ r h. both (both-hold (ltb (getD r 0 0) (n .variables)) _ (both-hold (passAll (fieldPasses Range n) (kindAt 12 .fields) (12 ∷ r) 1) _ h .0) .0) (items-in Element element-in (12 ∷ r) 5 (getD (12 ∷ r) 4 0) (both-hold (passAll (fieldPasses Range n) (kindAt 12 .fields) (12 ∷ r) 1) _ h .1)))
+      (λ r h. both (both-hold (ltb (getD r 0 0) (n .variables)) _ (both-hold (passAll (fieldPasses Range n) (kindAt 13 .fields) (13 ∷ r) 1) _ h .0) .0) (items-in Operand operand-in (13 ∷ r) 4 (getD (13 ∷ r) 3 0) (both-hold (passAll (fieldPasses Range n) (kindAt 13 .fields) (13 ∷ r) 1) _ h .1)))
+      (λ r h. both (both-hold (ltb (getD r 0 0) (n .variables)) _ (both-hold (passAll (fieldPasses Range n) (kindAt 14 .fields) (14 ∷ r) 1) _ h .0) .0) (items-in Operand operand-in (14 ∷ r) 5 (getD (14 ∷ r) 4 0) (both-hold (passAll (fieldPasses Range n) (kindAt 14 .fields) (14 ∷ r) 1) _ h .1)))
+
+  -- a frame of an atom that passes test 5, with at most 64 variables
+  pub atom-line : (f : List ℕ) → isAtom (getD f 0 0) ≡ true → n .variables ≤ most → framePasses (fieldPasses Range n) f ≡ true → AtomLine f
+  atom-line f a l h = record { kind = a; variables = below-more (n .variables) most (varsIn (atomOfFrame f)) l (vars-in f a h) }
+
+  -- ---- the second reading
+
+  passes-range : (earlier : List (List ℕ)) (f : List ℕ) → secondFault n earlier f ≡ 0 → framePasses (fieldPasses Range n) f ≡ true
+  unfolding secondFault
+  passes-range earlier f h = by (framePasses (fieldPasses Range n) f) h
+    where
+      by : (t : Bool) → _≡_ {A = ℕ} (pick t (pick (framePasses (fieldPasses Reals n) f) (pick (keyGiven earlier f) 7 0) 6) 5) 0 → t ≡ true
+      by true h = refl
+      by false h = absurd (omega arith)
+
+  -- where it accepts, with at most 64 variables, each atom's frame is an AtomLine
+  pub accepted-lines : n .variables ≤ most → (fs earlier : List (List ℕ)) (k : ℕ) (a : Reading) (l c : ℕ) → secondFrom n earlier k fs a ≡ Accepted l c → (j : ℕ) → j < length (atomFrames fs) → AtomLine (getD (atomFrames fs) j [])
+  unfolding secondFrom atomFrames
+  accepted-lines m [] earlier k a l c h j g = absurd (omega arith)
+  accepted-lines m (f ∷ fs) earlier k a l c h j g = by (isAtom (getD f 0 0)) refl j g (accepted-lines m fs (earlier ++ f ∷ []) (suc k) a l c (r .1))
+    where
+      r : (secondFault n earlier f ≡ 0) × (secondFrom n (earlier ++ f ∷ []) (suc k) fs a ≡ Accepted l c)
+      r = or-passes (secondFault n earlier f) k (secondFrom n (earlier ++ f ∷ []) (suc k) fs a) l c h
+
+      by : (t : Bool) → isAtom (getD f 0 0) ≡ t → (j : ℕ) → j < length (pick t (f ∷ atomFrames fs) (atomFrames fs)) → ((i : ℕ) → i < length (atomFrames fs) → AtomLine (getD (atomFrames fs) i [])) → AtomLine (getD (pick t (f ∷ atomFrames fs) (atomFrames fs)) j [])
+      by true e zero g rest = atom-line f e m (passes-range earlier f (r .0))
+      by true e (suc i) g rest = rest i (omega arith)
+      by false e i g rest = rest i g

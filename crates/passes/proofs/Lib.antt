@@ -1,0 +1,3 @@
+pub mod EagerLaws
+pub mod PlaceLaws
+pub mod AcceptedLaws

@@ -1,0 +1,3 @@
+pub mod Eager
+pub mod LocatedLaws
+pub mod Places

@@ -1,0 +1,3 @@
+// The atoms of a sheet, and eager passes over them.
+pub mod eager;
+pub mod places;
