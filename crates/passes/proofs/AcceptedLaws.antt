@@ -12,7 +12,7 @@ use Rattle.frames.specs.First.{isAtom}
 use Rattle.frames.specs.declared.first.Reading.{Reading}
 use Rattle.frames.specs.declared.first.Reading.the-variants.{Accepted}
 use Rattle.reading.specs.Formed.{or-passes}
-use Rattle.reading.specs.Keys.{keyGiven}
+use Rattle.indexing.specs.Keys.{keyGiven}
 use Rattle.reading.specs.Second.{secondFault, secondFrom}
 use Rattle.frames.specs.Fields.{width, fieldIn, fieldPasses, operandIn}
 use Rattle.frames.specs.Kinds.{kinds, kindAt}
