@@ -12,10 +12,10 @@ use Rattle.base.specs.Choose.{pick, both-hold}
 use Rattle.hex.specs.Digits.{wordAt}
 use Rattle.hex.specs.Bytes.{byte-at}
 use Rattle.frames.specs.Limits.{itemsMost}
-use Rattle.frames.specs.Fields.{width, fieldPasses, fieldFits, fieldIn, operandIn}
+use Rattle.frames.specs.Fields.{width, fieldPasses, fieldFits, fieldIn, operandIn, noCounts}
 use Rattle.frames.specs.Kinds.{kinds, kindAt, fixedLength}
 use Rattle.frames.specs.Frames.{kindOf, passAll, itemFields, framePasses}
-use Rattle.frames.specs.First.{noCounts, isAtom}
+use Rattle.frames.specs.First.{isAtom}
 use Rattle.frames.specs.declared.fields.Field.{Field}
 use Rattle.frames.specs.declared.fields.Field.the-variants.{Operand as OperandField, Element as ElementField, Atom as AtomField}
 use Rattle.frames.specs.declared.fields.Counts.{Counts}

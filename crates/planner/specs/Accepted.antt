@@ -11,10 +11,10 @@ use lib.Dec.{eqb}
 use Rattle.base.specs.Choose.{pick, both-hold}
 use Rattle.hex.specs.Digits.{shortAt}
 use Rattle.frames.specs.Limits.{atomsMost, itemsMost, kMost, bootstrapMost}
-use Rattle.frames.specs.Fields.{fieldPasses, fieldFits}
+use Rattle.frames.specs.Fields.{fieldPasses, fieldFits, noCounts}
 use Rattle.frames.specs.Kinds.{kinds, kindAt, itemsOf}
 use Rattle.frames.specs.Frames.{kindOf, framePasses}
-use Rattle.frames.specs.First.{framesOf, isAtom, noCounts}
+use Rattle.frames.specs.First.{framesOf, isAtom}
 use Rattle.frames.specs.declared.fields.Counts.{Counts}
 use Rattle.frames.specs.declared.fields.Field.{Field}
 use Rattle.frames.specs.declared.fields.Test.the-variants.{Limits}

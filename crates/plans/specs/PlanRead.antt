@@ -11,10 +11,10 @@ use lib.Pow.{areBytes}
 use borrow.Author.Tests.{lt-ltb, le-ltb, le-leb, eq-eqb, ne-eqb}
 use Rattle.hex.specs.Digits.{bytesOf, digitsOf}
 use Rattle.frames.specs.Limits.{textMost, variablesMost, globalsMost, literalsMost, atomsMost}
-use Rattle.frames.specs.Fields.{fieldPasses, fieldFits, fieldIn, fieldReal}
+use Rattle.frames.specs.Fields.{fieldPasses, fieldFits, fieldIn, fieldReal, noCounts}
 use Rattle.frames.specs.Kinds.{kinds, kindAt}
 use Rattle.frames.specs.Frames.{frameLength, passAll}
-use Rattle.frames.specs.First.{framesOf, noCounts, frameFault, lineFault, firstLines, firstFrom, firstLine, stepsSay, stepsRight, firstReading}
+use Rattle.frames.specs.First.{framesOf, frameFault, lineFault, firstLines, firstFrom, firstLine, stepsSay, stepsRight, firstReading}
 use Rattle.frames.specs.declared.fields.Counts.{Counts}
 use Rattle.frames.specs.declared.first.Text.the-variants.{Plan}
 use Rattle.frames.specs.declared.first.Reading.{Reading}

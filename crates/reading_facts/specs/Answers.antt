@@ -11,9 +11,9 @@ use Rattle.base.specs.Choose.{pick-elim}
 use Rattle.hex.specs.Digits.{bytesOf}
 use Rattle.hex.specs.Lines.{split, isHex}
 use Rattle.frames.specs.Limits.{textMost}
-use Rattle.frames.specs.Fields.{fieldPasses}
+use Rattle.frames.specs.Fields.{fieldPasses, noCounts}
 use Rattle.frames.specs.Frames.{framePasses, frameLength}
-use Rattle.frames.specs.First.{framesOf, belongs, hasRoom, counted, noCounts, frameFault, lineFault, orElse, firstLines, firstFrom, stepsSay, stepsRight}
+use Rattle.frames.specs.First.{framesOf, belongs, hasRoom, counted, frameFault, lineFault, orElse, firstLines, firstFrom, stepsSay, stepsRight}
 use Rattle.frames.specs.declared.fields.Counts.{Counts}
 use Rattle.frames.specs.declared.fields.Test.the-variants.{Limits, Range, Reals}
 use Rattle.frames.specs.declared.first.Text.{Text}

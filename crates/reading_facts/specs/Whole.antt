@@ -17,10 +17,10 @@ use Rattle.hex.specs.Bytes.{digits-bytes}
 use Rattle.hex.specs.Lines.{split, isHex, endOf}
 use Rattle.hex.specs.Cuts.{cut, end-is, all-rest}
 use Rattle.frames.specs.Limits.{textMost, variablesMost, globalsMost, literalsMost, atomsMost, rowsMost}
-use Rattle.frames.specs.Fields.{fieldPasses}
+use Rattle.frames.specs.Fields.{fieldPasses, noCounts}
 use Rattle.frames.specs.Kinds.{kindAt, query, plan}
 use Rattle.frames.specs.Frames.{kindOf, passAll, framePasses}
-use Rattle.frames.specs.First.{framesOf, isHeader, belongs, countedMost, noCounts, firstLine, stepsSay, firstReading}
+use Rattle.frames.specs.First.{framesOf, isHeader, belongs, countedMost, firstLine, stepsSay, firstReading}
 use Rattle.frames.specs.declared.fields.Counts.{Counts}
 use Rattle.frames.specs.declared.fields.Test.the-variants.{Limits, Range, Reals}
 use Rattle.frames.specs.declared.first.Text.{Text}
