@@ -50,7 +50,6 @@ TellsRound Ended n = TellsPlain 0x100 n
 TellsRound (TurnedBack k l) n = TellsRefusal k 0 l n
 
 round-by : (a : RoundAnswer) → RoundWithin a → TellsRound a (packedRound a)
-unfolding RoundWithin
 round-by (Chosen i) w = (plain-told i (omega arith), w)
 round-by Ended w = plain-told 0x100 (omega arith)
 round-by (TurnedBack k l) w = refusal-told k 0 l (omega arith) (omega arith) (omega arith)

@@ -12,7 +12,12 @@ fn packed(p: Planned) -> u64
     ensures { λ r. ⌜ r ≡ packedPlanned p ⌝ }
 {
     match p {
-        Planned::Written(bytes, steps, tallied, rejected) => counts(bytes, steps, tallied, rejected),
+        Planned::Written(bytes, steps, tallied, rejected) => counts(
+            bytes,
+            steps,
+            tallied,
+            rejected,
+        ),
         Planned::Refused(number, line) => refusal(number, 0, line),
     }
 }

@@ -87,18 +87,18 @@ module _ (fs : List (List ℕ)) (qs : List Atom) (n : ℕ) (few : length qs ≤ 
       on (some i) x k h = k x (emitAt (atomOf qs) (numbers qs) i s) h
 
 -- the atom that is chosen is below 64, as a query has at most 64; a refusal has its number and line within these bounds
-pub RoundWithin : RoundAnswer → Type 0
+abbrev pub RoundWithin : RoundAnswer → Type 0
 RoundWithin (Chosen i) = i < 64
 RoundWithin Ended = Unit {0}
 RoundWithin (TurnedBack k l) = (k ≤ 7) × (l ≤ 32769)
 
 told-within : (c : Option ℕ) (cs : List (Option Float)) (o : List ℕ) → Among 64 c → RoundWithin (toldBy c cs o .answer)
-unfolding Among RoundWithin
+unfolding Among
 told-within none cs o h = tt
 told-within (some i) cs o h = h
 
 pub round-within : (x : List ℕ) (round : ℕ) (o : List ℕ) → RoundWithin (roundCosts x round o .answer)
-unfolding roundCosts Among RoundWithin
+unfolding roundCosts Among
 round-within x round o = go (reading Query x) refl
   where
     go : (a : Reading) → reading Query x ≡ a → RoundWithin (roundCosts x round o .answer)

@@ -1,0 +1,20 @@
+-- `rimdovek_estimate_draws` meets its contract: what its callees ensure, one in the other. Assumes nothing.
+use borrow.Author.Needs.{needs}
+use Rattle.exports.proofs.rimdovek_estimate_draws.Statement.{statement}
+use Rattle.exports.proofs.rimdovek_estimate_draws.Tie as tie
+
+estimate-requires : tie.Need-estimate-requires
+estimate-requires c κs = search needs
+
+mean-left-requires : tie.Need-mean-left-requires
+mean-left-requires c κs = search needs
+
+status-requires : tie.Need-status-requires
+status-requires c κs = search needs
+
+returns : tie.Need-returns
+returns c = (cc, cc)
+
+pub rimdovek-estimate-draws-spec : {M : Type 1} → statement M
+rimdovek-estimate-draws-spec =
+    tie.close (tie.spec estimate-requires mean-left-requires status-requires returns)
