@@ -64,7 +64,7 @@ pub record TellsWritten (c w n : ℕ) : Type 0 where
   pub status : statusIn n ≡ c
   pub bytes : writtenIn n ≡ w % 0x1_0000_0000
 
--- .. the plain number k, below 0x200
+-- .. the number k, which is n itself
 pub record TellsPlain (k n : ℕ) : Type 0 where
   pub told : isRefused n ≡ false
   pub is : n ≡ k
