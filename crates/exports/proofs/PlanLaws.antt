@@ -1,15 +1,15 @@
 -- The planner's answer as one number. Proved by what the answer is.
-use Prim.Native.Nat.{ℕ, zero, suc, _+_, _*_, _%_, _≤_}
+use Prim.Native.Nat.{ℕ, zero, suc, _≤_}
 use mathlib.Core.Path.{_≡_, refl, ap, _∙_, sym}
 use mathlib.Core.List.{List}
 use native.Mathlib.Omega.{arith}
 use borrow.Author.Tests.{ne-eqb}
 use Rattle.planner.specs.Planner.{Answer, Result, plan}
+use Rattle.planner.specs.AnswerBounds.{Within, plan-within}
 use Rattle.planner.specs.Entry.{answerOf, resultOf}
 use Rattle.planner.specs.declared.entry.Planned.{Planned}
 use Rattle.planner.specs.declared.entry.Planned.the-variants.{Written, Refused}
 use Rattle.exports.specs.Plans.{packedAnswer, packedPlanned}
-use Rattle.exports.specs.Unpacked.{Within, plan-within}
 
 -- the number of the case that was found
 pub packed-case : (p q : Planned) (n : ℕ) → p ≡ q → n ≡ packedPlanned q → n ≡ packedPlanned p

@@ -1,16 +1,12 @@
 -- The planner's answer as one number.
-use Prim.Native.Nat.{ℕ, _+_, _*_, _%_}
+use Prim.Native.Nat.{ℕ}
 use lib.Dec.{eqb}
 use Rattle.base.specs.Choose.{pick}
+use Rattle.packing.specs.Packed.{packedRefusal, packedCounts}
 use Rattle.frames.specs.First.{textNumber}
 use Rattle.planner.specs.Planner.{Answer}
 use Rattle.planner.specs.declared.entry.Planned.{Planned}
 use Rattle.planner.specs.declared.entry.Planned.the-variants.{Written, Refused}
-use Rattle.exports.specs.Runs.{packedRefusal}
-
--- 15 bits for the bytes written, then 16 bits each for steps, tallied and rejected
-abbrev pub packedCounts : ℕ → ℕ → ℕ → ℕ → ℕ
-packedCounts b s t r = ((b % 0x8000 * 0x1_0000 + s % 0x1_0000) * 0x1_0000 + t % 0x1_0000) * 0x1_0000 + r % 0x1_0000
 
 -- the counts where the query is planned, number 0; else the refusal, its text by number: 00 query, 01 plan, 02 table
 abbrev pub packedAnswer : Answer → ℕ

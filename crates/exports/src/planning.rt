@@ -2,7 +2,8 @@
 ghost use mathlib.Core.Path.{_≡_};
 ghost use Rattle.planner.specs.Planner.{plan as planned};
 ghost use Rattle.exports.specs.Plans.{packedAnswer, packedPlanned};
-use super::runs::refusal;
+use packing::counts;
+use packing::refusal;
 use planner::entry::Planned;
 use planner::entry::plan;
 
@@ -11,13 +12,12 @@ fn packed(p: Planned) -> u64
     ensures { λ r. ⌜ r ≡ packedPlanned p ⌝ }
 {
     match p {
-        Planned::Written(bytes, steps, tallied, rejected) => {
-            let b = (bytes % 0x8000) as u64;
-            let s = (steps % 0x1_0000) as u64;
-            let t = (tallied % 0x1_0000) as u64;
-            let r = (rejected % 0x1_0000) as u64;
-            ((b * 0x1_0000 + s) * 0x1_0000 + t) * 0x1_0000 + r
-        }
+        Planned::Written(bytes, steps, tallied, rejected) => counts(
+            bytes,
+            steps,
+            tallied,
+            rejected,
+        ),
         Planned::Refused(number, line) => refusal(number, 0, line),
     }
 }

@@ -2,7 +2,8 @@
 ghost use mathlib.Core.Path.{_≡_};
 ghost use Rattle.planner.specs.Costs.{answerOf, roundCosts};
 ghost use Rattle.exports.specs.Rounds.{packedRound};
-use super::runs::refusal;
+use packing::choice;
+use packing::refusal;
 use planner::rounds::RoundCosts;
 use planner::rounds::round_costs;
 
@@ -11,8 +12,8 @@ fn packed(r: RoundCosts) -> u64
     ensures { λ n. ⌜ n ≡ packedRound (answerOf r) ⌝ }
 {
     match r {
-        RoundCosts::Chosen(i) => i as u64,
-        RoundCosts::Ended => 0x100,
+        RoundCosts::Chosen(i) => choice(true, i),
+        RoundCosts::Ended => choice(false, 0),
         RoundCosts::Refused(number, line) => refusal(number, 0, line),
     }
 }

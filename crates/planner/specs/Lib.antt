@@ -4,3 +4,4 @@ pub mod Accepted
 pub mod Entry
 pub mod Promised
 pub mod Marked
+pub mod AnswerBounds

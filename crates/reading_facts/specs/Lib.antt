@@ -2,6 +2,7 @@ pub mod Answers
 pub mod LetterCase
 pub mod Passes
 pub mod Whole
+pub mod FewLines
 pub mod Lookups
 pub mod Exact
 pub mod Ascii

@@ -4,6 +4,7 @@ pub mod Turning
 pub mod Run
 -- Theorems
 pub mod Refusals
+pub mod RefusalBounds
 pub mod Second
 pub mod DistinctRows
 pub mod Examples

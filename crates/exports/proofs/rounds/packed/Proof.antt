@@ -7,11 +7,14 @@ use Rattle.exports.proofs.rounds.packed.Tie as tie
 enum-known-r : tie.Need-enum-known-r
 enum-known-r c = search needs
 
-cast-result : tie.Need-cast-result
-cast-result c = search needs
+choice-requires : tie.Need-choice-requires
+choice-requires c κs = search needs
 
 enum-told : tie.Need-enum-told
 enum-told c = search needs
+
+choice-requires-2 : tie.Need-choice-requires-2
+choice-requires-2 c κs = search needs
 
 enum-known-r-2 : tie.Need-enum-known-r-2
 enum-known-r-2 c = search needs
@@ -33,8 +36,9 @@ packed-spec =
     tie.close
     (tie.spec
     enum-known-r
-    cast-result
+    choice-requires
     enum-told
+    choice-requires-2
     enum-known-r-2
     refusal-requires
     returns

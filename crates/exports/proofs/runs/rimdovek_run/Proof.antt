@@ -1,5 +1,5 @@
 -- `exports::runs::rimdovek_run` meets its contract: the outcome of the entry, packed.
-use Rattle.exports.specs.Runs.{packedRun, triesIn, matchesIn}
+use Rattle.run_answers.specs.Runs.{packedRun, triesIn, matchesIn}
 use Rattle.exports.proofs.RunLaws.{told-of-run, run-output}
 use borrow.Author.Needs.{needs}
 use Rattle.exports.proofs.runs.rimdovek_run.Statement.{statement}

@@ -1,5 +1,5 @@
 -- `exports::some::rimdovek_some_match` meets its contract: the reply of the entry, told.
-use Rattle.exports.proofs.ReplyLaws.{tells-some}
+use Rattle.run_answers.proofs.ReplyLaws.{tells-some}
 use borrow.Author.Needs.{needs}
 use Rattle.exports.proofs.some.rimdovek_some_match.Statement.{statement}
 use Rattle.exports.proofs.some.rimdovek_some_match.Tie as tie
