@@ -132,7 +132,58 @@ fn order_in(
     )
 }
 
-// Where sampling is off nothing is remembered; where it is on there is a key for each item of each atom at most.
+// The items of an atom, and the keys of so many atoms as have room in a middling table: one for each item at most.
+const ITEMS_MOST: usize = 16;
+
+const SOME_KEYS: usize = SOME_ATOMS * ITEMS_MOST;
+
+// Where sampling is on there is a key for each item of each atom at most.
+fn order_sampled(
+    sheet: &[u8],
+    index: &[u16],
+    from: &[u16],
+    n: usize,
+    how: Sampled,
+    last: usize,
+    costs: &mut [u64],
+) -> Scheduled
+    requires { ⌜ Accepts (now sheet) ⌝ }
+    requires { ⌜ Places (now sheet) (now from) n ⌝ }
+    requires { ⌜ Indexed (now sheet) (now index) ⌝ }
+    requires { ⌜ Samples (framesIn (now sheet)) how ⌝ }
+    ensures { λ r. ⌜ Rounded (now (sheet .entry)) last (now (costs .exit)) r ⌝ }
+{
+    if n <= SOME_ATOMS {
+        let mut keys = [0u64; SOME_KEYS];
+        let mut values = [0.0; SOME_KEYS];
+        return order_in(
+            sheet,
+            index,
+            from,
+            n,
+            how,
+            &mut keys,
+            &mut values,
+            last,
+            costs,
+        );
+    }
+    let mut keys = [0u64; KEYS_MOST];
+    let mut values = [0.0; KEYS_MOST];
+    order_in(
+        sheet,
+        index,
+        from,
+        n,
+        how,
+        &mut keys,
+        &mut values,
+        last,
+        costs,
+    )
+}
+
+// Where sampling is off nothing is remembered.
 pub fn find_order(
     sheet: &[u8],
     index: &[u16],
@@ -162,17 +213,5 @@ pub fn find_order(
             costs,
         );
     };
-    let mut keys = [0u64; KEYS_MOST];
-    let mut values = [0.0; KEYS_MOST];
-    order_in(
-        sheet,
-        index,
-        from,
-        n,
-        Sampled::On(cfg),
-        &mut keys,
-        &mut values,
-        last,
-        costs,
-    )
+    order_sampled(sheet, index, from, n, Sampled::On(cfg), last, costs)
 }
