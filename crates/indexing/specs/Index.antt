@@ -29,7 +29,7 @@ slotsFor n = pick (ltb n largeIndex) fewSlots manySlots
 
 -- ---- the hash of a key
 
--- every hash is below
+-- how many hashes there are: each is below
 abbrev pub hashes : ℕ
 hashes = 512
 
@@ -37,6 +37,7 @@ hashes = 512
 abbrev pub hashed : ℕ → ℕ
 hashed b = pick (leb (kindAt b .key) 6) (kindAt b .key) 4
 
+-- the bytes, mixed into the hash h one after the other
 unfoldable pub mixed : ℕ → List ℕ → ℕ
 mixed h [] = h
 mixed h (b ∷ bs) = mixed ((h * 31 + b) % hashes) bs
@@ -71,9 +72,11 @@ module _ (slots : ℕ) where
   abbrev pub slotOf : List ℕ → ℕ
   slotOf k = hashOf k % slots
 
+  -- where the frame of entry e begins
   abbrev pub placeOf : List ℕ → ℕ → ℕ
   placeOf i e = getD i (slots + 2 * e) 0
 
+  -- the entry before e in its slot, 0 where there is none
   abbrev pub olderOf : List ℕ → ℕ → ℕ
   olderOf i e = getD i (slots + 2 * e + 1) 0
 
@@ -89,6 +92,7 @@ module _ (slots : ℕ) where
   unfolding searched
   found x i k = searched x i k (latest i (slotOf k)) (latest i (slotOf k))
 
+  -- each entry is older than the one that names it
   pub record Falling (i : List ℕ) : Type 0 where
     pub falls : (e : ℕ) → 0 < e → olderOf i e < e
 
@@ -98,6 +102,7 @@ module _ (slots : ℕ) where
 
   -- ---- one more frame: the frame f, which begins at `at`, behind m entries
 
+  -- entry e is the latest of the slot s
   abbrev pub entered : List ℕ → ℕ → ℕ → ℕ → List ℕ
   entered i s at e = set (set (set i (slots + 2 * e) at) (slots + 2 * e + 1) (latest i s)) s e
 

@@ -28,7 +28,7 @@ fn at_most(k: usize, length: usize) -> usize
     if k < length { k } else { length }
 }
 
-// Every hash is below.
+// How many hashes there are: each is below.
 const HASHES: usize = 512;
 
 // The hash of a key.

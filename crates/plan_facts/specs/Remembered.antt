@@ -368,12 +368,18 @@ module _ (fs : List (List ℕ)) (qs : List Atom) where
       asked-emitted f fresh unplanned
       (record { apart = tt; among = λ k i. absurd (List·Memᴰ·not-nil i) })
 
-  -- "atoms 64, items 16": whatever the costs, after any number of rounds
-  pub rounds-few : (f : ℕ) → length qs ≤ atomsMost → Each FewOperands qs → FewKeys (rounds fs qs f .memory .tally)
-  rounds-few f n h =
+  -- "items 16": a key for each item of each atom at most, whatever the costs, after any number of rounds
+  pub rounds-items : (f : ℕ) → Each FewOperands qs → length (rounds fs qs f .memory .tally .memo) ≤ itemsMost * length qs
+  rounds-items f h =
       let m = rounds fs qs f .memory in
       let a = all-asked f in
       let l = no-longer (m .tally .memo) (keysOf (m .emitters) qs) (a .apart) (a .among) in
       let b = keys-few (m .emitters) qs h in
+      omega arith
+
+  -- "atoms 64"
+  pub rounds-few : (f : ℕ) → length qs ≤ atomsMost → Each FewOperands qs → FewKeys (rounds fs qs f .memory .tally)
+  rounds-few f n h =
+      let b = rounds-items f h in
       let t = rounds-tame fs qs f in
       record { memo-few = omega arith; tallied-few = omega arith; rejected-few = omega arith }

@@ -38,7 +38,7 @@ use Rattle.plans.specs.Longest.{planMost}
 use Rattle.plan_facts.specs.Remembered.{keysMost, FewKeys, never, nothing-sampled}
 use Rattle.lowering.specs.AtomLines.{AtomLine}
 use Rattle.passes.specs.Eager.{Located, atomsOf}
-use Rattle.passes.specs.Places.{Places, located}
+use Rattle.passes.specs.Places.{Places, frames-length, located}
 use Rattle.prices.specs.Prices.{rowSize, tableSize, FewItems}
 use Rattle.samples.specs.Remembering.{Samples}
 use Rattle.scheduling.specs.Rounds.{Scheduling}
@@ -49,7 +49,7 @@ use Rattle.output.proofs.PutLaws.{frames-then}
 use Rattle.planner.specs.Planner.{Plan, Result, stepsOf, talliedOf, rejectedOf, planOf, fitted, plan}
 use Rattle.planner.specs.Promised.{read-back}
 use Rattle.planner.specs.Entry.{planOn, resultOf, Accepts}
-use Rattle.planner.specs.Accepted.{Small, frames-few, atom-lines, atom-items, rounds-keys, few-keys, small-settings}
+use Rattle.planner.specs.Accepted.{Small, frames-few, atom-lines, atom-items, rounds-memo, rounds-keys, few-keys, small-settings}
 use Rattle.planner.specs.declared.entry.Planned.the-variants.{Written as Wrote, Refused as TurnsBack}
 
 -- ---- the sheet and the index of a text that was read and accepted
@@ -83,6 +83,9 @@ module _ (s : List ℕ) (a : Accepts s) where
   sheet-items : (k : ℕ) → k < length (atomFrames (framesIn s)) → itemsOf (kindOf (getD (atomFrames (framesIn s)) k [])) (getD (atomFrames (framesIn s)) k []) ≤ itemsMost
   sheet-items = rw (a .sheet .frames) (atom-items (a .text) (a .lines) (a .atoms) (a .is))
 
+  sheet-memo : (f : ℕ) → length (rounds (framesIn s) (atomsOf s) f .memory .tally .memo) ≤ itemsMost * length (atomsOf s)
+  sheet-memo = rw (a .sheet .frames) (rounds-memo (a .text) (a .lines) (a .atoms) (a .is))
+
   sheet-rounds : (f : ℕ) → FewKeys (rounds (framesIn s) (atomsOf s) f .memory .tally)
   sheet-rounds = rw (a .sheet .frames) (rounds-keys (a .text) (a .lines) (a .atoms) (a .is))
 
@@ -114,6 +117,10 @@ samples-some x cfg a e = record {
 
 pub remembers-some : (x : List ℕ) (f : ℕ) → Accepts x → length (rounds (framesIn x) (atomsOf x) f .memory .tally .memo) ≤ keysMost
 remembers-some x f a = sheet-rounds x a f .memo-few
+
+-- where there are few atoms, few keys
+pub remembers-few : (x from : List ℕ) (n m f : ℕ) → Accepts x → Places x from n → n ≤ m → length (rounds (framesIn x) (atomsOf x) f .memory .tally .memo) ≤ itemsMost * m
+remembers-few x from n m f a p h = omega (arith, sheet-memo x a f, p .count, frames-length (framesIn x))
 
 -- ---- the text
 

@@ -1,6 +1,6 @@
 -- What the reading gives of an accepted query, as the code of the planner asks for it: its atoms' frames, their items, and the settings.
 -- Proved from the tests that each frame passed.
-use Prim.Native.Nat.{ℕ, zero, suc, _<_, _≤_}
+use Prim.Native.Nat.{ℕ, zero, suc, _*_, _<_, _≤_}
 use mathlib.Core.Path.{_≡_, refl, sym, _∙_}
 use mathlib.Core.Bool.{Bool, true, false}
 use mathlib.Core.List.{List, [], _∷_}
@@ -41,7 +41,7 @@ use Rattle.lowering.proofs.AtomLaws.{by-kind}
 use Rattle.passes.proofs.AcceptedLaws.{atom-line}
 use Rattle.plan_facts.specs.AtomFrames.{Good}
 use Rattle.plan_facts.specs.QueryPlans.{atomsOf, good, atoms-number, query-fits}
-use Rattle.plan_facts.specs.Remembered.{FewOperands, FewKeys, rounds-few}
+use Rattle.plan_facts.specs.Remembered.{FewOperands, FewKeys, rounds-items, rounds-few}
 
 -- ---- the frames of atoms among frames
 
@@ -126,7 +126,11 @@ module _ (x : List ℕ) (n c : ℕ) (ok : reading Query x ≡ Accepted n c) wher
   pub atom-operands : Each FewOperands (atomsOf x)
   atom-operands = each-few _ (atomsOf x) (query-fits x n c ok 0 0 (omega arith) (omega arith) .atoms)
 
-  -- so the memo and the tallies stay small, whatever the costs, after any number of rounds
+  -- so the memo has a key for each item of each atom at most
+  pub rounds-memo : (f : ℕ) → length (rounds (framesOf x) (atomsOf x) f .memory .tally .memo) ≤ itemsMost * length (atomsOf x)
+  rounds-memo f = rounds-items (framesOf x) (atomsOf x) f atom-operands
+
+  -- and the memo and the tallies stay small, whatever the costs, after any number of rounds
   pub rounds-keys : (f : ℕ) → FewKeys (rounds (framesOf x) (atomsOf x) f .memory .tally)
   rounds-keys f = rounds-few (framesOf x) (atomsOf x) f (rw (atoms-number x n c ok) (query-within x n c ok .atoms)) atom-operands
 

@@ -58,14 +58,69 @@ fn order_by(
     )
 }
 
-// How many atoms have room in a small table of prices, and in a middling one.
+// How many atoms have room in the least table of prices, in a small and in a middling one.
+const LEAST_ATOMS: usize = 2;
+
 const FEW_ATOMS: usize = 4;
 
 const SOME_ATOMS: usize = 12;
 
+const LEAST_PRICES: usize = LEAST_ATOMS * ROW_SIZE;
+
 const FEW_PRICES: usize = FEW_ATOMS * ROW_SIZE;
 
 const SOME_PRICES: usize = SOME_ATOMS * ROW_SIZE;
+
+// A table of prices for few atoms.
+fn order_few(
+    sheet: &[u8],
+    index: &[u16],
+    from: &[u16],
+    n: usize,
+    how: Sampled,
+    keys: &mut [u64],
+    values: &mut [f64],
+    last: usize,
+    costs: &mut [u64],
+) -> Scheduled
+    requires { ⌜ Accepts (now sheet) ⌝ }
+    requires { ⌜ Places (now sheet) (now from) n ⌝ }
+    requires { ⌜ Indexed (now sheet) (now index) ⌝ }
+    requires { ⌜ Samples (framesIn (now sheet)) how ⌝ }
+    requires { ⌜ (length (now values) ≡ length (now keys)) × (length (now keys) ≤ keysMost) ⌝ }
+    requires { ⌜ length (rounds (framesIn (now sheet)) (atomsOf (now sheet)) (suc last) .memory .tally .memo) ≤ length (now keys) ⌝ }
+    requires { ⌜ n ≤ 4 ⌝ }
+    ensures { λ r. ⌜ Rounded (now (sheet .entry)) last (now (costs .exit)) r ⌝ }
+{
+    if n <= LEAST_ATOMS {
+        let mut prices = [0.0; LEAST_PRICES];
+        return order_by(
+            sheet,
+            index,
+            from,
+            n,
+            &mut prices,
+            how,
+            keys,
+            values,
+            last,
+            costs,
+        );
+    }
+    let mut prices = [0.0; FEW_PRICES];
+    order_by(
+        sheet,
+        index,
+        from,
+        n,
+        &mut prices,
+        how,
+        keys,
+        values,
+        last,
+        costs,
+    )
+}
 
 // A table of prices by the number of atoms.
 fn order_in(
@@ -88,19 +143,7 @@ fn order_in(
     ensures { λ r. ⌜ Rounded (now (sheet .entry)) last (now (costs .exit)) r ⌝ }
 {
     if n <= FEW_ATOMS {
-        let mut prices = [0.0; FEW_PRICES];
-        return order_by(
-            sheet,
-            index,
-            from,
-            n,
-            &mut prices,
-            how,
-            keys,
-            values,
-            last,
-            costs,
-        );
+        return order_few(sheet, index, from, n, how, keys, values, last, costs);
     }
     if n <= SOME_ATOMS {
         let mut prices = [0.0; SOME_PRICES];
@@ -132,7 +175,58 @@ fn order_in(
     )
 }
 
-// Where sampling is off nothing is remembered; where it is on there is a key for each item of each atom at most.
+// The items of an atom, and the keys of so many atoms as have room in a middling table: one for each item at most.
+const ITEMS_MOST: usize = 16;
+
+const SOME_KEYS: usize = SOME_ATOMS * ITEMS_MOST;
+
+// Where sampling is on there is a key for each item of each atom at most.
+fn order_sampled(
+    sheet: &[u8],
+    index: &[u16],
+    from: &[u16],
+    n: usize,
+    how: Sampled,
+    last: usize,
+    costs: &mut [u64],
+) -> Scheduled
+    requires { ⌜ Accepts (now sheet) ⌝ }
+    requires { ⌜ Places (now sheet) (now from) n ⌝ }
+    requires { ⌜ Indexed (now sheet) (now index) ⌝ }
+    requires { ⌜ Samples (framesIn (now sheet)) how ⌝ }
+    ensures { λ r. ⌜ Rounded (now (sheet .entry)) last (now (costs .exit)) r ⌝ }
+{
+    if n <= SOME_ATOMS {
+        let mut keys = [0u64; SOME_KEYS];
+        let mut values = [0.0; SOME_KEYS];
+        return order_in(
+            sheet,
+            index,
+            from,
+            n,
+            how,
+            &mut keys,
+            &mut values,
+            last,
+            costs,
+        );
+    }
+    let mut keys = [0u64; KEYS_MOST];
+    let mut values = [0.0; KEYS_MOST];
+    order_in(
+        sheet,
+        index,
+        from,
+        n,
+        how,
+        &mut keys,
+        &mut values,
+        last,
+        costs,
+    )
+}
+
+// Where sampling is off nothing is remembered.
 pub fn find_order(
     sheet: &[u8],
     index: &[u16],
@@ -162,17 +256,5 @@ pub fn find_order(
             costs,
         );
     };
-    let mut keys = [0u64; KEYS_MOST];
-    let mut values = [0.0; KEYS_MOST];
-    order_in(
-        sheet,
-        index,
-        from,
-        n,
-        Sampled::On(cfg),
-        &mut keys,
-        &mut values,
-        last,
-        costs,
-    )
+    order_sampled(sheet, index, from, n, Sampled::On(cfg), last, costs)
 }

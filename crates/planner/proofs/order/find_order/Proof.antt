@@ -1,7 +1,7 @@
--- `planner::order::find_order` meets its contract: nothing is remembered where sampling is off, else a key for each item of each atom at most.
-use mathlib.Core.Path.{refl, sym, _∙_}
+-- `planner::order::find_order` meets its contract: nothing is remembered where sampling is off.
 use native.Mathlib.Omega.{arith}
-use Rattle.planner.proofs.EntryLaws.{samples-nothing, remembers-nothing, samples-some, remembers-some}
+use mathlib.Core.Path.{refl, sym, _∙_}
+use Rattle.planner.proofs.EntryLaws.{samples-nothing, remembers-nothing, samples-some}
 use borrow.Author.Needs.{needs}
 use Rattle.planner.proofs.order.find_order.Statement.{statement}
 use Rattle.planner.proofs.order.find_order.Tie as tie
@@ -30,14 +30,8 @@ same-length c = search needs
 returns : tie.Need-returns
 returns c = search needs
 
-slice-aggregate-order-in-3 : tie.Need-slice-aggregate-order-in-3
-slice-aggregate-order-in-3 c = search needs
-
-slice-aggregate-order-in-4 : tie.Need-slice-aggregate-order-in-4
-slice-aggregate-order-in-4 c = search needs
-
-order-in-requires-2 : tie.Need-order-in-requires-2
-order-in-requires-2 c κs = (c .before .before .before .before .before .before .before .before .before .before .before .pre .0, (c .before .before .before .before .before .before .before .before .before .before .before .pre .1 .0, (c .before .before .before .before .before .before .before .before .before .before .before .pre .1 .1, (samples-some _ _ (c .before .before .before .before .before .before .before .before .before .before .before .pre .0) (sym (c .before .before .before .before .before .before .settings .ensures) ∙ c .before .before .before .before .how .given .1), ((refl, omega arith), remembers-some _ _ (c .before .before .before .before .before .before .before .before .before .before .before .pre .0))))))
+order-sampled-requires : tie.Need-order-sampled-requires
+order-sampled-requires c κs = (c .before .before .before .before .before .before .before .before .before .pre .0, (c .before .before .before .before .before .before .before .before .before .pre .1 .0, (c .before .before .before .before .before .before .before .before .before .pre .1 .1, samples-some _ _ (c .before .before .before .before .before .before .before .before .before .pre .0) (sym (c .before .before .before .before .settings .ensures) ∙ c .before .before .how .given .1))))
 
 same-length-2 : tie.Need-same-length-2
 same-length-2 c = search needs
@@ -57,8 +51,6 @@ find-order-spec =
     order-in-requires
     same-length
     returns
-    slice-aggregate-order-in-3
-    slice-aggregate-order-in-4
-    order-in-requires-2
+    order-sampled-requires
     same-length-2
     returns-2)
