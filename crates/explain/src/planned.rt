@@ -8,8 +8,8 @@ use frames::fields::wide;
 use planner::entry::PLAN_MOST;
 use planner::entry::Planned;
 use planner::entry::plan;
-use planner::rounds::RoundCosts;
-use planner::rounds::round_costs;
+use round_costs::rounds::RoundCosts;
+use round_costs::rounds::round_costs;
 
 // A candidate; all ones stand for an atom that is none.
 fn say_candidate(atom: usize, bits: u64) {

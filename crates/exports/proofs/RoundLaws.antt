@@ -2,8 +2,8 @@
 use Prim.Native.Nat.{ℕ}
 use mathlib.Core.Path.{_≡_, ap, _∙_, sym}
 use mathlib.Core.List.{List}
-use Rattle.planner.specs.Costs.{Result, answerOf, resultOf, roundCosts}
-use Rattle.planner.specs.declared.rounds.RoundCosts.{RoundCosts}
+use Rattle.round_costs.specs.Costs.{Result, answerOf, resultOf, roundCosts}
+use Rattle.round_costs.specs.declared.rounds.RoundCosts.{RoundCosts}
 use Rattle.exports.specs.Rounds.{packedRound}
 
 -- the number of the case that was found

@@ -2,7 +2,7 @@
 use Prim.Native.Nat.{ℕ}
 use mathlib.Core.Bool.{true, false}
 use Rattle.packing.specs.Packed.{packedRefusal, packedChoice}
-use Rattle.planner.specs.Costs.{Answer, Chosen, Ended, TurnedBack}
+use Rattle.round_costs.specs.Costs.{Answer, Chosen, Ended, TurnedBack}
 
 -- the atom chosen, or that no atom is a candidate; a refusal of the text 00, the query
 abbrev pub packedRound : Answer → ℕ

@@ -10,8 +10,9 @@ use Rattle.frames.specs.First.{textNumber}
 use Rattle.frames.specs.declared.first.Text.{Text}
 use Rattle.frames.specs.declared.first.Text.the-variants.{Query, Plan, Table}
 use Rattle.planner.specs.Planner.{Answer, plan}
-use Rattle.planner.specs.Costs.{Answer as RoundAnswer, Chosen, Ended, TurnedBack, roundCosts}
-use Rattle.planner.specs.AnswerBounds.{Within, plan-within, RoundWithin, round-within}
+use Rattle.round_costs.specs.Costs.{Answer as RoundAnswer, Chosen, Ended, TurnedBack, roundCosts}
+use Rattle.planner.specs.AnswerBounds.{Within, plan-within}
+use Rattle.round_costs.specs.Bounds.{RoundWithin, round-within}
 use Rattle.running.specs.Run.{Outcome, Refused, Ran, run, Reply, Rejected, Match, None, Exhausted, Replies}
 use Rattle.running.specs.RefusalBounds.{Within as RefusedWithin, run-within, reply-within}
 use Rattle.run_answers.specs.Runs.{code, packedRun}

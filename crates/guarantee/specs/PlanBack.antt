@@ -19,7 +19,7 @@ use Rattle.plans.specs.Texts.{text-first}
 use Rattle.plan_facts.specs.QueryPlans.{countAt, ReadBack}
 use Rattle.planner.specs.Planner.{stepsOf, talliedOf, rejectedOf, planOf}
 use Rattle.planner.specs.Promised.{read-back}
-use Rattle.planner.specs.Accepted.{few-keys}
+use Rattle.ordering.specs.Accepted.{few-keys}
 use Rattle.running.specs.Tables.{countsIn, planSteps}
 use Rattle.guarantee.specs.Terms.{planFor}
 

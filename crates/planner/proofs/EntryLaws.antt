@@ -10,37 +10,23 @@ use lib.Seq.{sets-eq, getD-take, length-take-le}
 use lib.Ieee.{Float}
 use borrow.Author.Tests.{lt-ltb, le-ltb, leb-true, leb-false, le-leb, not-true, not-false}
 use Rattle.frames.specs.Sheet.{frameAt, framesIn}
-use Rattle.frames.specs.First.{sheetSize, Sheet}
-use Rattle.frames.specs.declared.first.Text.{Text}
+use Rattle.frames.specs.First.{Sheet}
 use Rattle.frames.specs.declared.first.Text.the-variants.{Query}
 use Rattle.frames.specs.declared.first.Reading.{Reading}
 use Rattle.frames.specs.declared.first.Reading.the-variants.{Accepted, Refused}
-use Rattle.frames.specs.Limits.{itemsMost}
-use Rattle.frames.specs.Kinds.{itemsOf}
-use Rattle.frames.specs.Frames.{kindOf}
 use Rattle.reading.specs.Second.{countsIn, reading}
-use Rattle.indexing.specs.Index.{Indexed}
-use Rattle.reading.specs.IndexedReading.{ReadIndexed}
-use Rattle.measure.specs.declared.SamplerConfig.{SamplerConfig}
-use Rattle.query.specs.Statistics.{settings}
-use Rattle.query.specs.declared.statistics.Sampled.the-variants.{On, Off}
 use Rattle.model.specs.Atoms.{Step}
 use Rattle.model.specs.Bound.{most, blank}
 use Rattle.model.specs.Lists.{getD-mem}
 use Rattle.model.specs.Tabulate.{tabulate-mem}
 use Rattle.model.specs.Scheduling.{State, unplanned, atomOf, numbers}
-use Rattle.cost.specs.QueryAtoms.{atomFrames}
-use Rattle.cost.specs.Choice.{rounds, planned, remembered}
+use Rattle.cost.specs.Choice.{planned, remembered}
 use Rattle.plans.specs.StepFrames.{frameOf, headerOf}
 use Rattle.plans.specs.PlanText.{textOf, textLength, planText}
 use Rattle.plans.specs.PlanRead.{plan-length}
 use Rattle.plans.specs.Longest.{planMost}
-use Rattle.plan_facts.specs.Remembered.{keysMost, FewKeys, never, nothing-sampled}
-use Rattle.lowering.specs.AtomLines.{AtomLine}
 use Rattle.passes.specs.Eager.{Located, atomsOf}
-use Rattle.passes.specs.Places.{Places, frames-length, located}
-use Rattle.prices.specs.Prices.{rowSize, tableSize, FewItems}
-use Rattle.samples.specs.Remembering.{Samples}
+use Rattle.passes.specs.Places.{Places}
 use Rattle.scheduling.specs.Rounds.{Scheduling}
 use Rattle.scheduling.specs.declared.schedule.Scheduled.{Scheduled}
 use Rattle.writing.specs.Steps.{stepsAlong, countAlong, lowered-steps, lowered-count, Ordered, PutsSteps}
@@ -48,79 +34,15 @@ use Rattle.output.specs.Written.{written, PutsFrames}
 use Rattle.output.proofs.PutLaws.{frames-then}
 use Rattle.planner.specs.Planner.{Plan, Result, stepsOf, talliedOf, rejectedOf, planOf, fitted, plan}
 use Rattle.planner.specs.Promised.{read-back}
-use Rattle.planner.specs.Entry.{planOn, resultOf, Accepts}
-use Rattle.planner.specs.Accepted.{Small, frames-few, atom-lines, atom-items, rounds-memo, rounds-keys, few-keys, small-settings}
+use Rattle.planner.specs.Entry.{planOn, resultOf}
+use Rattle.ordering.specs.Accepts.{Accepts}
+use Rattle.ordering.proofs.OrderLaws.{sheet-items, sheet-keys, places-located}
 use Rattle.planner.specs.declared.entry.Planned.the-variants.{Written as Wrote, Refused as TurnsBack}
-
--- ---- the sheet and the index of a text that was read and accepted
-
-module _ (t : Text) (x s i : List ℕ) (r : Reading) (p : ReadIndexed t x s i r) (n c : ℕ) (e : r ≡ Accepted n c) (z : ℕ) (u : z ≡ sheetSize (length x) n) where
-  pub read-within : z ≤ length s
-  read-within = rw u (p .fits n c e)
-
-  pub read-fits : z ≡ length (take z s)
-  read-fits = sym (length-take-le z s read-within)
-
-  pub read-sheet : Sheet x (take z s)
-  read-sheet = rw u (p .sheet n c e)
-
-  pub read-index : Indexed (take z s) i
-  read-index = rw u (p .indexed n c e)
-
--- ---- the sheet of an accepted query
-
-module _ (s : List ℕ) (a : Accepts s) where
-  pub sheet-few : length (atomFrames (framesIn s)) ≤ most
-  sheet-few = rw (a .sheet .frames) (frames-few (a .text) (a .lines) (a .atoms) (a .is))
-
-  -- its places fit two bytes
-  pub sheet-short : length s < 65536
-  sheet-short = omega (arith, a .sheet .size, a .sheet .most)
-
-  sheet-lines : (k : ℕ) → k < length (atomFrames (framesIn s)) → AtomLine (getD (atomFrames (framesIn s)) k [])
-  sheet-lines = rw (a .sheet .frames) (atom-lines (a .text) (a .lines) (a .atoms) (a .is))
-
-  sheet-items : (k : ℕ) → k < length (atomFrames (framesIn s)) → itemsOf (kindOf (getD (atomFrames (framesIn s)) k [])) (getD (atomFrames (framesIn s)) k []) ≤ itemsMost
-  sheet-items = rw (a .sheet .frames) (atom-items (a .text) (a .lines) (a .atoms) (a .is))
-
-  sheet-memo : (f : ℕ) → length (rounds (framesIn s) (atomsOf s) f .memory .tally .memo) ≤ itemsMost * length (atomsOf s)
-  sheet-memo = rw (a .sheet .frames) (rounds-memo (a .text) (a .lines) (a .atoms) (a .is))
-
-  sheet-rounds : (f : ℕ) → FewKeys (rounds (framesIn s) (atomsOf s) f .memory .tally)
-  sheet-rounds = rw (a .sheet .frames) (rounds-keys (a .text) (a .lines) (a .atoms) (a .is))
-
-  sheet-keys : FewKeys (remembered (framesIn s) (atomsOf s) .tally)
-  sheet-keys = rw (a .sheet .frames) (few-keys (a .text) (a .lines) (a .atoms) (a .is))
-
-  sheet-settings : (cfg : SamplerConfig) → settings (framesIn s) ≡ On cfg → Small cfg
-  sheet-settings = rw (a .sheet .frames) (small-settings (a .text) (a .lines) (a .atoms) (a .is))
 
 -- its plan is that of the text
 pub plan-on : (x s : List ℕ) → Sheet x s → planOn s ≡ planOf x
 unfolding planOf stepsOf
 plan-on x s h = rw (h .header, h .frames)
-
--- ---- the order
-
-pub samples-nothing : (fs : List (List ℕ)) → settings fs ≡ Off → Samples fs Off
-samples-nothing fs e = record { set = sym e; nodes = λ cfg h. never cfg h; resamples = λ cfg h. never cfg h }
-
-pub remembers-nothing : (x : List ℕ) (f : ℕ) → settings (framesIn x) ≡ Off → length (rounds (framesIn x) (atomsOf x) f .memory .tally .memo) ≤ 1
-remembers-nothing x f e = rw (nothing-sampled (framesIn x) (atomsOf x) f e) (omega arith)
-
-pub samples-some : (x : List ℕ) (cfg : SamplerConfig) → Accepts x → settings (framesIn x) ≡ On cfg → Samples (framesIn x) (On cfg)
-samples-some x cfg a e = record {
-  set = sym e;
-  nodes = λ c h. sheet-settings x a c (e ∙ h) .draws;
-  resamples = λ c h. sheet-settings x a c (e ∙ h) .rounds;
-}
-
-pub remembers-some : (x : List ℕ) (f : ℕ) → Accepts x → length (rounds (framesIn x) (atomsOf x) f .memory .tally .memo) ≤ keysMost
-remembers-some x f a = sheet-rounds x a f .memo-few
-
--- where there are few atoms, few keys
-pub remembers-few : (x from : List ℕ) (n m f : ℕ) → Accepts x → Places x from n → n ≤ m → length (rounds (framesIn x) (atomsOf x) f .memory .tally .memo) ≤ itemsMost * m
-remembers-few x from n m f a p h = omega (arith, sheet-memo x a f, p .count, frames-length (framesIn x))
 
 -- ---- the text
 
@@ -144,24 +66,6 @@ unfolding planOf
 fits-text x n c ok room l = sym (le-leb (length (planOf x .text)) room (let b = read-back x n c ok .short in omega arith))
 
 -- ---- the plan in the order that was found
-
--- the pieces of the answer: where the plan does not fit, and where it was written
-pub places-located : (x from : List ℕ) (n : ℕ) → Accepts x → Places x from n → Located x from n
-places-located x from n a p =
-    let f = sheet-few x a in
-    located x from n p (omega (arith, p .count)) (λ k h. sheet-lines x a k (omega (arith, p .count)))
-
--- "items 16": each atom's items have room in its row of the table
-pub items-fit : (x from : List ℕ) (n : ℕ) → Accepts x → Places x from n → FewItems x from n
-items-fit x from n a p = record { few = λ k h. rw (p .is k h) (let i = sheet-items x a k (omega (arith, p .count)) in omega arith) }
-
--- "atoms 64": as many rows
-pub rows-fit : (x from : List ℕ) (n : ℕ) → Accepts x → Places x from n → rowSize * n ≤ tableSize
-rows-fit x from n a p = omega (arith, places-located x from n a p .few)
-
--- a table for m atoms
-pub few-rows : (n m : ℕ) → n ≤ m → rowSize * n ≤ rowSize * m
-few-rows n m h = omega arith
 
 module _ (x from : List ℕ) (n : ℕ) (s : Scheduled) (a : Accepts x) (y : Places x from n) (h : Scheduling x s) where
   abbrev O : List ℕ
@@ -242,9 +146,6 @@ module _ (x o : List ℕ) (v : Reading) (is : v ≡ reading Query x) where
   planned-back k l e = rw (← is, e)
 
   module _ (n c : ℕ) (e : v ≡ Accepted n c) (s : List ℕ) (h : Sheet x s) where
-    pub accepts : Accepts s
-    accepts = record { text = x; lines = n; atoms = c; is = sym is ∙ e; sheet = h }
-
     pub planned-whole : (q : Result) → q ≡ fitted (planOn s) o → q ≡ plan x o
     unfolding plan
     planned-whole q r = rw (← is, e) (r ∙ ap (λ (p : Plan). fitted p o) (plan-on x s h))

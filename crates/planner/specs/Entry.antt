@@ -1,12 +1,7 @@
--- The answers of the code, in document 01's numbers, and what its parts rely on.
+-- The answers of the code, in document 01's numbers, and the plan of a sheet.
 use Prim.Native.Nat.{ℕ}
-use mathlib.Core.Path.{_≡_}
 use mathlib.Core.List.{List}
 use Rattle.frames.specs.Sheet.{frameAt, framesIn}
-use Rattle.frames.specs.First.{Sheet}
-use Rattle.frames.specs.declared.first.Text.the-variants.{Query}
-use Rattle.frames.specs.declared.first.Reading.the-variants.{Accepted}
-use Rattle.reading.specs.Second.{reading}
 use Rattle.cost.specs.QueryAtoms.{atomsIn}
 use Rattle.cost.specs.Choice.{planned, remembered}
 use Rattle.planner.specs.Planner.{Plan, planBy, Answer, writes, refusal, Result}
@@ -21,14 +16,6 @@ answerOf (Refused k l) = refusal k l
 -- the answer r with the output o is what the definition gives
 abbrev pub resultOf : Planned → List ℕ → Result
 resultOf r o = record { answer = answerOf r; output = o }
-
--- s is the sheet of an accepted query text
-pub record Accepts (s : List ℕ) : Type 0 where
-  pub text : List ℕ
-  pub lines : ℕ
-  pub atoms : ℕ
-  pub is : reading Query text ≡ Accepted lines atoms
-  pub sheet : Sheet text s
 
 -- the plan of a sheet's frames
 abbrev pub planOn : List ℕ → Plan

@@ -1,6 +1,4 @@
 pub mod Planner
-pub mod Costs
-pub mod Accepted
 pub mod Entry
 pub mod Promised
 pub mod Marked

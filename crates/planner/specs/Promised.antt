@@ -14,7 +14,7 @@ use Rattle.cost.specs.QueryAtoms.{atomsIn}
 use Rattle.cost.specs.Choice.{fresh, choose, choose-fair, planned}
 use Rattle.plan_facts.specs.QueryPlans.{ReadBack, plan-read-back}
 use Rattle.planner.specs.Planner.{stepsOf, talliedOf, rejectedOf}
-use Rattle.planner.specs.Accepted.{few-keys}
+use Rattle.ordering.specs.Accepted.{few-keys}
 
 -- "no step of a plan reads a variable that no earlier step has bound", all 14 kinds
 pub bound-before-read : (x : List ℕ) → boundFirst [] [] (stepsOf x) ≡ true

@@ -1,5 +1,3 @@
-// The planner: a query text and a lent output in, the plan and its numbers out; and the costs of its rounds.
+// The planner: a query text and a lent output in, the plan and its numbers out.
 pub mod entry;
-pub mod order;
-pub mod rounds;
 pub mod text;

@@ -52,20 +52,6 @@ module _ (p t : List ℕ) (v : Turned) (F : List ℕ) (s : TableNoted t v F) whe
 
 -- ---- the texts
 
--- the lent sheet s and index i of an accepted text, by the size that its lines give
-module _ (t : Text) (x s i : List ℕ) (a : Reading) (e : ReadIndexed t x s i a) (n c : ℕ) (h : a ≡ Accepted n c) (z : ℕ) (u : z ≡ sheetSize (length x) n) where
-  pub size-within : z ≤ length s
-  size-within = rw u (e .fits n c h)
-
-  pub size-fits : z ≡ length (take z s)
-  size-fits = sym (length-take-le z s size-within)
-
-  pub sheet-read : Sheet x (take z s)
-  sheet-read = rw u (e .sheet n c h)
-
-  pub sheet-indexed : Indexed (take z s) i
-  sheet-indexed = rw u (e .indexed n c h)
-
 module _ (p t : List ℕ) (a : Reading) (e : a ≡ reading TableText t) where
   pub table-refused : (k l : ℕ) (G : List ℕ) → a ≡ Refused k l → TableTested p t (Fault k 2 l) G
   table-refused k l G h = record { is = rw (← e, h); globals = none-left t k 2 l G }

@@ -1,6 +1,7 @@
 -- `planner::entry::fits` meets its contract: by the longest plan's length, else by this plan's.
 use mathlib.Core.Path.{sym}
-use Rattle.planner.proofs.EntryLaws.{places-located, in-order, fits-always, fits-measured}
+use Rattle.ordering.proofs.OrderLaws.{places-located}
+use Rattle.planner.proofs.EntryLaws.{in-order, fits-always, fits-measured}
 use borrow.Author.Needs.{needs}
 use Rattle.planner.proofs.entry.fits.Statement.{statement}
 use Rattle.planner.proofs.entry.fits.Tie as tie

@@ -1,7 +1,7 @@
 -- `planner::entry::plan_accepted` meets its contract: the places, the order, the plan, in turn; as many rounds as atoms, and one, are enough.
 use mathlib.Core.Path.{refl}
 use Rattle.scheduling.proofs.LoopLaws.{rounds-enough}
-use Rattle.planner.proofs.EntryLaws.{sheet-few, sheet-short, places-located}
+use Rattle.ordering.proofs.OrderLaws.{sheet-few, sheet-short, places-located}
 use borrow.Author.Needs.{needs}
 use Rattle.planner.proofs.entry.plan_accepted.Statement.{statement}
 use Rattle.planner.proofs.entry.plan_accepted.Tie as tie

@@ -1,5 +1,7 @@
 -- `planner::entry::plan_by` meets its contract.
-use Rattle.planner.proofs.EntryLaws.{read-within, read-fits, read-sheet, read-index, accepts, planned-back, planned-whole}
+use Rattle.reading.proofs.ReadLaws.{read-within, read-fits, read-sheet, read-index}
+use Rattle.ordering.proofs.OrderLaws.{accepts}
+use Rattle.planner.proofs.EntryLaws.{planned-back, planned-whole}
 use borrow.Author.Needs.{needs}
 use Rattle.planner.proofs.entry.plan_by.Statement.{statement}
 use Rattle.planner.proofs.entry.plan_by.Tie as tie

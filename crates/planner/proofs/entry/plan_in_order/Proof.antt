@@ -1,7 +1,8 @@
 -- `planner::entry::plan_in_order` meets its contract: by whether the plan fits.
 use native.Mathlib.Omega.{arith}
 use mathlib.Core.Path.{sym}
-use Rattle.planner.proofs.EntryLaws.{places-located, in-order, tallied-few, rejected-few, not-fitting, fitting}
+use Rattle.ordering.proofs.OrderLaws.{places-located}
+use Rattle.planner.proofs.EntryLaws.{in-order, tallied-few, rejected-few, not-fitting, fitting}
 use borrow.Author.Needs.{needs}
 use Rattle.planner.proofs.entry.plan_in_order.Statement.{statement}
 use Rattle.planner.proofs.entry.plan_in_order.Tie as tie

@@ -1,5 +1,6 @@
 -- `turning::turn::table_by` meets its contract: the table is refused, or the tests decide by its sheet and index.
-use Rattle.turning.proofs.TurnLaws.{size-within, size-fits, sheet-read, sheet-indexed, table-refused, table-read}
+use Rattle.reading.proofs.ReadLaws.{read-within, read-fits, read-sheet, read-index}
+use Rattle.turning.proofs.TurnLaws.{table-refused, table-read}
 use borrow.Author.Needs.{needs}
 use Rattle.turning.proofs.turn.table_by.Statement.{statement}
 use Rattle.turning.proofs.turn.table_by.Tie as tie
@@ -17,13 +18,13 @@ sheet-size-requires : tie.Need-sheet-size-requires
 sheet-size-requires c κs = search needs
 
 slice-reshare-prefix-tests-back : tie.Need-slice-reshare-prefix-tests-back
-slice-reshare-prefix-tests-back c = search size-within
+slice-reshare-prefix-tests-back c = search read-within
 
 slice-aggregate-tests-back : tie.Need-slice-aggregate-tests-back
-slice-aggregate-tests-back c = search size-fits
+slice-aggregate-tests-back c = search read-fits
 
 tests-back-requires : tie.Need-tests-back-requires
-tests-back-requires c κs = (search needs, (search sheet-read, search sheet-indexed))
+tests-back-requires c κs = (search needs, (search read-sheet, search read-index))
 
 same-length : tie.Need-same-length
 same-length c = search needs

@@ -1,0 +1,102 @@
+-- What an accepted query gives the order: its atoms' frames and places, few items and few keys, small settings. Proved from the reading.
+use Prim.Native.Nat.{ℕ, _*_, _<_, _≤_}
+use mathlib.Core.Path.{_≡_, sym, _∙_}
+use mathlib.Core.List.{List, []}
+use native.Mathlib.Omega.{arith}
+use lib.ListN.{length, getD}
+use Rattle.frames.specs.Sheet.{framesIn}
+use Rattle.frames.specs.First.{Sheet}
+use Rattle.frames.specs.declared.first.Text.the-variants.{Query}
+use Rattle.frames.specs.declared.first.Reading.{Reading}
+use Rattle.frames.specs.declared.first.Reading.the-variants.{Accepted}
+use Rattle.frames.specs.Limits.{itemsMost}
+use Rattle.frames.specs.Kinds.{itemsOf}
+use Rattle.frames.specs.Frames.{kindOf}
+use Rattle.reading.specs.Second.{reading}
+use Rattle.measure.specs.declared.SamplerConfig.{SamplerConfig}
+use Rattle.query.specs.Statistics.{settings}
+use Rattle.query.specs.declared.statistics.Sampled.the-variants.{On, Off}
+use Rattle.model.specs.Bound.{most}
+use Rattle.cost.specs.QueryAtoms.{atomFrames}
+use Rattle.cost.specs.Choice.{rounds, remembered}
+use Rattle.plan_facts.specs.Remembered.{keysMost, FewKeys, never, nothing-sampled}
+use Rattle.lowering.specs.AtomLines.{AtomLine}
+use Rattle.passes.specs.Eager.{Located, atomsOf}
+use Rattle.passes.specs.Places.{Places, frames-length, located}
+use Rattle.prices.specs.Prices.{rowSize, tableSize, FewItems}
+use Rattle.samples.specs.Remembering.{Samples}
+use Rattle.ordering.specs.Accepts.{Accepts}
+use Rattle.ordering.specs.Accepted.{Small, frames-few, atom-lines, atom-items, rounds-memo, rounds-keys, few-keys, small-settings}
+
+-- ---- by what the reading says
+
+pub accepts : (x : List ℕ) (v : Reading) → v ≡ reading Query x → (n c : ℕ) → v ≡ Accepted n c → (s : List ℕ) → Sheet x s → Accepts s
+accepts x v is n c e s h = record { text = x; lines = n; atoms = c; is = sym is ∙ e; sheet = h }
+
+-- ---- the sheet of an accepted query
+
+module _ (s : List ℕ) (a : Accepts s) where
+  pub sheet-few : length (atomFrames (framesIn s)) ≤ most
+  sheet-few = rw (a .sheet .frames) (frames-few (a .text) (a .lines) (a .atoms) (a .is))
+
+  -- its places fit two bytes
+  pub sheet-short : length s < 65536
+  sheet-short = omega (arith, a .sheet .size, a .sheet .most)
+
+  pub sheet-lines : (k : ℕ) → k < length (atomFrames (framesIn s)) → AtomLine (getD (atomFrames (framesIn s)) k [])
+  sheet-lines = rw (a .sheet .frames) (atom-lines (a .text) (a .lines) (a .atoms) (a .is))
+
+  pub sheet-items : (k : ℕ) → k < length (atomFrames (framesIn s)) → itemsOf (kindOf (getD (atomFrames (framesIn s)) k [])) (getD (atomFrames (framesIn s)) k []) ≤ itemsMost
+  sheet-items = rw (a .sheet .frames) (atom-items (a .text) (a .lines) (a .atoms) (a .is))
+
+  pub sheet-memo : (f : ℕ) → length (rounds (framesIn s) (atomsOf s) f .memory .tally .memo) ≤ itemsMost * length (atomsOf s)
+  sheet-memo = rw (a .sheet .frames) (rounds-memo (a .text) (a .lines) (a .atoms) (a .is))
+
+  pub sheet-rounds : (f : ℕ) → FewKeys (rounds (framesIn s) (atomsOf s) f .memory .tally)
+  sheet-rounds = rw (a .sheet .frames) (rounds-keys (a .text) (a .lines) (a .atoms) (a .is))
+
+  pub sheet-keys : FewKeys (remembered (framesIn s) (atomsOf s) .tally)
+  sheet-keys = rw (a .sheet .frames) (few-keys (a .text) (a .lines) (a .atoms) (a .is))
+
+  pub sheet-settings : (cfg : SamplerConfig) → settings (framesIn s) ≡ On cfg → Small cfg
+  sheet-settings = rw (a .sheet .frames) (small-settings (a .text) (a .lines) (a .atoms) (a .is))
+
+-- ---- the order
+
+pub samples-nothing : (fs : List (List ℕ)) → settings fs ≡ Off → Samples fs Off
+samples-nothing fs e = record { set = sym e; nodes = λ cfg h. never cfg h; resamples = λ cfg h. never cfg h }
+
+pub remembers-nothing : (x : List ℕ) (f : ℕ) → settings (framesIn x) ≡ Off → length (rounds (framesIn x) (atomsOf x) f .memory .tally .memo) ≤ 1
+remembers-nothing x f e = rw (nothing-sampled (framesIn x) (atomsOf x) f e) (omega arith)
+
+pub samples-some : (x : List ℕ) (cfg : SamplerConfig) → Accepts x → settings (framesIn x) ≡ On cfg → Samples (framesIn x) (On cfg)
+samples-some x cfg a e = record {
+  set = sym e;
+  nodes = λ c h. sheet-settings x a c (e ∙ h) .draws;
+  resamples = λ c h. sheet-settings x a c (e ∙ h) .rounds;
+}
+
+pub remembers-some : (x : List ℕ) (f : ℕ) → Accepts x → length (rounds (framesIn x) (atomsOf x) f .memory .tally .memo) ≤ keysMost
+remembers-some x f a = sheet-rounds x a f .memo-few
+
+-- where there are few atoms, few keys
+pub remembers-few : (x from : List ℕ) (n m f : ℕ) → Accepts x → Places x from n → n ≤ m → length (rounds (framesIn x) (atomsOf x) f .memory .tally .memo) ≤ itemsMost * m
+remembers-few x from n m f a p h = omega (arith, sheet-memo x a f, p .count, frames-length (framesIn x))
+
+-- where its atoms stand
+pub places-located : (x from : List ℕ) (n : ℕ) → Accepts x → Places x from n → Located x from n
+places-located x from n a p =
+    let f = sheet-few x a in
+    located x from n p (omega (arith, p .count)) (λ k h. sheet-lines x a k (omega (arith, p .count)))
+
+-- "items 16": each atom's items have room in its row of the table
+pub items-fit : (x from : List ℕ) (n : ℕ) → Accepts x → Places x from n → FewItems x from n
+items-fit x from n a p = record { few = λ k h. rw (p .is k h) (let i = sheet-items x a k (omega (arith, p .count)) in omega arith) }
+
+-- "atoms 64": as many rows
+pub rows-fit : (x from : List ℕ) (n : ℕ) → Accepts x → Places x from n → rowSize * n ≤ tableSize
+rows-fit x from n a p = omega (arith, places-located x from n a p .few)
+
+-- a table for m atoms
+pub few-rows : (n m : ℕ) → n ≤ m → rowSize * n ≤ rowSize * m
+few-rows n m h = omega arith

@@ -1,0 +1,64 @@
+-- The costs of a round, for the caller: their bits in a lent array, and the atom chosen.
+use Prim.Native.Nat.{ℕ, suc}
+use mathlib.Core.Option.{Option, none, some}
+use mathlib.Core.List.{List, [], map}
+use lib.ListN.{length, getD}
+use lib.Ieee.{Float}
+use Rattle.frames.specs.First.{framesOf}
+use Rattle.frames.specs.declared.first.Text.the-variants.{Query}
+use Rattle.frames.specs.declared.first.Reading.{Reading}
+use Rattle.frames.specs.declared.first.Reading.the-variants.{Accepted, Refused}
+use Rattle.reading.specs.Second.{reading}
+use Rattle.model.specs.Tabulate.{tabulate}
+use Rattle.cost.specs.QueryAtoms.{atomsIn}
+use Rattle.cost.specs.Choice.{Memory, rounds}
+use Rattle.choosing.specs.Choosing.{noCost, costBits}
+use Rattle.round_costs.specs.declared.rounds.RoundCosts.{RoundCosts}
+use Rattle.round_costs.specs.declared.rounds.RoundCosts.the-variants.{Chosen as Chose, Ended as Over, Refused as TurnsBack}
+
+pub data Answer : Type 0 where
+  -- the atom chosen
+  Chosen : ℕ → Answer
+  -- no atom is a candidate
+  Ended : Answer
+  -- number, line
+  TurnedBack : ℕ → ℕ → Answer
+
+pub record Result : Type 0 where
+  pub answer : Answer
+  pub output : List ℕ
+
+-- the atom chosen; no candidate; or number and line
+abbrev pub answerOf : RoundCosts → Answer
+answerOf (Chose i) = Chosen i
+answerOf Over = Ended
+answerOf (TurnsBack k l) = TurnedBack k l
+
+-- "result and lent output follow from the inputs, refusals too"
+abbrev pub resultOf : RoundCosts → List ℕ → Result
+resultOf r o = record { answer = answerOf r; output = o }
+
+-- what is remembered of round number r of a query with the frames fs, or of the last one where the rounds have ended before
+abbrev pub roundOf : List (List ℕ) → ℕ → Memory
+roundOf fs r = rounds fs (atomsIn fs) (suc r) .memory
+
+-- the bits bs in an array of m places, as far as it is long; those of no cost past them
+abbrev pub bitsIn : List ℕ → ℕ → List ℕ
+bitsIn bs m = tabulate m (λ i. getD bs i noCost)
+
+-- the costs of the round, where an atom was chosen in it
+abbrev pub toldBy : Option ℕ → List (Option Float) → List ℕ → Result
+toldBy none cs out = record { answer = Ended; output = bitsIn [] (length out) }
+toldBy (some i) cs out = record { answer = Chosen i; output = bitsIn (map costBits cs) (length out) }
+
+abbrev pub told : Memory → List ℕ → Result
+told m out = toldBy (m .chosen) (m .costs) out
+
+-- "Nothing is written" on a refusal
+abbrev afterReading : Reading → List ℕ → ℕ → List ℕ → Result
+afterReading (Refused k l) x r out = record { answer = TurnedBack k l; output = out }
+afterReading (Accepted n c) x r out = told (roundOf (framesOf x) r) out
+
+-- round number r, from 0, of the query text x
+unfoldable pub roundCosts : List ℕ → ℕ → List ℕ → Result
+roundCosts x r out = afterReading (reading Query x) x r out
