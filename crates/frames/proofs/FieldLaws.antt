@@ -15,7 +15,7 @@ use Rattle.frames.specs.declared.fields.Test.{Test}
 use Rattle.frames.specs.declared.fields.Test.the-variants.{Limits, Range, Reals}
 use Rattle.frames.specs.Fields.{width, fieldFits, fieldIn, fieldReal, fieldPasses, noCounts}
 use Rattle.frames.specs.Unread.{tests, looks}
-use Rattle.frames.specs.Rows.{named, decode}
+use Rattle.frames.specs.Codes.{named, decode}
 use Rattle.frames.proofs.MatchLaws.{Others, listed, unlisted, covers, others}
 
 -- ---- a field at which a test does not look

@@ -1,5 +1,5 @@
 -- `frames::fields::width` meets its contract.
-use Rattle.frames.specs.Rows.{decode}
+use Rattle.frames.specs.Codes.{decode}
 use Rattle.frames.proofs.FieldLaws.{narrow-other}
 use borrow.Author.Needs.{needs}
 use Rattle.frames.proofs.fields.width.Statement.{statement}

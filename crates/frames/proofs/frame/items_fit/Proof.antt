@@ -4,7 +4,7 @@ use Rattle.frames.specs.Fields.{fieldFits}
 use Prim.Native.Nat.{_-_}
 use mathlib.Core.Path.{refl}
 use lib.ListN.{replicate}
-use Rattle.frames.specs.Rows.{decode}
+use Rattle.frames.specs.Codes.{decode}
 use Rattle.frames.proofs.FrameLaws.{Passing, passing-starts, items-again, items-fail, items-end, items-fit}
 use native.Mathlib.Omega.{arith}
 use Rattle.frames.proofs.frame.items_fit.Statement.{statement}
