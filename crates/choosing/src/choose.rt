@@ -18,7 +18,7 @@ ghost use Rattle.prices.specs.Prices.{Priced};
 ghost use Rattle.samples.specs.Remembering.{Samples, Remembers};
 ghost use Rattle.choosing.specs.Choosing.{noted, candidates, Chose, betterOf};
 use cost::memo::Sampling;
-use frames::fields::narrow;
+use fields::field::narrow;
 use lowering::atom::scans;
 use lowering::sets::is_set;
 use passes::eager::atom_line;

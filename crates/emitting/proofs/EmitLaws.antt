@@ -9,8 +9,8 @@ use lib.ListN.{length, getD}
 use lib.Seq.{length-take-le}
 use borrow.Author.Tests.{ltb-true, leb-true, eq-eqb, ne-eqb}
 use Rattle.base.specs.Choose.{both-hold}
-use Rattle.frames.specs.First.{isAtom}
-use Rattle.frames.specs.Kinds.{kinds, kindAt, fixedLength}
+use Rattle.first_reading.specs.First.{isAtom}
+use Rattle.kinds.specs.Kinds.{kinds, kindAt, fixedLength}
 use Rattle.frames.specs.Frames.{kindOf}
 use Rattle.model.specs.Atoms.{localOf, Step, Atom}
 use Rattle.model.specs.Bound.{Bound, add, most}

@@ -1,7 +1,7 @@
 -- The steps of one atom, written.
 use Prim.Native.Nat.{ℕ, _+_, _<_, _≤_}
 use mathlib.Core.List.{List, map}
-use Rattle.frames.specs.Kinds.{itemsOf}
+use Rattle.kinds.specs.Kinds.{itemsOf}
 use Rattle.frames.specs.Frames.{kindOf}
 use Rattle.model.specs.Atoms.{Atom}
 use Rattle.model.specs.Bound.{Bound}

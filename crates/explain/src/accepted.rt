@@ -1,9 +1,9 @@
 // A plan text in words.
 use super::refusals::say_refusal;
 use super::steps::say_step;
-use frames::first::Reading;
-use frames::first::Text;
-use frames::first::sheet_size;
+use first_reading::first::Reading;
+use first_reading::first::Text;
+use first_reading::first::sheet_size;
 use frames::frame::frame_at;
 use reading::second::LONG_INDEX;
 use reading::second::LONG_SHEET;

@@ -4,7 +4,7 @@ use super::costs::say_cost;
 use super::refusals::say_refusal;
 use super::words::say;
 use super::words::say_number;
-use frames::fields::wide;
+use fields::field::wide;
 use planner::entry::PLAN_MOST;
 use planner::entry::Planned;
 use planner::entry::plan;

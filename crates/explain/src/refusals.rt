@@ -1,7 +1,7 @@
 // Why a text is turned back, in document 01's words.
 use super::words::say;
 use super::words::say_number;
-use frames::fields::wide;
+use fields::field::wide;
 
 fn say_condition(number: u8) {
     match number {

@@ -6,13 +6,13 @@ use super::words::say_global;
 use super::words::say_number;
 use super::words::say_operand;
 use super::words::say_variable;
-use frames::fields::wide;
+use fields::field::wide;
 use frames::frame::items_of;
-use frames::kinds::fixed_length;
-use frames::kinds::item_width;
 use hex::byte_at;
 use hex::short_at;
 use hex::word_at;
+use kinds::table::fixed_length;
+use kinds::table::item_width;
 
 fn say_counted(frame: &[u8], i: usize, what: &[u8]) {
     say_number(wide(byte_at(frame, i)));

@@ -1,6 +1,6 @@
 // Words and numbers on standard output.
 ghost use Prim.Native.Nat.{_<_};
-use frames::fields::wide;
+use fields::field::wide;
 use hex::byte_at;
 
 pub fn say(words: &[u8]) {

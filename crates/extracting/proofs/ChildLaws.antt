@@ -6,8 +6,8 @@ use mathlib.Core.List.{List, [], _∷_, _++_, map, flatMap, append-assoc, append
 use native.Mathlib.Omega.{arith}
 use native.Mathlib.Numerals.{add-one}
 use lib.ListN.{length, getD}
-use Rattle.frames.specs.Fields.{width}
-use Rattle.frames.specs.Kinds.{kindAt, fixedLength, itemsOf}
+use Rattle.fields.specs.Fields.{width}
+use Rattle.kinds.specs.Kinds.{kindAt, fixedLength, itemsOf}
 use Rattle.frames.specs.Frames.{kindOf}
 use Rattle.model.specs.Atoms.{Operand, local, global, localOf}
 use Rattle.model.specs.Bound.{Bound}

@@ -6,8 +6,8 @@ use native.Mathlib.Omega.{arith}
 use lib.ListN.{length, getD, take}
 use lib.Seq.{length-take-le}
 use Rattle.hex.specs.Digits.{digitsOf}
-use Rattle.frames.specs.Fields.{width}
-use Rattle.frames.specs.Kinds.{kindAt, fixedLength, itemsOf}
+use Rattle.fields.specs.Fields.{width}
+use Rattle.kinds.specs.Kinds.{kindAt, fixedLength, itemsOf}
 use Rattle.frames.specs.Frames.{kindOf}
 use Rattle.model.specs.Limits.{lineEnd}
 use Rattle.cost.specs.QueryAtoms.{operandAt, atomOfFrame}

@@ -8,9 +8,9 @@ use mathlib.Core.List.{List, [], _∷_, flatMap}
 use native.Mathlib.Omega.{arith}
 use lib.Dec.{T, eqb}
 use borrow.Author.Tests.{eqb-true}
-use Rattle.frames.specs.declared.fields.Counts.{Counts}
-use Rattle.frames.specs.declared.first.Text.the-variants.{Query}
-use Rattle.frames.specs.declared.first.Reading.the-variants.{Accepted}
+use Rattle.fields.specs.declared.field.Counts.{Counts}
+use Rattle.first_reading.specs.declared.first.Text.the-variants.{Query}
+use Rattle.first_reading.specs.declared.first.Reading.the-variants.{Accepted}
 use Rattle.reading.specs.Second.{reading}
 use Rattle.model.specs.Bools.{either}
 use Rattle.model.specs.Atoms.{Operand, local, global, localOf, Atom, Plain, Lit, LitBind, Eq, EqGlobal, Pred, Variadic, varsIn, litsIn, Table}

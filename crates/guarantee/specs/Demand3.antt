@@ -9,9 +9,9 @@ use mathlib.Core.Logic.{_⊎_}
 use mathlib.Core.List.{List, _++_, Perm}
 use lib.ListN.{length, drop}
 use borrow.Author.Tests.{le-ltb}
-use Rattle.frames.specs.Kinds.{plan as planText}
-use Rattle.frames.specs.declared.first.Text.the-variants.{Query}
-use Rattle.frames.specs.declared.first.Reading.the-variants.{Accepted}
+use Rattle.kinds.specs.Kinds.{plan as planText}
+use Rattle.first_reading.specs.declared.first.Text.the-variants.{Query}
+use Rattle.first_reading.specs.declared.first.Reading.the-variants.{Accepted}
 use Rattle.reading.specs.Second.{reading}
 use Rattle.model.specs.Matching.{InShapes}
 use Rattle.model.specs.Guarantee.{alike, exact-same}

@@ -5,11 +5,11 @@ use mathlib.Core.Bool.{true}
 use mathlib.Core.List.{List, [], _++_, map, flatMap}
 use native.Mathlib.Omega.{arith}
 use lib.ListN.{length, drop}
-use Rattle.frames.specs.Kinds.{plan, table}
-use Rattle.frames.specs.First.{framesOf}
-use Rattle.frames.specs.declared.first.Text.the-variants.{Query, Plan, Table}
-use Rattle.frames.specs.declared.first.Reading.{Reading}
-use Rattle.frames.specs.declared.first.Reading.the-variants.{Accepted, Refused}
+use Rattle.kinds.specs.Kinds.{plan, table}
+use Rattle.first_reading.specs.First.{framesOf}
+use Rattle.first_reading.specs.declared.first.Text.the-variants.{Query, Plan, Table}
+use Rattle.first_reading.specs.declared.first.Reading.{Reading}
+use Rattle.first_reading.specs.declared.first.Reading.the-variants.{Accepted, Refused}
 use Rattle.reading.specs.Second.{reading}
 use Rattle.model.specs.Atoms.{Step}
 use Rattle.model.specs.Bound.{has}

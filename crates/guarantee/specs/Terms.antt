@@ -5,9 +5,9 @@ use mathlib.Core.Path.{_≡_}
 use mathlib.Core.Bool.{true}
 use mathlib.Core.List.{List, [], _∷_, _++_, map, flatMap, List·Memᴰ}
 use lib.ListN.{length, drop}
-use Rattle.frames.specs.Kinds.{table}
-use Rattle.frames.specs.First.{framesOf}
-use Rattle.frames.specs.declared.first.Text.the-variants.{Table}
+use Rattle.kinds.specs.Kinds.{table}
+use Rattle.first_reading.specs.First.{framesOf}
+use Rattle.first_reading.specs.declared.first.Text.the-variants.{Table}
 use Rattle.reading.specs.Second.{reading}
 use Rattle.model.specs.Atoms.{Atom, Plain, Lit, LitBind, Eq, EqGlobal, Pred, Variadic}
 use Rattle.model.specs.Refusing.{isRun}

@@ -8,12 +8,12 @@ use mathlib.Core.List.{List, [], _∷_, map, List·Memᴰ}
 use native.Mathlib.Omega.{arith}
 use lib.ListN.{replicate}
 use Rattle.base.specs.Choose.{pick}
-use Rattle.frames.specs.Kinds.{plan, table}
-use Rattle.frames.specs.Limits.{variablesMost}
-use Rattle.frames.specs.First.{framesOf}
-use Rattle.frames.specs.declared.first.Text.the-variants.{Query, Table as TableText}
-use Rattle.frames.specs.declared.first.Reading.{Reading}
-use Rattle.frames.specs.declared.first.Reading.the-variants.{Accepted, Refused}
+use Rattle.kinds.specs.Kinds.{plan, table}
+use Rattle.fields.specs.Limits.{variablesMost}
+use Rattle.first_reading.specs.First.{framesOf}
+use Rattle.first_reading.specs.declared.first.Text.the-variants.{Query, Table as TableText}
+use Rattle.first_reading.specs.declared.first.Reading.{Reading}
+use Rattle.first_reading.specs.declared.first.Reading.the-variants.{Accepted, Refused}
 use Rattle.reading.specs.Second.{reading}
 use Rattle.model.specs.Bools.{first, second}
 use Rattle.model.specs.Atoms.{Atom, Step, Row, Table}

@@ -11,7 +11,7 @@ use lib.Dec.{eqb}
 use borrow.Author.Tests.{eq-eqb, ne-eqb, eqb-true, eqb-false}
 use Rattle.base.specs.Choose.{pick}
 use Rattle.frames.specs.Sheet.{frameAt}
-use Rattle.frames.specs.Kinds.{kindAt}
+use Rattle.kinds.specs.Kinds.{kindAt}
 use Rattle.frames.specs.Frames.{kindOf}
 use Rattle.indexing.specs.Keys.{begins, find, isFound, keyOf, keyGiven}
 use Rattle.indexing.specs.Index.{slotsFor, hashed, hashOf, slotOf, Slotted, Proper, placeOf, olderOf, latest, searched, found, Falling, givenBy, entered, noted, entriesWith, Indexes}

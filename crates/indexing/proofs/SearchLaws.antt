@@ -10,7 +10,7 @@ use borrow.Author.Tests.{eq-eqb, ne-eqb, le-leb, not-true, not-false}
 use Rattle.base.specs.Choose.{pick}
 use Rattle.frames.specs.Sheet.{frameAt}
 use Rattle.frames.specs.Frames.{frameLength}
-use Rattle.frames.specs.Kinds.{kindAt}
+use Rattle.kinds.specs.Kinds.{kindAt}
 use Rattle.indexing.specs.Keys.{begins, isFound}
 use Rattle.indexing.specs.Index.{slotsFor, hashOf, placeOf, olderOf, searched, found, Falling, givenBy}
 use Rattle.indexing.proofs.SlotLaws.{take-least}

@@ -12,9 +12,9 @@ use lib.Dec.{T, eqb, leb, ltb, leb→le}
 use borrow.Author.Tests.{lt-ltb, le-ltb, eq-eqb, ne-eqb, le-leb, lt-leb, eqb-true, leb-true, leb-false, ltb-false}
 use Rattle.base.specs.Choose.{pick, pick-elim}
 use Rattle.base.specs.Table.{all, both-left, both-right}
-use Rattle.frames.specs.Kinds.{Kind, kinds, kindAt, fixedLength}
+use Rattle.kinds.specs.Kinds.{Kind, kinds, kindAt, fixedLength}
 use Rattle.frames.specs.Frames.{kindOf, frameLength}
-use Rattle.frames.proofs.KindLaws.{held}
+use Rattle.kinds.proofs.KindLaws.{held}
 use Rattle.indexing.specs.Keys.{begins, keyOf}
 use Rattle.indexing.specs.Index.{fewSlots, manySlots, largeIndex, slotsFor, hashes, hashed, mixed, hashOf, slotOf, Slotted, Proper}
 

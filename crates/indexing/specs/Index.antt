@@ -9,7 +9,7 @@ use lib.ListN.{length, getD, take, set}
 use lib.Dec.{leb, ltb, eqb}
 use Rattle.base.specs.Choose.{pick}
 use Rattle.frames.specs.Sheet.{frameAt, framesIn}
-use Rattle.frames.specs.Kinds.{kindAt}
+use Rattle.kinds.specs.Kinds.{kindAt}
 use Rattle.frames.specs.Frames.{kindOf}
 use Rattle.indexing.specs.Keys.{begins, find, isFound, keyOf}
 

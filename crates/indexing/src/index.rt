@@ -9,9 +9,9 @@ ghost use Rattle.frames.specs.Frames.{kindOf};
 ghost use Rattle.indexing.specs.Keys.{isFound, find as findOf};
 ghost use Rattle.indexing.specs.Index.{slotsFor, hashed as hashedOf, hashOf, found, givenBy, noted, entriesWith, Falling, Proper, Indexed, Noting};
 use super::keys::begins_at;
-use frames::fields::wide;
+use fields::field::wide;
 use frames::frame::frame_at;
-use frames::kinds::key_length;
+use kinds::table::key_length;
 
 // How many of a key's first bytes count.
 fn hashed(kind: u8) -> usize

@@ -5,8 +5,8 @@ use mathlib.Core.Bool.{Bool, true, false}
 use mathlib.Core.List.{List, [], _∷_, _++_, flatMap}
 use native.Mathlib.Omega.{arith}
 use lib.ListN.{length, getD, take}
-use Rattle.frames.specs.Fields.{width}
-use Rattle.frames.specs.Kinds.{kinds, kindAt, fixedLength}
+use Rattle.fields.specs.Fields.{width}
+use Rattle.kinds.specs.Kinds.{kinds, kindAt, fixedLength}
 use Rattle.frames.specs.Frames.{frameLength}
 use Rattle.frames.specs.Sheet.{frameAt}
 use Rattle.model.specs.Atoms.{Lookup, ByOp, ByRepr, Join}

@@ -10,8 +10,8 @@ use lib.ListN.{length, getD, take}
 use lib.Seq.{take-all}
 use borrow.Author.Tests.{not-true, not-false}
 use Rattle.hex.specs.Digits.{digitsOf}
-use Rattle.frames.specs.Fields.{width}
-use Rattle.frames.specs.Kinds.{kinds, kindAt, fixedLength, itemsOf}
+use Rattle.fields.specs.Fields.{width}
+use Rattle.kinds.specs.Kinds.{kinds, kindAt, fixedLength, itemsOf}
 use Rattle.frames.specs.Frames.{kindOf}
 use Rattle.model.specs.Atoms.{Operand, Lookup}
 use Rattle.model.specs.Bound.{Bound}

@@ -5,12 +5,12 @@ use mathlib.Core.List.{List, []}
 use native.Mathlib.Omega.{arith}
 use lib.ListN.{length, getD}
 use Rattle.frames.specs.Sheet.{framesIn}
-use Rattle.frames.specs.First.{Sheet}
-use Rattle.frames.specs.declared.first.Text.the-variants.{Query}
-use Rattle.frames.specs.declared.first.Reading.{Reading}
-use Rattle.frames.specs.declared.first.Reading.the-variants.{Accepted}
-use Rattle.frames.specs.Limits.{itemsMost}
-use Rattle.frames.specs.Kinds.{itemsOf}
+use Rattle.first_reading.specs.First.{Sheet}
+use Rattle.first_reading.specs.declared.first.Text.the-variants.{Query}
+use Rattle.first_reading.specs.declared.first.Reading.{Reading}
+use Rattle.first_reading.specs.declared.first.Reading.the-variants.{Accepted}
+use Rattle.fields.specs.Limits.{itemsMost}
+use Rattle.kinds.specs.Kinds.{itemsOf}
 use Rattle.frames.specs.Frames.{kindOf}
 use Rattle.reading.specs.Second.{reading}
 use Rattle.measure.specs.declared.SamplerConfig.{SamplerConfig}

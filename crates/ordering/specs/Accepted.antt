@@ -10,16 +10,16 @@ use borrow.Author.Tests.{leb-true, eqb-true}
 use lib.Dec.{eqb}
 use Rattle.base.specs.Choose.{pick, both-hold}
 use Rattle.hex.specs.Digits.{shortAt}
-use Rattle.frames.specs.Limits.{atomsMost, itemsMost, kMost, bootstrapMost}
-use Rattle.frames.specs.Fields.{fieldPasses, fieldFits, noCounts}
-use Rattle.frames.specs.Kinds.{kinds, kindAt, itemsOf}
+use Rattle.fields.specs.Limits.{atomsMost, itemsMost, kMost, bootstrapMost}
+use Rattle.fields.specs.Fields.{fieldPasses, fieldFits, noCounts}
+use Rattle.kinds.specs.Kinds.{kinds, kindAt, itemsOf}
 use Rattle.frames.specs.Frames.{kindOf, framePasses}
-use Rattle.frames.specs.First.{framesOf, isAtom}
-use Rattle.frames.specs.declared.fields.Counts.{Counts}
-use Rattle.frames.specs.declared.fields.Field.{Field}
-use Rattle.frames.specs.declared.fields.Test.the-variants.{Limits}
-use Rattle.frames.specs.declared.first.Text.the-variants.{Query}
-use Rattle.frames.specs.declared.first.Reading.the-variants.{Accepted}
+use Rattle.first_reading.specs.First.{framesOf, isAtom}
+use Rattle.fields.specs.declared.field.Counts.{Counts}
+use Rattle.fields.specs.declared.field.Field.{Field}
+use Rattle.fields.specs.declared.field.Test.the-variants.{Limits}
+use Rattle.first_reading.specs.declared.first.Text.the-variants.{Query}
+use Rattle.first_reading.specs.declared.first.Reading.the-variants.{Accepted}
 use Rattle.indexing.specs.Keys.{begins, find, isFound}
 use Rattle.reading.specs.Second.{countsOf, reading}
 use Rattle.reading_facts.specs.Passes.{frame-field}

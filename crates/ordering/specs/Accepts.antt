@@ -2,9 +2,9 @@
 use Prim.Native.Nat.{ℕ}
 use mathlib.Core.Path.{_≡_}
 use mathlib.Core.List.{List}
-use Rattle.frames.specs.First.{Sheet}
-use Rattle.frames.specs.declared.first.Text.the-variants.{Query}
-use Rattle.frames.specs.declared.first.Reading.the-variants.{Accepted}
+use Rattle.first_reading.specs.First.{Sheet}
+use Rattle.first_reading.specs.declared.first.Text.the-variants.{Query}
+use Rattle.first_reading.specs.declared.first.Reading.the-variants.{Accepted}
 use Rattle.reading.specs.Second.{reading}
 
 -- s is the sheet of an accepted query text

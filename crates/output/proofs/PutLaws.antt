@@ -9,7 +9,7 @@ use lib.ListN.{length, getD, set, take, length-append, length-set}
 use lib.Seq.{set-out, length-sets, length-take-le, take-suc}
 use Rattle.hex.specs.Digits.{hexDigit, digitsOf}
 use Rattle.hex.specs.Bytes.{digits-length}
-use Rattle.frames.specs.Kinds.{kindAt, fixedLength}
+use Rattle.kinds.specs.Kinds.{kindAt, fixedLength}
 use Rattle.frames.specs.Frames.{kindOf, frameLength}
 use Rattle.frames.specs.Sheet.{frameAt}
 use Rattle.model.specs.Limits.{lineEnd}

@@ -5,7 +5,7 @@ use mathlib.Core.List.{List, [], _∷_}
 use lib.ListN.{length, take}
 use lib.Seq.{sets}
 use Rattle.hex.specs.Digits.{digitsOf}
-use Rattle.frames.specs.Kinds.{fixedLength}
+use Rattle.kinds.specs.Kinds.{fixedLength}
 use Rattle.frames.specs.Frames.{kindOf}
 use Rattle.plans.specs.PlanText.{textOf, textLength}
 use Rattle.plans.specs.StepFrames.{frameOf}

@@ -2,15 +2,15 @@
 ghost use mathlib.Core.List.{[], _∷_};
 ghost use Prim.Native.Nat.{_<_, _≤_};
 ghost use lib.ListN.{length};
-ghost use Rattle.frames.specs.Kinds.{fixedLength};
+ghost use Rattle.kinds.specs.Kinds.{fixedLength};
 ghost use Rattle.frames.specs.Frames.{kindOf, frameLength};
 ghost use Rattle.frames.specs.Sheet.{frameAt};
 ghost use Rattle.output.specs.Written.{fixedIn, PutsFrames};
 use super::bytes::put_end;
 use super::bytes::put_first;
 use frames::frame::frame_length;
-use frames::kinds::fixed_length;
 use hex::byte_at;
+use kinds::table::fixed_length;
 
 // The line of a frame without items: as many bytes as its kind has.
 pub fn put_line(out: &mut [u8], at: usize, bytes: &[u8]) -> usize

@@ -8,19 +8,19 @@ use lib.Dec.{eqb, ltb}
 use lib.ListN.{length, getD, replicate}
 use borrow.Author.Tests.{ltb-true, lt-ltb}
 use Rattle.base.specs.Choose.{pick, both-hold}
-use Rattle.frames.specs.First.{isAtom}
-use Rattle.frames.specs.declared.first.Reading.{Reading}
-use Rattle.frames.specs.declared.first.Reading.the-variants.{Accepted}
+use Rattle.first_reading.specs.First.{isAtom}
+use Rattle.first_reading.specs.declared.first.Reading.{Reading}
+use Rattle.first_reading.specs.declared.first.Reading.the-variants.{Accepted}
 use Rattle.reading.specs.Formed.{or-passes}
 use Rattle.indexing.specs.Keys.{keyGiven}
 use Rattle.reading.specs.Second.{secondFault, secondFrom}
-use Rattle.frames.specs.Fields.{width, fieldIn, fieldPasses, operandIn}
-use Rattle.frames.specs.Kinds.{kinds, kindAt}
+use Rattle.fields.specs.Fields.{width, fieldIn, fieldPasses, operandIn}
+use Rattle.kinds.specs.Kinds.{kinds, kindAt}
 use Rattle.frames.specs.Frames.{passAll, framePasses}
-use Rattle.frames.specs.declared.fields.Counts.{Counts}
-use Rattle.frames.specs.declared.fields.Field.{Field}
-use Rattle.frames.specs.declared.fields.Field.the-variants.{Operand, Element}
-use Rattle.frames.specs.declared.fields.Test.the-variants.{Range, Reals}
+use Rattle.fields.specs.declared.field.Counts.{Counts}
+use Rattle.fields.specs.declared.field.Field.{Field}
+use Rattle.fields.specs.declared.field.Field.the-variants.{Operand, Element}
+use Rattle.fields.specs.declared.field.Test.the-variants.{Range, Reals}
 use Rattle.model.specs.Atoms.{local, global, localOf, varsIn}
 use Rattle.model.specs.Bools.{both, first, second}
 use Rattle.model.specs.Bound.{most}

@@ -11,15 +11,15 @@ use borrow.Author.Tests.{ltb-true, leb-true}
 use Rattle.base.specs.Choose.{pick, both-hold}
 use Rattle.hex.specs.Digits.{wordAt}
 use Rattle.hex.specs.Bytes.{byte-at}
-use Rattle.frames.specs.Limits.{itemsMost}
-use Rattle.frames.specs.Fields.{width, fieldPasses, fieldFits, fieldIn, operandIn, noCounts}
-use Rattle.frames.specs.Kinds.{kinds, kindAt, fixedLength}
+use Rattle.fields.specs.Limits.{itemsMost}
+use Rattle.fields.specs.Fields.{width, fieldPasses, fieldFits, fieldIn, operandIn, noCounts}
+use Rattle.kinds.specs.Kinds.{kinds, kindAt, fixedLength}
 use Rattle.frames.specs.Frames.{kindOf, passAll, itemFields, framePasses}
-use Rattle.frames.specs.First.{isAtom}
-use Rattle.frames.specs.declared.fields.Field.{Field}
-use Rattle.frames.specs.declared.fields.Field.the-variants.{Operand as OperandField, Element as ElementField, Atom as AtomField}
-use Rattle.frames.specs.declared.fields.Counts.{Counts}
-use Rattle.frames.specs.declared.fields.Test.the-variants.{Limits, Range}
+use Rattle.first_reading.specs.First.{isAtom}
+use Rattle.fields.specs.declared.field.Field.{Field}
+use Rattle.fields.specs.declared.field.Field.the-variants.{Operand as OperandField, Element as ElementField, Atom as AtomField}
+use Rattle.fields.specs.declared.field.Counts.{Counts}
+use Rattle.fields.specs.declared.field.Test.the-variants.{Limits, Range}
 use Rattle.model.specs.Atoms.{local, global}
 use Rattle.cost.specs.QueryAtoms.{operandAt, operandsFrom, bytesFrom, atomOfFrame}
 use Rattle.cost.specs.Operands.{operands-length}

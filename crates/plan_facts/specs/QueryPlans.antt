@@ -10,11 +10,11 @@ use lib.ListN.{length, getD, drop}
 use lib.Pow.{areBytes}
 use Rattle.base.specs.Choose.{pick, is-true}
 use Rattle.hex.specs.Digits.{bytesOf}
-use Rattle.frames.specs.Limits.{atomsMost}
-use Rattle.frames.specs.First.{framesOf, firstLine, isAtom}
-use Rattle.frames.specs.declared.fields.Counts.{Counts}
-use Rattle.frames.specs.declared.first.Text.the-variants.{Query, Plan}
-use Rattle.frames.specs.declared.first.Reading.the-variants.{Accepted}
+use Rattle.fields.specs.Limits.{atomsMost}
+use Rattle.first_reading.specs.First.{framesOf, firstLine, isAtom}
+use Rattle.fields.specs.declared.field.Counts.{Counts}
+use Rattle.first_reading.specs.declared.first.Text.the-variants.{Query, Plan}
+use Rattle.first_reading.specs.declared.first.Reading.the-variants.{Accepted}
 use Rattle.reading.specs.Second.{countsOf, reading}
 use Rattle.reading_facts.specs.Whole.{countFrom, accepted, query-within, frame-bytes}
 use Rattle.model.specs.Atoms.{Atom, Step}

@@ -11,7 +11,7 @@ use lib.ListN.{length, length-append}
 use borrow.Author.Tests.{eq-eqb}
 use lib.Ieee.{lt}
 use Rattle.base.specs.Choose.{pick, pick-elim}
-use Rattle.frames.specs.Limits.{itemsMost, atomsMost}
+use Rattle.fields.specs.Limits.{itemsMost, atomsMost}
 use Rattle.measure.specs.declared.SamplerConfig.{SamplerConfig}
 use Rattle.measure.specs.declared.Estimate.{Estimate}
 use Rattle.measure.specs.declared.Estimate.the-variants.{Accepted, Rejected}

@@ -10,10 +10,10 @@ use lib.Seq.{sets-eq, getD-take, length-take-le}
 use lib.Ieee.{Float}
 use borrow.Author.Tests.{lt-ltb, le-ltb, leb-true, leb-false, le-leb, not-true, not-false}
 use Rattle.frames.specs.Sheet.{frameAt, framesIn}
-use Rattle.frames.specs.First.{Sheet}
-use Rattle.frames.specs.declared.first.Text.the-variants.{Query}
-use Rattle.frames.specs.declared.first.Reading.{Reading}
-use Rattle.frames.specs.declared.first.Reading.the-variants.{Accepted, Refused}
+use Rattle.first_reading.specs.First.{Sheet}
+use Rattle.first_reading.specs.declared.first.Text.the-variants.{Query}
+use Rattle.first_reading.specs.declared.first.Reading.{Reading}
+use Rattle.first_reading.specs.declared.first.Reading.the-variants.{Accepted, Refused}
 use Rattle.reading.specs.Second.{countsIn, reading}
 use Rattle.model.specs.Atoms.{Step}
 use Rattle.model.specs.Bound.{most, blank}

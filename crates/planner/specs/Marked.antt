@@ -11,10 +11,10 @@ use Rattle.sqrt.specs.Sqrt.{wholeRoot, sqrt}
 use Rattle.measure.specs.Selectivity.{pathSelectivity}
 use Rattle.measure.specs.declared.FanOut.the-variants.{Measured}
 use Rattle.hex.specs.Lines.{split}
-use Rattle.frames.specs.Fields.{fieldPasses}
-use Rattle.frames.specs.Kinds.{kindAt}
+use Rattle.fields.specs.Fields.{fieldPasses}
+use Rattle.kinds.specs.Kinds.{kindAt}
 use Rattle.frames.specs.Frames.{passAll}
-use Rattle.frames.specs.First.{framesOf}
+use Rattle.first_reading.specs.First.{framesOf}
 use Rattle.indexing.specs.Keys.{begins, find}
 use Rattle.reading.specs.Second.{reading}
 use Rattle.reading_facts.specs.Ascii.{ascii}

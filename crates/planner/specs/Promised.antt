@@ -4,9 +4,9 @@ use mathlib.Core.Path.{_≡_, refl}
 use mathlib.Core.Bool.{true}
 use mathlib.Core.List.{List, []}
 use native.Mathlib.Omega.{arith}
-use Rattle.frames.specs.First.{framesOf}
-use Rattle.frames.specs.declared.first.Text.the-variants.{Query}
-use Rattle.frames.specs.declared.first.Reading.the-variants.{Accepted}
+use Rattle.first_reading.specs.First.{framesOf}
+use Rattle.first_reading.specs.declared.first.Text.the-variants.{Query}
+use Rattle.first_reading.specs.declared.first.Reading.the-variants.{Accepted}
 use Rattle.reading.specs.Second.{reading}
 use Rattle.model.specs.Reading.{boundFirst}
 use Rattle.model.specs.Guarantee.{schedule-bound-first}

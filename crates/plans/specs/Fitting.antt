@@ -8,8 +8,8 @@ use mathlib.Core.Option.{some, Option·some-injective}
 use mathlib.Core.List.{List, [], _∷_, _++_, List·Memᴰ, List·Memᴰ·head, List·Memᴰ·tail, List·Memᴰ·cases-cons, List·Memᴰ·not-nil}
 use native.Mathlib.Omega.{arith}
 use lib.ListN.{length}
-use Rattle.frames.specs.Limits.{itemsMost}
-use Rattle.frames.specs.declared.fields.Counts.{Counts}
+use Rattle.fields.specs.Limits.{itemsMost}
+use Rattle.fields.specs.declared.field.Counts.{Counts}
 use Rattle.model.specs.Lists.{one}
 use Rattle.model.specs.Tabulate.{tabulate-mem}
 use Rattle.model.specs.Atoms.{Operand, local, global, Atom, Plain, Lit, LitBind, Eq, EqGlobal, Pred, Variadic, Lookup, ByOp, ByChildPos, ByContains, Step, Join}

@@ -6,9 +6,9 @@ use mathlib.Core.List.{List, [], _∷_, _++_, flatMap, append-assoc}
 use native.Mathlib.Nat.{add-zero}
 use lib.ListN.{length, getD, replicate, length-append}
 use lib.Seq.{getD-append-add}
-use Rattle.frames.specs.Fields.{width}
+use Rattle.fields.specs.Fields.{width}
 use Rattle.frames.specs.Frames.{passAll}
-use Rattle.frames.specs.declared.fields.Field.{Field}
+use Rattle.fields.specs.declared.field.Field.{Field}
 use Rattle.plans.specs.StepFrames.{Each, itemsAt}
 
 module _ {X : Type 0} (g : X → List ℕ) (w : ℕ) (wide : (x : X) → length (g x) ≡ w) where

@@ -9,11 +9,11 @@ use native.Mathlib.Omega.{arith}
 use native.Mathlib.Nat.{mul-le-mul-left, mul-suc}
 use lib.ListN.{length, drop}
 use Rattle.base.specs.Choose.{pick}
-use Rattle.frames.specs.Limits.{variablesMost, globalsMost, literalsMost, atomsMost}
-use Rattle.frames.specs.First.{framesOf}
-use Rattle.frames.specs.declared.fields.Counts.{Counts}
-use Rattle.frames.specs.declared.first.Text.the-variants.{Plan}
-use Rattle.frames.specs.declared.first.Reading.the-variants.{Accepted}
+use Rattle.fields.specs.Limits.{variablesMost, globalsMost, literalsMost, atomsMost}
+use Rattle.first_reading.specs.First.{framesOf}
+use Rattle.fields.specs.declared.field.Counts.{Counts}
+use Rattle.first_reading.specs.declared.first.Text.the-variants.{Plan}
+use Rattle.first_reading.specs.declared.first.Reading.the-variants.{Accepted}
 use Rattle.reading.specs.Second.{reading}
 use Rattle.model.specs.Tabulate.{tabulate-length}
 use Rattle.model.specs.Atoms.{Operand, local, global, Form, A, AC, ACI, Atom, Plain, Lit, LitBind, Eq, EqGlobal, Pred, Variadic, Lookup, Step, Join, Expand}

@@ -10,15 +10,15 @@ use lib.ListN.{length, drop, length-map}
 use lib.Pow.{areBytes}
 use borrow.Author.Tests.{lt-ltb, le-ltb, le-leb, eq-eqb, ne-eqb}
 use Rattle.hex.specs.Digits.{bytesOf, digitsOf}
-use Rattle.frames.specs.Limits.{textMost, variablesMost, globalsMost, literalsMost, atomsMost}
-use Rattle.frames.specs.Fields.{fieldPasses, fieldFits, fieldIn, fieldReal, noCounts}
-use Rattle.frames.specs.Kinds.{kinds, kindAt}
+use Rattle.fields.specs.Limits.{textMost, variablesMost, globalsMost, literalsMost, atomsMost}
+use Rattle.fields.specs.Fields.{fieldPasses, fieldFits, fieldIn, fieldReal, noCounts}
+use Rattle.kinds.specs.Kinds.{kinds, kindAt}
 use Rattle.frames.specs.Frames.{frameLength, passAll}
-use Rattle.frames.specs.First.{framesOf, frameFault, lineFault, firstLines, firstFrom, firstLine, stepsSay, stepsRight, firstReading}
-use Rattle.frames.specs.declared.fields.Counts.{Counts}
-use Rattle.frames.specs.declared.first.Text.the-variants.{Plan}
-use Rattle.frames.specs.declared.first.Reading.{Reading}
-use Rattle.frames.specs.declared.first.Reading.the-variants.{Accepted}
+use Rattle.first_reading.specs.First.{framesOf, frameFault, lineFault, firstLines, firstFrom, firstLine, stepsSay, stepsRight, firstReading}
+use Rattle.fields.specs.declared.field.Counts.{Counts}
+use Rattle.first_reading.specs.declared.first.Text.the-variants.{Plan}
+use Rattle.first_reading.specs.declared.first.Reading.{Reading}
+use Rattle.first_reading.specs.declared.first.Reading.the-variants.{Accepted}
 use Rattle.indexing.specs.Keys.{keyGiven}
 use Rattle.reading.specs.Second.{countsOf, secondFault, secondFrom, reading}
 use Rattle.model.specs.Atoms.{Step}

@@ -10,15 +10,15 @@ use lib.Seq.{getD-append-add}
 use lib.Dec.{leb, ltb}
 use lib.Pow.{areBytes}
 use borrow.Author.Tests.{lt-ltb, le-leb}
-use Rattle.frames.specs.Limits.{itemsMost, lookupsMost}
-use Rattle.frames.specs.Fields.{fieldFits, fieldIn, fieldReal, fieldPasses, operandIn, lookupFits, lookupIn, endsFit, restFits}
-use Rattle.frames.specs.Kinds.{kinds, kindAt}
+use Rattle.fields.specs.Limits.{itemsMost, lookupsMost}
+use Rattle.fields.specs.Fields.{fieldFits, fieldIn, fieldReal, fieldPasses, operandIn, lookupFits, lookupIn, endsFit, restFits}
+use Rattle.kinds.specs.Kinds.{kinds, kindAt}
 use Rattle.frames.specs.Frames.{frameLength, passAll, framePasses}
-use Rattle.frames.specs.First.{belongs}
-use Rattle.frames.specs.declared.fields.Field.the-variants.{Operand as OperandField, Element as ElementField, Lookup as LookupField}
-use Rattle.frames.specs.declared.fields.Counts.{Counts}
-use Rattle.frames.specs.declared.fields.Test.the-variants.{Limits, Range, Reals}
-use Rattle.frames.specs.declared.first.Text.the-variants.{Plan}
+use Rattle.first_reading.specs.First.{belongs}
+use Rattle.fields.specs.declared.field.Field.the-variants.{Operand as OperandField, Element as ElementField, Lookup as LookupField}
+use Rattle.fields.specs.declared.field.Counts.{Counts}
+use Rattle.fields.specs.declared.field.Test.the-variants.{Limits, Range, Reals}
+use Rattle.first_reading.specs.declared.first.Text.the-variants.{Plan}
 use Rattle.indexing.specs.Keys.{keyGiven}
 use Rattle.model.specs.Bools.{both, first, second}
 use Rattle.model.specs.Atoms.{Operand, local, global, A, AC, ACI, Lookup, ByOp, ByChildPos, ByRepr, ByContains, Step, Join, ExtractChild, CheckChildEq, CheckEq, CheckEqGlobal, BindGlobal, CopyBinding, Expand, ExtractLitVal, CheckLit, CheckPred}

@@ -5,8 +5,8 @@ use mathlib.Core.Bool.{Bool}
 use mathlib.Core.List.{List}
 use lib.Dec.{ltb}
 use lib.ListN.{getD}
-use Rattle.frames.specs.Fields.{width}
-use Rattle.frames.specs.Kinds.{kindAt, fixedLength, itemsOf}
+use Rattle.fields.specs.Fields.{width}
+use Rattle.kinds.specs.Kinds.{kindAt, fixedLength, itemsOf}
 use Rattle.frames.specs.Frames.{kindOf}
 use Rattle.model.specs.Bound.{Bound}
 use Rattle.model.specs.Lowering.{pvIsBound}

@@ -10,7 +10,7 @@ use lib.Seq.{getD-set-same, getD-set-other, getD-take, take-set-le, length-take-
 use lib.Ieee.{Float, binary64, mul}
 use borrow.Author.Tests.{ltb-true, ltb-false}
 use Rattle.frames.specs.Sheet.{frameAt, framesIn}
-use Rattle.frames.specs.Kinds.{itemsOf}
+use Rattle.kinds.specs.Kinds.{itemsOf}
 use Rattle.frames.specs.Frames.{kindOf}
 use Rattle.measure.specs.Selectivity.{zero64, pathSelectivity}
 use Rattle.measure.specs.declared.FanOut.{FanOut}

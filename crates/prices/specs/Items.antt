@@ -10,8 +10,8 @@ use Rattle.measure.specs.Selectivity.{pathSelectivity}
 use Rattle.measure.specs.declared.FanOut.{FanOut}
 use Rattle.measure.specs.declared.FanOut.the-variants.{Measured, Unmeasured}
 use Rattle.query.specs.Statistics.{baseCard, byChildPos, byContains, byRepr, nodes}
-use Rattle.frames.specs.Fields.{width as widthOf}
-use Rattle.frames.specs.Kinds.{fixedLength, itemsOf}
+use Rattle.fields.specs.Fields.{width as widthOf}
+use Rattle.kinds.specs.Kinds.{fixedLength, itemsOf}
 use Rattle.frames.specs.Frames.{kindOf}
 use Rattle.model.specs.Bound.{Bound}
 use Rattle.model.specs.Lowering.{pvIsBound}

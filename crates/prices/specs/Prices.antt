@@ -6,9 +6,9 @@ use mathlib.Core.List.{List}
 use lib.Dec.{ltb}
 use lib.ListN.{length, getD, take, drop}
 use lib.Ieee.{Float}
-use Rattle.frames.specs.Limits.{atomsMost}
+use Rattle.fields.specs.Limits.{atomsMost}
 use Rattle.frames.specs.Sheet.{frameAt, framesIn}
-use Rattle.frames.specs.Kinds.{itemsOf}
+use Rattle.kinds.specs.Kinds.{itemsOf}
 use Rattle.frames.specs.Frames.{kindOf}
 use Rattle.measure.specs.Selectivity.{zero64, pathSelectivity}
 use Rattle.query.specs.Statistics.{baseCard, denominator}

@@ -17,7 +17,7 @@ ghost use Rattle.prices.specs.Items.{itemFan, orFan};
 ghost use Rattle.prices.specs.Prices.{ItemPriced, RowItems, Row};
 ghost use Rattle.pricing.specs.ItemCosts.{itemProbe, costBehind, frameCosts, literalKind, Stands, costAt};
 use cost::memo::Sampling;
-use frames::fields::wide;
+use fields::field::wide;
 use hex::byte_at;
 use lowering::atom::scans;
 use lowering::sets::is_set;

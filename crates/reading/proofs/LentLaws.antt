@@ -5,7 +5,7 @@ use mathlib.Core.List.{List}
 use native.Mathlib.Omega.{arith}
 use lib.ListN.{length, replicate, length-replicate}
 use Rattle.base.specs.Lists.{blank-at}
-use Rattle.frames.specs.Limits.{textMost}
+use Rattle.fields.specs.Limits.{textMost}
 use Rattle.indexing.specs.Index.{slotsFor}
 use Rattle.reading.specs.IndexedReading.{sheetFor, indexFor, Lent}
 

@@ -4,10 +4,10 @@ use mathlib.Core.Path.{_≡_, sym}
 use mathlib.Core.List.{List}
 use lib.ListN.{length, take}
 use lib.Seq.{length-take-le}
-use Rattle.frames.specs.First.{sheetSize, Sheet}
-use Rattle.frames.specs.declared.first.Text.{Text}
-use Rattle.frames.specs.declared.first.Reading.{Reading}
-use Rattle.frames.specs.declared.first.Reading.the-variants.{Accepted}
+use Rattle.first_reading.specs.First.{sheetSize, Sheet}
+use Rattle.first_reading.specs.declared.first.Text.{Text}
+use Rattle.first_reading.specs.declared.first.Reading.{Reading}
+use Rattle.first_reading.specs.declared.first.Reading.the-variants.{Accepted}
 use Rattle.indexing.specs.Index.{Indexed}
 use Rattle.reading.specs.IndexedReading.{ReadIndexed}
 

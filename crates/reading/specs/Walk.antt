@@ -8,7 +8,7 @@ use lib.Seq.{take-add}
 use Rattle.hex.specs.Digits.{bytesOf}
 use Rattle.hex.specs.Lines.{Split, split, endOf, lineAt}
 use Rattle.hex.specs.Cuts.{Line, end-line, end-none, split-append, line-ends, line-within}
-use Rattle.frames.specs.First.{framesOf}
+use Rattle.first_reading.specs.First.{framesOf}
 
 -- past the end there are no frames
 pub frames-end : (x : List ℕ) (at : ℕ) → length x ≤ at → framesOf (drop at x) ≡ []

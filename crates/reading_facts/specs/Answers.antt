@@ -10,16 +10,16 @@ use lib.Dec.{ltb, eqb}
 use Rattle.base.specs.Choose.{pick-elim}
 use Rattle.hex.specs.Digits.{bytesOf}
 use Rattle.hex.specs.Lines.{split, isHex}
-use Rattle.frames.specs.Limits.{textMost}
-use Rattle.frames.specs.Fields.{fieldPasses, noCounts}
+use Rattle.fields.specs.Limits.{textMost}
+use Rattle.fields.specs.Fields.{fieldPasses, noCounts}
 use Rattle.frames.specs.Frames.{framePasses, frameLength}
-use Rattle.frames.specs.First.{framesOf, belongs, hasRoom, counted, frameFault, lineFault, orElse, firstLines, firstFrom, stepsSay, stepsRight}
-use Rattle.frames.specs.declared.fields.Counts.{Counts}
-use Rattle.frames.specs.declared.fields.Test.the-variants.{Limits, Range, Reals}
-use Rattle.frames.specs.declared.first.Text.{Text}
-use Rattle.frames.specs.declared.first.Text.the-variants.{Query, Plan, Table}
-use Rattle.frames.specs.declared.first.Reading.{Reading}
-use Rattle.frames.specs.declared.first.Reading.the-variants.{Accepted, Refused}
+use Rattle.first_reading.specs.First.{framesOf, belongs, hasRoom, counted, frameFault, lineFault, orElse, firstLines, firstFrom, stepsSay, stepsRight}
+use Rattle.fields.specs.declared.field.Counts.{Counts}
+use Rattle.fields.specs.declared.field.Test.the-variants.{Limits, Range, Reals}
+use Rattle.first_reading.specs.declared.first.Text.{Text}
+use Rattle.first_reading.specs.declared.first.Text.the-variants.{Query, Plan, Table}
+use Rattle.first_reading.specs.declared.first.Reading.{Reading}
+use Rattle.first_reading.specs.declared.first.Reading.the-variants.{Accepted, Refused}
 use Rattle.indexing.specs.Keys.{keyGiven}
 use Rattle.reading.specs.Second.{countsOf, secondFault, secondFrom, second, reading}
 

@@ -12,14 +12,14 @@ use borrow.Author.Tests.{lt-ltb, le-ltb, eq-eqb, ne-eqb, eqb-false}
 use Rattle.base.specs.Choose.{pick}
 use Rattle.hex.specs.Digits.{bytesOf}
 use Rattle.hex.specs.Lines.{split, isHex}
-use Rattle.frames.specs.Limits.{textMost}
+use Rattle.fields.specs.Limits.{textMost}
 use Rattle.frames.specs.Frames.{kindOf}
-use Rattle.frames.specs.First.{framesOf, isCounted, countedMost, counted, hasRoom, lineFault, firstLines, firstFrom, stepsSay, stepsRight, firstReading}
-use Rattle.frames.specs.declared.fields.Counts.{Counts}
-use Rattle.frames.specs.declared.first.Text.{Text}
-use Rattle.frames.specs.declared.first.Text.the-variants.{Query, Plan, Table}
-use Rattle.frames.specs.declared.first.Reading.{Reading}
-use Rattle.frames.specs.declared.first.Reading.the-variants.{Accepted}
+use Rattle.first_reading.specs.First.{framesOf, isCounted, countedMost, counted, hasRoom, lineFault, firstLines, firstFrom, stepsSay, stepsRight, firstReading}
+use Rattle.fields.specs.declared.field.Counts.{Counts}
+use Rattle.first_reading.specs.declared.first.Text.{Text}
+use Rattle.first_reading.specs.declared.first.Text.the-variants.{Query, Plan, Table}
+use Rattle.first_reading.specs.declared.first.Reading.{Reading}
+use Rattle.first_reading.specs.declared.first.Reading.the-variants.{Accepted}
 use Rattle.indexing.specs.Keys.{begins, find, isFound, keyOf, keyGiven}
 use Rattle.reading.specs.Second.{countsOf, secondFrom, reading}
 use Rattle.reading_facts.specs.Whole.{Formed, Named, countFrom, Whole, frames-length}

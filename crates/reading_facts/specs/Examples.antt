@@ -4,13 +4,13 @@ use Prim.Native.Nat.{ℕ}
 use mathlib.Core.Path.{_≡_, refl}
 use mathlib.Core.List.{List, [], _∷_, _++_, map}
 use Rattle.hex.specs.Lines.{split}
-use Rattle.frames.specs.Fields.{fieldPasses}
-use Rattle.frames.specs.Kinds.{kindAt}
+use Rattle.fields.specs.Fields.{fieldPasses}
+use Rattle.kinds.specs.Kinds.{kindAt}
 use Rattle.frames.specs.Frames.{passAll}
-use Rattle.frames.specs.declared.first.Text.{Text}
-use Rattle.frames.specs.declared.first.Text.the-variants.{Query, Plan, Table}
-use Rattle.frames.specs.declared.first.Reading.{Reading}
-use Rattle.frames.specs.declared.first.Reading.the-variants.{Accepted, Refused}
+use Rattle.first_reading.specs.declared.first.Text.{Text}
+use Rattle.first_reading.specs.declared.first.Text.the-variants.{Query, Plan, Table}
+use Rattle.first_reading.specs.declared.first.Reading.{Reading}
+use Rattle.first_reading.specs.declared.first.Reading.the-variants.{Accepted, Refused}
 use Rattle.reading.specs.Second.{reading}
 use Rattle.reading_facts.specs.Answers.{numberOf}
 use Rattle.reading_facts.specs.Ascii.{ascii, times}

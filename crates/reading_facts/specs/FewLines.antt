@@ -10,13 +10,13 @@ use borrow.Author.Tests.{le-ltb, ne-eqb, ltb-true, ltb-false}
 use Rattle.base.specs.Choose.{pick-elim}
 use Rattle.hex.specs.Digits.{bytesOf}
 use Rattle.hex.specs.Lines.{Split, split, withLine, withByte, isHex}
-use Rattle.frames.specs.Limits.{textMost}
-use Rattle.frames.specs.First.{framesOf, counted, lineFault, orElse, firstLines, firstFrom, stepsSay, stepsRight}
-use Rattle.frames.specs.declared.fields.Counts.{Counts}
-use Rattle.frames.specs.declared.first.Text.{Text}
-use Rattle.frames.specs.declared.first.Text.the-variants.{Query, Plan, Table}
-use Rattle.frames.specs.declared.first.Reading.{Reading}
-use Rattle.frames.specs.declared.first.Reading.the-variants.{Accepted, Refused}
+use Rattle.fields.specs.Limits.{textMost}
+use Rattle.first_reading.specs.First.{framesOf, counted, lineFault, orElse, firstLines, firstFrom, stepsSay, stepsRight}
+use Rattle.fields.specs.declared.field.Counts.{Counts}
+use Rattle.first_reading.specs.declared.first.Text.{Text}
+use Rattle.first_reading.specs.declared.first.Text.the-variants.{Query, Plan, Table}
+use Rattle.first_reading.specs.declared.first.Reading.{Reading}
+use Rattle.first_reading.specs.declared.first.Reading.the-variants.{Accepted, Refused}
 use Rattle.reading.specs.Second.{countsOf, secondFault, secondFrom, second, reading}
 use Rattle.reading_facts.specs.Answers.{too-long, empty-query, empty-plan, empty-table}
 use Rattle.reading_facts.specs.Whole.{accepted}

@@ -8,11 +8,11 @@ use lib.Dec.{eqb}
 use Rattle.hex.specs.Digits.{bytesOf}
 use Rattle.hex.specs.Lines.{split, endOf}
 use Rattle.hex.specs.Case.{lowered, lower, bytes-lower, length-lower, hex-lower, end-lowered, split-lower}
-use Rattle.frames.specs.First.{framesOf, counted, lineFault, firstLines, firstFrom, firstLine, stepsRight, firstReading}
-use Rattle.frames.specs.declared.first.Text.{Text}
-use Rattle.frames.specs.declared.first.Text.the-variants.{Query, Plan, Table}
-use Rattle.frames.specs.declared.first.Reading.{Reading}
-use Rattle.frames.specs.declared.first.Reading.the-variants.{Accepted, Refused}
+use Rattle.first_reading.specs.First.{framesOf, counted, lineFault, firstLines, firstFrom, firstLine, stepsRight, firstReading}
+use Rattle.first_reading.specs.declared.first.Text.{Text}
+use Rattle.first_reading.specs.declared.first.Text.the-variants.{Query, Plan, Table}
+use Rattle.first_reading.specs.declared.first.Reading.{Reading}
+use Rattle.first_reading.specs.declared.first.Reading.the-variants.{Accepted, Refused}
 use Rattle.reading.specs.Second.{countsOf, second, reading}
 
 line-lower : (t : Text) (first : Bool) (c : ℕ) (l : List ℕ) → lineFault t first c (lower l) ≡ lineFault t first c l

@@ -8,9 +8,9 @@ use native.Mathlib.Omega.{arith}
 use lib.ListN.{length, getD}
 use Rattle.base.specs.Choose.{pick}
 use Rattle.frames.specs.Frames.{kindOf}
-use Rattle.frames.specs.First.{framesOf}
-use Rattle.frames.specs.declared.first.Text.{Text}
-use Rattle.frames.specs.declared.first.Reading.the-variants.{Accepted}
+use Rattle.first_reading.specs.First.{framesOf}
+use Rattle.first_reading.specs.declared.first.Text.{Text}
+use Rattle.first_reading.specs.declared.first.Reading.the-variants.{Accepted}
 use Rattle.indexing.specs.Keys.{begins, find, isFound, keyOf}
 use Rattle.reading.specs.Second.{reading}
 use Rattle.reading_facts.specs.Whole.{accepted, begins-self}

@@ -7,10 +7,10 @@ use native.Mathlib.Omega.{arith}
 use native.Mathlib.Nat.{add-zero, add-assoc, mul-suc}
 use lib.ListN.{length, getD, take, replicate}
 use Rattle.base.specs.Choose.{both-hold}
-use Rattle.frames.specs.Fields.{width}
-use Rattle.frames.specs.Kinds.{none, widths, fixedLength, itemsOf}
+use Rattle.fields.specs.Fields.{width}
+use Rattle.kinds.specs.Kinds.{none, widths, fixedLength, itemsOf}
 use Rattle.frames.specs.Frames.{kindOf, passAll, framePasses}
-use Rattle.frames.specs.declared.fields.Field.{Field}
+use Rattle.fields.specs.declared.field.Field.{Field}
 
 module _ (P : Field → List ℕ → ℕ → Bool) (f : List ℕ) where
   pub field-passes : (xs : List Field) (i : ℕ) → passAll P xs f i ≡ true → (j : ℕ) → j < length xs → P (getD xs j none) f (i + widths (take j xs)) ≡ true

@@ -16,17 +16,17 @@ use Rattle.hex.specs.Digits.{bytesOf}
 use Rattle.hex.specs.Bytes.{digits-bytes}
 use Rattle.hex.specs.Lines.{split, isHex, endOf}
 use Rattle.hex.specs.Cuts.{cut, end-is, all-rest}
-use Rattle.frames.specs.Limits.{textMost, variablesMost, globalsMost, literalsMost, atomsMost, rowsMost}
-use Rattle.frames.specs.Fields.{fieldPasses, noCounts}
-use Rattle.frames.specs.Kinds.{kindAt, query, plan}
+use Rattle.fields.specs.Limits.{textMost, variablesMost, globalsMost, literalsMost, atomsMost, rowsMost}
+use Rattle.fields.specs.Fields.{fieldPasses, noCounts}
+use Rattle.kinds.specs.Kinds.{kindAt, query, plan}
 use Rattle.frames.specs.Frames.{kindOf, passAll, framePasses}
-use Rattle.frames.specs.First.{framesOf, isHeader, belongs, countedMost, firstLine, stepsSay, firstReading}
-use Rattle.frames.specs.declared.fields.Counts.{Counts}
-use Rattle.frames.specs.declared.fields.Test.the-variants.{Limits, Range, Reals}
-use Rattle.frames.specs.declared.first.Text.{Text}
-use Rattle.frames.specs.declared.first.Text.the-variants.{Query, Plan, Table}
-use Rattle.frames.specs.declared.first.Reading.{Reading}
-use Rattle.frames.specs.declared.first.Reading.the-variants.{Accepted, Refused}
+use Rattle.first_reading.specs.First.{framesOf, isHeader, belongs, countedMost, firstLine, stepsSay, firstReading}
+use Rattle.fields.specs.declared.field.Counts.{Counts}
+use Rattle.fields.specs.declared.field.Test.the-variants.{Limits, Range, Reals}
+use Rattle.first_reading.specs.declared.first.Text.{Text}
+use Rattle.first_reading.specs.declared.first.Text.the-variants.{Query, Plan, Table}
+use Rattle.first_reading.specs.declared.first.Reading.{Reading}
+use Rattle.first_reading.specs.declared.first.Reading.the-variants.{Accepted, Refused}
 use Rattle.indexing.specs.Keys.{begins, find, isFound, keyOf, keyGiven}
 pub use Rattle.reading.specs.Formed.{Formed, countFrom}
 use Rattle.reading.specs.Formed.{passes, or-passes, Passed, lines-pass, lines-hex, First, first-accepted}

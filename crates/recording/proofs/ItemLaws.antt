@@ -7,8 +7,8 @@ use native.Mathlib.Omega.{arith}
 use native.Mathlib.Numerals.{add-one}
 use lib.Dec.{ltb}
 use lib.ListN.{length, getD}
-use Rattle.frames.specs.Fields.{width}
-use Rattle.frames.specs.Kinds.{kindAt, fixedLength, itemsOf}
+use Rattle.fields.specs.Fields.{width}
+use Rattle.kinds.specs.Kinds.{kindAt, fixedLength, itemsOf}
 use Rattle.frames.specs.Frames.{kindOf}
 use Rattle.model.specs.Atoms.{Operand, localOf}
 use Rattle.model.specs.Premises.{numbersBelow}

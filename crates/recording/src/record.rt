@@ -18,12 +18,12 @@ use emitters::numbers::copy_emitter;
 use emitters::numbers::packed;
 use emitters::numbers::set_emitter;
 use emitters::numbers::set_operand;
-use frames::fields::narrow;
-use frames::fields::wide;
+use fields::field::narrow;
+use fields::field::wide;
 use frames::frame::items_of;
-use frames::kinds::fixed_length;
-use frames::kinds::item_width;
 use hex::byte_at;
+use kinds::table::fixed_length;
+use kinds::table::item_width;
 use passes::eager::atom_line;
 
 // The number of the emitter of item p: an element, or the child at position p.

@@ -10,10 +10,10 @@ use lib.Seq.{length-take-le, getD-set-same, getD-set-other, getD-take, ext-getD}
 use borrow.Author.Tests.{not-true, not-false}
 use Rattle.base.specs.Lists.{any-default}
 use Rattle.frames.specs.Sheet.{framesIn}
-use Rattle.frames.specs.First.{Sheet}
-use Rattle.frames.specs.declared.first.Text.the-variants.{Query}
-use Rattle.frames.specs.declared.first.Reading.{Reading}
-use Rattle.frames.specs.declared.first.Reading.the-variants.{Accepted, Refused}
+use Rattle.first_reading.specs.First.{Sheet}
+use Rattle.first_reading.specs.declared.first.Text.the-variants.{Query}
+use Rattle.first_reading.specs.declared.first.Reading.{Reading}
+use Rattle.first_reading.specs.declared.first.Reading.the-variants.{Accepted, Refused}
 use Rattle.reading.specs.Second.{reading}
 use Rattle.model.specs.Tabulate.{tabulate-at, tabulate-length}
 use Rattle.passes.specs.Eager.{atomsOf}

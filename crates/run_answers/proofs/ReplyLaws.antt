@@ -8,7 +8,7 @@ use lib.ListN.{length, getD}
 use Rattle.packing.specs.Packed.{codeOf, packedRefusal}
 use Rattle.hex.specs.Digits.{bytesOf}
 use Rattle.hex.specs.Lines.{lineAt}
-use Rattle.frames.specs.First.{first-line}
+use Rattle.first_reading.specs.First.{first-line}
 use Rattle.running.specs.Run.{Replies}
 use Rattle.output.specs.Written.{written, Puts}
 use Rattle.runner.specs.Entries.{textIn}

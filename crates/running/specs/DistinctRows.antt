@@ -12,11 +12,11 @@ use lib.Pow.{areBytes}
 use borrow.Author.Tests.{ltb-true, eqb-true}
 use Rattle.base.specs.Choose.{pick, is-true}
 use Rattle.hex.specs.Digits.{shortAt}
-use Rattle.frames.specs.Kinds.{kinds, kindAt}
+use Rattle.kinds.specs.Kinds.{kinds, kindAt}
 use Rattle.frames.specs.Frames.{frameLength}
-use Rattle.frames.specs.First.{framesOf, isRow}
-use Rattle.frames.specs.declared.first.Text.the-variants.{Table}
-use Rattle.frames.specs.declared.first.Reading.the-variants.{Accepted}
+use Rattle.first_reading.specs.First.{framesOf, isRow}
+use Rattle.first_reading.specs.declared.first.Text.the-variants.{Table}
+use Rattle.first_reading.specs.declared.first.Reading.the-variants.{Accepted}
 use Rattle.indexing.specs.Keys.{keyOf}
 use Rattle.reading.specs.Second.{reading}
 use Rattle.reading_facts.specs.Whole.{accepted, frame-bytes}

@@ -6,12 +6,12 @@ use mathlib.Core.List.{List, [], _∷_, _++_, flatMap}
 use lib.ListN.{length, getD, replicate}
 use lib.Dec.{eqb}
 use Rattle.base.specs.Choose.{pick}
-use Rattle.frames.specs.Kinds.{plan, table}
-use Rattle.frames.specs.Limits.{variablesMost}
-use Rattle.frames.specs.First.{framesOf, isRow}
-use Rattle.frames.specs.declared.first.Text.the-variants.{Plan, Table as TableText}
-use Rattle.frames.specs.declared.first.Reading.{Reading}
-use Rattle.frames.specs.declared.first.Reading.the-variants.{Accepted, Refused}
+use Rattle.kinds.specs.Kinds.{plan, table}
+use Rattle.fields.specs.Limits.{variablesMost}
+use Rattle.first_reading.specs.First.{framesOf, isRow}
+use Rattle.first_reading.specs.declared.first.Text.the-variants.{Plan, Table as TableText}
+use Rattle.first_reading.specs.declared.first.Reading.{Reading}
+use Rattle.first_reading.specs.declared.first.Reading.the-variants.{Accepted, Refused}
 use Rattle.reading.specs.Second.{reading}
 use Rattle.model.specs.Atoms.{Operand, local, global, Lookup, ByOp, ByChildPos, ByRepr, ByContains, Step, Join, ExtractChild, CheckChildEq, CheckEq, CheckEqGlobal, BindGlobal, CopyBinding, Expand, ExtractLitVal, CheckLit, CheckPred, Row, Node, Literal, opOf, unset, Table, globalClass}
 use Rattle.model.specs.Bound.{Bound, blank}

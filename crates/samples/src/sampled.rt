@@ -15,7 +15,7 @@ use super::memo::Sample;
 use super::memo::estimate;
 use cost::memo::Sampling;
 use cost::probes::Key;
-use frames::fields::wide;
+use fields::field::wide;
 use hex::byte_at;
 use measure::FanOut;
 use query::statistics::Sampled;

@@ -19,7 +19,7 @@ use choosing::choose::Best;
 use choosing::choose::Scheduler;
 use choosing::choose::cheapest;
 use cost::memo::Sampling;
-use frames::fields::wide;
+use fields::field::wide;
 use lowering::atom::lower_bound;
 use lowering::sets::set_bound;
 use passes::eager::atom_line;

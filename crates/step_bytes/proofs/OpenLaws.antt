@@ -4,7 +4,7 @@ use mathlib.Core.Path.{_≡_, refl, _∙_}
 use mathlib.Core.List.{List, [], _∷_, flatMap}
 use native.Mathlib.Omega.{arith}
 use lib.ListN.{length, getD}
-use Rattle.frames.specs.Kinds.{kinds, kindAt}
+use Rattle.kinds.specs.Kinds.{kinds, kindAt}
 use Rattle.cost.specs.QueryAtoms.{operandsFrom, bytesFrom, atomOfFrame}
 use Rattle.cost.specs.Operands.{operands-length}
 use Rattle.plans.specs.StepFrames.{operandBytes, elementsOf, elementBytes, frameOf}

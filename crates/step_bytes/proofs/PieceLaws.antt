@@ -8,8 +8,8 @@ use lib.Dec.{T, eqb}
 use lib.ListN.{length, getD}
 use borrow.Author.Tests.{eq-eqb, ne-eqb}
 use Rattle.base.specs.Choose.{pick}
-use Rattle.frames.specs.Fields.{width}
-use Rattle.frames.specs.Kinds.{kinds, kindAt, fixedLength, itemsOf}
+use Rattle.fields.specs.Fields.{width}
+use Rattle.kinds.specs.Kinds.{kinds, kindAt, fixedLength, itemsOf}
 use Rattle.frames.specs.Frames.{kindOf}
 use Rattle.model.specs.Atoms.{Operand, local, global, ByOp, ByRepr, Join}
 use Rattle.model.specs.Bound.{Bound}

@@ -6,7 +6,7 @@ use mathlib.Core.List.{List, [], _∷_, map}
 use native.Mathlib.Omega.{arith}
 use lib.ListN.{length, getD}
 use Rattle.hex.specs.Digits.{wordAt}
-use Rattle.frames.specs.Kinds.{kinds, kindAt}
+use Rattle.kinds.specs.Kinds.{kinds, kindAt}
 use Rattle.model.specs.Atoms.{Eq, EqGlobal}
 use Rattle.model.specs.Bound.{Bound, has}
 use Rattle.model.specs.Lowering.{lower}

@@ -12,14 +12,14 @@ use Rattle.base.specs.Choose.{pick, both-hold}
 use Rattle.hex.specs.Digits.{bytesOf}
 use Rattle.hex.specs.Lines.{lineAt}
 use Rattle.hex.specs.Cuts.{Line}
-use Rattle.frames.specs.Limits.{variablesMost}
-use Rattle.frames.specs.Kinds.{kinds, kindAt, plan}
-use Rattle.frames.specs.Fields.{fieldPasses, fieldIn}
+use Rattle.fields.specs.Limits.{variablesMost}
+use Rattle.kinds.specs.Kinds.{kinds, kindAt, plan}
+use Rattle.fields.specs.Fields.{fieldPasses, fieldIn}
 use Rattle.frames.specs.Frames.{passAll, framePasses}
-use Rattle.frames.specs.First.{framesOf}
-use Rattle.frames.specs.declared.fields.Counts.{Counts}
-use Rattle.frames.specs.declared.fields.Test.the-variants.{Range}
-use Rattle.frames.specs.declared.first.Text.the-variants.{Plan}
+use Rattle.first_reading.specs.First.{framesOf}
+use Rattle.fields.specs.declared.field.Counts.{Counts}
+use Rattle.fields.specs.declared.field.Test.the-variants.{Range}
+use Rattle.first_reading.specs.declared.first.Text.the-variants.{Plan}
 use Rattle.reading.specs.Second.{countsOf}
 use Rattle.reading.specs.Walk.{taken-none, taken-line, taken-step, frames-end}
 use Rattle.reading_facts.specs.Whole.{Whole, accepted, Headed, headed}

@@ -16,8 +16,8 @@ use Rattle.hex.specs.Digits.{bytesOf, shortAt}
 use Rattle.hex.specs.Bytes.{byte-at, digits-bytes}
 use Rattle.hex.specs.Lines.{lineAt}
 use Rattle.hex.specs.Cuts.{Line}
-use Rattle.frames.specs.Kinds.{table}
-use Rattle.frames.specs.First.{framesOf, isRow}
+use Rattle.kinds.specs.Kinds.{table}
+use Rattle.first_reading.specs.First.{framesOf, isRow}
 use Rattle.reading.specs.Walk.{taken-none, taken-line, taken-step, frames-end}
 use Rattle.model.specs.Atoms.{Row, Node, Literal, opOf}
 use Rattle.model.specs.Refusing.{allRows}

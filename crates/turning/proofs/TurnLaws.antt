@@ -6,13 +6,13 @@ use mathlib.Core.List.{List}
 use native.Mathlib.Omega.{arith}
 use lib.ListN.{length, take, replicate}
 use lib.Seq.{length-take-le}
-use Rattle.frames.specs.Limits.{globalsMost}
-use Rattle.frames.specs.Kinds.{table}
-use Rattle.frames.specs.First.{sheetSize, Sheet}
-use Rattle.frames.specs.declared.first.Text.{Text}
-use Rattle.frames.specs.declared.first.Text.the-variants.{Plan, Table as TableText}
-use Rattle.frames.specs.declared.first.Reading.{Reading}
-use Rattle.frames.specs.declared.first.Reading.the-variants.{Accepted, Refused}
+use Rattle.fields.specs.Limits.{globalsMost}
+use Rattle.kinds.specs.Kinds.{table}
+use Rattle.first_reading.specs.First.{sheetSize, Sheet}
+use Rattle.first_reading.specs.declared.first.Text.{Text}
+use Rattle.first_reading.specs.declared.first.Text.the-variants.{Plan, Table as TableText}
+use Rattle.first_reading.specs.declared.first.Reading.{Reading}
+use Rattle.first_reading.specs.declared.first.Reading.the-variants.{Accepted, Refused}
 use Rattle.reading.specs.Second.{reading}
 use Rattle.indexing.specs.Index.{Indexed}
 use Rattle.reading.specs.IndexedReading.{ReadIndexed}

@@ -6,11 +6,11 @@ use mathlib.Core.List.{List, []}
 use lib.ListN.{length, getD, replicate}
 use lib.Dec.{eqb}
 use Rattle.base.specs.Choose.{pick}
-use Rattle.frames.specs.Kinds.{table}
-use Rattle.frames.specs.Limits.{variablesMost, globalsMost}
-use Rattle.frames.specs.First.{framesOf, Sheet}
-use Rattle.frames.specs.declared.first.Text.the-variants.{Plan, Table as TableText}
-use Rattle.frames.specs.declared.first.Reading.the-variants.{Accepted}
+use Rattle.kinds.specs.Kinds.{table}
+use Rattle.fields.specs.Limits.{variablesMost, globalsMost}
+use Rattle.first_reading.specs.First.{framesOf, Sheet}
+use Rattle.first_reading.specs.declared.first.Text.the-variants.{Plan, Table as TableText}
+use Rattle.first_reading.specs.declared.first.Reading.the-variants.{Accepted}
 use Rattle.reading.specs.Second.{reading}
 use Rattle.model.specs.Atoms.{Table}
 use Rattle.model.specs.Bound.{Bound, blank}

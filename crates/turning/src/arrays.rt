@@ -2,7 +2,7 @@
 ghost use mathlib.Core.Path.{_≡_};
 ghost use lib.ListN.{getD};
 ghost use Rattle.turning.specs.Steps.{childFits, literalFits, given, rowRead, childFault, literalFault, globalFault};
-use frames::fields::wide;
+use fields::field::wide;
 use lowering::sets::is_set;
 
 fn shape_at(shapes: &[usize], op: u8) -> usize

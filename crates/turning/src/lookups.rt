@@ -9,7 +9,7 @@ ghost use Rattle.plans.specs.StepFrames.{operandAt, lookupAt};
 ghost use Rattle.turning.specs.Steps.{opCount, lookupsOf, readBy, givenBy, fitsBy, otherThan};
 use super::arrays::child_fits;
 use super::arrays::is_given;
-use frames::fields::wide;
+use fields::field::wide;
 use hex::line::byte_at;
 use lowering::sets::is_set;
 

@@ -6,7 +6,7 @@ ghost use Rattle.hex.specs.Digits.{bytesOf};
 ghost use Rattle.model.specs.Bound.{put};
 ghost use Rattle.turning.specs.Plans.{bindsTarget, Markable, Stepped};
 use super::lookups::join_op;
-use frames::fields::wide;
+use fields::field::wide;
 use hex::line::byte_at;
 use lowering::sets::set_bound;
 

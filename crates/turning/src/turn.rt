@@ -1,7 +1,7 @@
 // The whole test of a plan and a table: the plan is read, then the table, then the table's shapes and the plan's steps are tested.
 ghost use mathlib.Core.Path.{_≡_};
 ghost use lib.ListN.{length};
-ghost use Rattle.frames.specs.First.{Sheet};
+ghost use Rattle.first_reading.specs.First.{Sheet};
 ghost use Rattle.indexing.specs.Index.{Indexed};
 ghost use Rattle.reading.specs.IndexedReading.{Lent};
 ghost use Rattle.turning.specs.Plans.{StepsTested, PlanReady, PlanAccepted, Tested, TableTested, Turns};
@@ -9,9 +9,9 @@ use super::globals::global_classes;
 use super::plan::steps_fault;
 use super::shapes::Turned;
 use super::shapes::shapes_fault;
-use frames::first::Reading;
-use frames::first::Text;
-use frames::first::sheet_size;
+use first_reading::first::Reading;
+use first_reading::first::Text;
+use first_reading::first::sheet_size;
 use reading::second::LONG_INDEX;
 use reading::second::LONG_SHEET;
 use reading::second::MIDDLE_INDEX;

@@ -9,7 +9,7 @@ ghost use Rattle.lowering.specs.AtomLines.{AtomLine};
 ghost use Rattle.passes.specs.Eager.{atomsOf, Located};
 ghost use Rattle.writing.specs.Steps.{stepCount, countAlong, Ordered, PutsSteps};
 use emitting::atom::emit_atom;
-use frames::fields::wide;
+use fields::field::wide;
 use frames::frame::items_of;
 use hex::byte_at;
 use passes::eager::atom_line;

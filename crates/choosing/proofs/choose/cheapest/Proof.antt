@@ -16,7 +16,7 @@ use Rattle.choosing.proofs.choose.cheapest.Lts as lts
 use Rattle.choosing.proofs.choose.better.Reads as better-reads
 use Rattle.choosing.proofs.choose.is_candidate.Reads as is-candidate-reads
 use Rattle.choosing.proofs.choose.note_cost.Reads as note-cost-reads
-use Rattle.frames.proofs.fields.narrow.Reads as narrow-reads
+use Rattle.fields.proofs.field.narrow.Reads as narrow-reads
 use Rattle.passes.proofs.eager.atom_line.Reads as atom-line-reads
 use Rattle.pricing.proofs.costs.estimate_cost.Reads as estimate-cost-reads
 use Rattle.sqrt.proofs.bits_of.Reads as bits-of-reads

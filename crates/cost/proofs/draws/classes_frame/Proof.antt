@@ -1,6 +1,6 @@
 -- `cost::draws::classes_frame` meets its contract: the frame by its key.
 use mathlib.Core.Path.{refl}
-use Rattle.frames.specs.Kinds.{kindAt}
+use Rattle.kinds.specs.Kinds.{kindAt}
 use Rattle.query.proofs.LookupLaws.{proper}
 use borrow.Author.Needs.{needs}
 use Rattle.cost.proofs.draws.classes_frame.Statement.{statement}

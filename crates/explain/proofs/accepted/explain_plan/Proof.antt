@@ -1,6 +1,6 @@
 -- `explain::accepted::explain_plan` meets its contract: the sheet of an accepted plan is within the lent one.
 use mathlib.Core.Path.{refl}
-use Rattle.frames.specs.Limits.{textMost}
+use Rattle.fields.specs.Limits.{textMost}
 use Rattle.indexing.specs.Index.{manySlots}
 use Rattle.reading.proofs.LentLaws.{lent-for}
 use Rattle.turning.proofs.TurnLaws.{size-within, size-fits}

@@ -5,8 +5,8 @@ use Rattle.extracting.proofs.elements.expand.Tie as tie
 use Rattle.extracting.proofs.elements.expand.Reads as reads
 use Rattle.extracting.proofs.elements.expand.Lts as lts
 use Rattle.extracting.proofs.elements.put_items.Reads as put-items-reads
-use Rattle.frames.proofs.kinds.fixed_length.Reads as fixed-length-reads
-use Rattle.frames.proofs.kinds.item_width.Reads as item-width-reads
+use Rattle.kinds.proofs.table.fixed_length.Reads as fixed-length-reads
+use Rattle.kinds.proofs.table.item_width.Reads as item-width-reads
 use Rattle.output.proofs.bytes.put_end.Reads as put-end-reads
 use Rattle.output.proofs.bytes.put_first.Reads as put-first-reads
 use Rattle.step_bytes.proofs.collection.expand_part.Reads as expand-part-reads

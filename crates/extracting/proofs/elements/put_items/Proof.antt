@@ -6,7 +6,7 @@ use Rattle.extracting.proofs.elements.put_items.Tie as tie
 use Rattle.extracting.proofs.elements.put_items.Reads as reads
 use Rattle.extracting.proofs.elements.put_items.Lts as lts
 use Rattle.frames.proofs.frame.items_of.Reads as items-of-reads
-use Rattle.frames.proofs.kinds.fixed_length.Reads as fixed-length-reads
+use Rattle.kinds.proofs.table.fixed_length.Reads as fixed-length-reads
 use Rattle.hex.proofs.byte_at.Reads as byte-at-reads
 use Rattle.output.proofs.bytes.put_first.Reads as put-first-reads
 use Rattle.step_bytes.proofs.operand.item_at.Reads as item-at-reads

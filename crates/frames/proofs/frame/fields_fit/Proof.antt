@@ -1,6 +1,6 @@
 -- `frames::frame::fields_fit` meets its contract.
 use borrow.Author.Needs.{needs}
-use Rattle.frames.specs.Fields.{fieldFits}
+use Rattle.fields.specs.Fields.{fieldFits}
 use native.Mathlib.Omega.{arith}
 use Rattle.frames.proofs.FrameLaws.{Testing, testing-starts, no-fields, place-small, fields-less, free-fits, free-again, field-again, field-fails}
 use Rattle.frames.proofs.frame.fields_fit.Statement.{statement}

@@ -1,10 +1,10 @@
 -- `frames::frame::items_fit` meets its contract.
 use borrow.Author.Needs.{needs}
-use Rattle.frames.specs.Fields.{fieldFits}
+use Rattle.fields.specs.Fields.{fieldFits}
 use Prim.Native.Nat.{_-_}
 use mathlib.Core.Path.{refl}
 use lib.ListN.{replicate}
-use Rattle.frames.specs.Codes.{decode}
+use Rattle.fields.specs.Codes.{decode}
 use Rattle.frames.proofs.FrameLaws.{Passing, passing-starts, items-again, items-fail, items-end, items-fit}
 use native.Mathlib.Omega.{arith}
 use Rattle.frames.proofs.frame.items_fit.Statement.{statement}

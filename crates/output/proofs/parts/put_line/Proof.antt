@@ -4,7 +4,7 @@ use Rattle.output.proofs.parts.put_line.Statement.{statement}
 use Rattle.output.proofs.parts.put_line.Tie as tie
 use Rattle.output.proofs.parts.put_line.Reads as reads
 use Rattle.output.proofs.parts.put_line.Lts as lts
-use Rattle.frames.proofs.kinds.fixed_length.Reads as fixed-length-reads
+use Rattle.kinds.proofs.table.fixed_length.Reads as fixed-length-reads
 use Rattle.hex.proofs.byte_at.Reads as byte-at-reads
 use Rattle.output.proofs.bytes.put_end.Reads as put-end-reads
 use Rattle.output.proofs.bytes.put_first.Reads as put-first-reads

@@ -1,6 +1,6 @@
 -- `planner::text::write_plan` meets its contract: the header, then the steps.
 use mathlib.Core.Path.{refl, ap}
-use Rattle.frames.specs.declared.fields.Counts.{Counts}
+use Rattle.fields.specs.declared.field.Counts.{Counts}
 use Rattle.planner.proofs.EntryLaws.{plan-is, header-near}
 use borrow.Author.Needs.{needs}
 use Rattle.planner.proofs.text.write_plan.Statement.{statement}

@@ -7,7 +7,7 @@ use Rattle.recording.proofs.changed.changed.Statement.{statement}
 use Rattle.recording.proofs.changed.changed.Tie as tie
 use Rattle.recording.proofs.changed.changed.Reads as reads
 use Rattle.recording.proofs.changed.changed.Lts as lts
-use Rattle.frames.proofs.fields.narrow.Reads as narrow-reads
+use Rattle.fields.proofs.field.narrow.Reads as narrow-reads
 use Rattle.lowering.proofs.sets.is_set.Reads as is-set-reads
 
 abbrev Inv-loop : tie.InvT-loop

@@ -6,7 +6,7 @@ use Rattle.recording.proofs.record.record_number.Statement.{statement}
 use Rattle.recording.proofs.record.record_number.Tie as tie
 use Rattle.recording.proofs.record.record_number.Reads as reads
 use Rattle.recording.proofs.record.record_number.Lts as lts
-use Rattle.frames.proofs.fields.wide.Reads as wide-reads
+use Rattle.fields.proofs.field.wide.Reads as wide-reads
 use Rattle.passes.proofs.eager.atom_line.Reads as atom-line-reads
 use Rattle.recording.proofs.record.record_atom.Reads as record-atom-reads
 

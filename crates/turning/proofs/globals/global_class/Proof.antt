@@ -1,6 +1,6 @@
 -- `turning::globals::global_class` meets its contract: what is found by the key of a frame 32.
 use mathlib.Core.Path.{refl}
-use Rattle.frames.specs.Kinds.{kindAt}
+use Rattle.kinds.specs.Kinds.{kindAt}
 use Rattle.query.proofs.LookupLaws.{proper}
 use Rattle.turning.proofs.GlobalLaws.{class-found}
 use borrow.Author.Needs.{needs}

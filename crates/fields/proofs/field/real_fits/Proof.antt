@@ -1,0 +1,13 @@
+-- `fields::field::real_fits` meets its contract.
+use Rattle.base.specs.Choose.{tests}
+use Rattle.fields.proofs.field.real_fits.Statement.{statement}
+use Rattle.fields.proofs.field.real_fits.Tie as tie
+
+returns : tie.Need-returns
+returns c = search tests
+
+returns-2 : tie.Need-returns-2
+returns-2 c = search tests
+
+pub real-fits-spec : {M : Type 1} → statement M
+real-fits-spec = tie.close (tie.spec returns returns-2)

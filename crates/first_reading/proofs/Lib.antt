@@ -1,0 +1,3 @@
+pub mod FirstLaws
+pub mod StandLaws
+pub mod Lending

@@ -1,0 +1,13 @@
+-- `first_reading::first::is_atom` meets its contract.
+use Rattle.base.specs.Choose.{tests}
+use Rattle.first_reading.proofs.first.is_atom.Statement.{statement}
+use Rattle.first_reading.proofs.first.is_atom.Tie as tie
+
+returns : tie.Need-returns
+returns c = search tests
+
+returns-2 : tie.Need-returns-2
+returns-2 c = search tests
+
+pub is-atom-spec : {M : Type 1} → statement M
+is-atom-spec = tie.close (tie.spec returns returns-2)

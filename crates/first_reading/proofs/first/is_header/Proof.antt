@@ -1,0 +1,13 @@
+-- `first_reading::first::is_header` meets its contract.
+use Rattle.base.specs.Choose.{tests}
+use Rattle.first_reading.proofs.first.is_header.Statement.{statement}
+use Rattle.first_reading.proofs.first.is_header.Tie as tie
+
+returns : tie.Need-returns
+returns c = search tests
+
+returns-2 : tie.Need-returns-2
+returns-2 c = search tests
+
+pub is-header-spec : {M : Type 1} → statement M
+is-header-spec = tie.close (tie.spec returns returns-2)

@@ -1,0 +1,302 @@
+// The first reading of a text: each line is tested 1 to 4 in turn, then a plan's step count.
+ghost use mathlib.Core.Path.{_≡_};
+ghost use mathlib.Core.Bool.{true, false};
+ghost use Prim.Native.Nat.{_+_, _<_, _≤_};
+ghost use lib.ListN.{length};
+ghost use Rattle.first_reading.specs.First.{textNumber, isHeader, headerFirst, inPlace, belongs as belongsTo, isAtom, isRow, isCounted, countedMost, counted as countedOf, hasRoom, frameFault, stepsRight, emptyText, sheetSize, SheetRoom, Lays, LinesLaid, FirstLaid};
+ghost use Rattle.first_reading.specs.Stands.{atStart, endedAt, afterFrame, afterLine, readingOf, Few, LineRoom};
+ghost use Rattle.kinds.specs.Kinds.{kindAt};
+ghost use Rattle.hex.specs.Digits.{shortAt};
+use fields::field::wide_short;
+use frames::frame::frame_at;
+use frames::frame::frame_length;
+use frames::frame::limits_pass;
+use hex::byte_at;
+use hex::reader::decode_next;
+use hex::reader::position;
+use hex::reader::reader_at;
+use hex::short_at;
+use kinds::table::tests_of;
+
+pub enum Text {
+    Query,
+    Plan,
+    Table,
+}
+
+// What a reading finds.
+pub enum Reading {
+    // how many lines there are, and how many of them are atoms or rows
+    Accepted(usize, usize),
+    // number and line
+    Refused(u8, usize),
+}
+
+fn text_number(t: Text) -> u8
+    ensures { λ r. ⌜ r ≡ textNumber t ⌝ }
+{
+    match t {
+        Text::Query => 0,
+        Text::Plan => 1,
+        Text::Table => 2,
+    }
+}
+
+fn is_header(kind: u8) -> bool
+    ensures { λ r. ⌜ r ≡ isHeader kind ⌝ }
+{
+    if kind == 0 { true } else { kind == 0x3f }
+}
+
+fn header_first(first: bool, kind: u8) -> bool
+    ensures { λ r. ⌜ r ≡ headerFirst first kind ⌝ }
+{
+    if first {
+        return is_header(kind);
+    }
+    !is_header(kind)
+}
+
+fn in_place(t: Text, first: bool, kind: u8) -> bool
+    ensures { λ r. ⌜ r ≡ inPlace t first kind ⌝ }
+{
+    match t {
+        Text::Query => header_first(first, kind),
+        Text::Plan => header_first(first, kind),
+        Text::Table => true,
+    }
+}
+
+fn belongs(t: Text, first: bool, kind: u8, text: u8) -> bool
+    requires { ⌜ text ≡ kindAt kind .text ⌝ }
+    ensures { λ r. ⌜ r ≡ belongsTo t first kind ⌝ }
+{
+    if text == text_number(t) {
+        return in_place(t, first, kind);
+    }
+    false
+}
+
+fn is_atom(kind: u8) -> bool
+    ensures { λ r. ⌜ r ≡ isAtom kind ⌝ }
+{
+    if 1 <= kind { kind <= 0x0e } else { false }
+}
+
+fn is_row(kind: u8) -> bool
+    ensures { λ r. ⌜ r ≡ isRow kind ⌝ }
+{
+    if kind == 0x30 { true } else { kind == 0x31 }
+}
+
+fn is_counted(t: Text, kind: u8) -> bool
+    ensures { λ r. ⌜ r ≡ isCounted t kind ⌝ }
+{
+    match t {
+        Text::Query => is_atom(kind),
+        Text::Plan => false,
+        Text::Table => is_row(kind),
+    }
+}
+
+fn counted_most(t: Text) -> usize
+    ensures { λ r. ⌜ r ≡ countedMost t ⌝ }
+{
+    match t {
+        Text::Query => 64,
+        Text::Plan => 0,
+        Text::Table => 1024,
+    }
+}
+
+fn counted(t: Text, c: usize, kind: u8) -> usize
+    requires { ⌜ c < 65536 ⌝ }
+    ensures { λ r. ⌜ r ≡ countedOf t c kind ⌝ }
+{
+    if is_counted(t, kind) { c + 1 } else { c }
+}
+
+fn has_room(t: Text, c: usize, kind: u8) -> bool
+    ensures { λ r. ⌜ r ≡ hasRoom t c kind ⌝ }
+{
+    if is_counted(t, kind) {
+        return c < counted_most(t);
+    }
+    true
+}
+
+// The tests 2, 3 and 4 of a frame: the first that it fails, or 0.
+fn frame_fault(t: Text, first: bool, c: usize, frame: &[u8]) -> u8
+    ensures { λ r. ⌜ r ≡ frameFault t first c (now (frame .entry)) ⌝ }
+{
+    let kind = byte_at(frame, 0);
+    let tests = tests_of(kind);
+    if !belongs(t, first, kind, tests % 4) {
+        return 2;
+    }
+    if frame.len() != frame_length(frame) {
+        return 3;
+    }
+    if !limits_pass(tests, frame) {
+        return 4;
+    }
+    if has_room(t, c, kind) { 0 } else { 4 }
+}
+
+// Where the first reading stands: its places in the text and on the sheet, how many lines are passed and how many of them counted, where it
+// ends, and the test that the last line failed, or 0.
+struct Stand {
+    at: usize,
+    to: usize,
+    n: usize,
+    c: usize,
+    end: usize,
+    fault: u8,
+}
+
+fn at_start(size: usize) -> Stand
+    ensures { λ r. ⌜ r ≡ atStart size ⌝ }
+{
+    Stand {
+        at: 0,
+        to: 0,
+        n: 0,
+        c: 0,
+        end: size,
+        fault: 0,
+    }
+}
+
+// The line up to `next` fails the test k: the reading ends behind it.
+fn ended_at(s: Stand, next: usize, k: u8) -> Stand
+    ensures { λ r. ⌜ r ≡ endedAt s next k ⌝ }
+{
+    Stand {
+        at: next,
+        to: s.to,
+        n: s.n,
+        c: s.c,
+        end: next,
+        fault: k,
+    }
+}
+
+// The frame of the line up to `next` is tested.
+fn after_frame(t: Text, frame: &[u8], s: Stand, next: usize) -> Stand
+    requires { ⌜ Few s (length (now frame)) ⌝ }
+    ensures { λ r. ⌜ r ≡ afterFrame t (now (frame .entry)) s next ⌝ }
+{
+    let fault = frame_fault(t, s.n == 0, s.c, frame);
+    if fault != 0 {
+        return ended_at(s, next, fault);
+    }
+    Stand {
+        at: next,
+        to: s.to + frame.len(),
+        n: s.n + 1,
+        c: counted(t, s.c, byte_at(frame, 0)),
+        end: s.end,
+        fault: 0,
+    }
+}
+
+// The line from where the reading stands up to `next` was laid on the sheet; where there is none, it is no line of digits.
+fn after_line(t: Text, sheet: &[u8], s: Stand, next: usize) -> Stand
+    requires { ⌜ LineRoom s (now sheet) next ⌝ }
+    ensures { λ r. ⌜ r ≡ afterLine t (now (sheet .entry)) s next ⌝ }
+{
+    let at = s.at;
+    if next == at {
+        return ended_at(s, next, 1);
+    }
+    let to = s.to;
+    let end = to + (next - at) / 2;
+    after_frame(t, &sheet[to..end], s, next)
+}
+
+fn reading_of(s: Stand) -> Reading
+    requires { ⌜ s .n ≤ 65536 ⌝ }
+    ensures { λ r. ⌜ r ≡ readingOf s ⌝ }
+{
+    if s.fault == 0 {
+        return Reading::Accepted(s.n, s.c);
+    }
+    Reading::Refused(s.fault, s.n + 1)
+}
+
+// The lines in turn, by one reader from the first to the last: each is laid on the sheet, behind those before it, and tested there.
+fn first_lines(t: Text, text: &[u8], sheet: &mut [u8]) -> Reading
+    requires { ⌜ length (now text) ≤ 65536 ⌝ }
+    requires { ⌜ SheetRoom (now text) (now sheet) ⌝ }
+    ensures { λ r. ⌜ LinesLaid t (now (text .entry)) (now (sheet .entry)) (now (sheet .exit)) r ⌝ }
+{
+    let mut r = reader_at(text, 0);
+    let mut s = at_start(text.len());
+    while s.at < s.end {
+        r = decode_next(r, sheet, s.to);
+        s = after_line(t, sheet, s, position(r));
+    }
+    reading_of(s)
+}
+
+// The steps that a plan's header gives.
+fn steps_say(header: &[u8]) -> usize
+    ensures { λ r. ⌜ (r ≡ shortAt (now (header .entry)) 4) × (r < 65536) ⌝ }
+{
+    wide_short(short_at(header, 4))
+}
+
+// How many bytes of the sheet the frames of an accepted text have, that has n lines and m bytes.
+pub fn sheet_size(m: usize, n: usize) -> usize
+    ensures { λ r. ⌜ r ≡ sheetSize m n ⌝ }
+{
+    if m < n {
+        return 0;
+    }
+    (m - n) / 2
+}
+
+fn steps_right(t: Text, text: &[u8], sheet: &[u8], found: Reading) -> Reading
+    requires { ⌜ Lays (now text) (now sheet) (now sheet) found ⌝ }
+    ensures { λ r. ⌜ r ≡ stepsRight t (now (text .entry)) found ⌝ }
+{
+    match t {
+        Text::Query => found,
+        Text::Table => found,
+        Text::Plan => match found {
+            Reading::Refused(k, l) => Reading::Refused(k, l),
+            Reading::Accepted(n, c) => {
+                let size = sheet_size(text.len(), n);
+                if steps_say(frame_at(&sheet[..size], 0)) + 1 == n {
+                    return Reading::Accepted(n, c);
+                }
+                Reading::Refused(3, 1)
+            }
+        },
+    }
+}
+
+fn empty_text(t: Text) -> Reading
+    ensures { λ r. ⌜ r ≡ emptyText t ⌝ }
+{
+    match t {
+        Text::Query => Reading::Refused(2, 0),
+        Text::Plan => Reading::Refused(2, 0),
+        Text::Table => Reading::Accepted(0, 0),
+    }
+}
+
+// The first reading of a text of any bytes and length; where it is accepted, its frames stand on the sheet.
+pub fn first_reading(t: Text, text: &[u8], sheet: &mut [u8]) -> Reading
+    requires { ⌜ SheetRoom (now text) (now sheet) ⌝ }
+    ensures { λ r. ⌜ FirstLaid t (now (text .entry)) (now (sheet .entry)) (now (sheet .exit)) r ⌝ }
+{
+    if 65536 < text.len() {
+        return Reading::Refused(4, 0);
+    }
+    if text.len() == 0 {
+        return empty_text(t);
+    }
+    let found = first_lines(t, text, sheet);
+    steps_right(t, text, sheet, found)
+}

@@ -1,0 +1,2 @@
+// The table by kind.
+pub mod table;
