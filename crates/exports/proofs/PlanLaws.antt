@@ -4,7 +4,7 @@ use mathlib.Core.Path.{_≡_, refl, ap, _∙_, sym}
 use mathlib.Core.List.{List}
 use native.Mathlib.Omega.{arith}
 use borrow.Author.Tests.{ne-eqb}
-use Rattle.planner.specs.Planner.{Answer, Result, plan}
+use Rattle.planner.specs.Planner.{Result, plan}
 use Rattle.planner.specs.AnswerBounds.{Within, plan-within}
 use Rattle.planner.specs.Entry.{answerOf, resultOf}
 use Rattle.planner.specs.declared.entry.Planned.{Planned}
