@@ -3,7 +3,7 @@ use mathlib.Core.Path.{refl}
 use Rattle.fields.specs.Limits.{textMost}
 use Rattle.indexing.specs.Index.{manySlots}
 use Rattle.reading.proofs.LentLaws.{lent-for}
-use Rattle.turning.proofs.TurnLaws.{size-within, size-fits}
+use Rattle.reading.proofs.ReadLaws.{read-within, read-fits}
 use borrow.Author.Needs.{needs}
 use Rattle.explain.proofs.accepted.explain_plan.Statement.{statement}
 use Rattle.explain.proofs.accepted.explain_plan.Tie as tie
@@ -33,10 +33,10 @@ sheet-size-requires : tie.Need-sheet-size-requires
 sheet-size-requires c κs = search needs
 
 array-share-prefix-sheet : tie.Need-array-share-prefix-sheet
-array-share-prefix-sheet c = search size-within
+array-share-prefix-sheet c = search read-within
 
 slice-aggregate-say-frames : tie.Need-slice-aggregate-say-frames
-slice-aggregate-say-frames c = search size-fits
+slice-aggregate-say-frames c = search read-fits
 
 say-frames-requires : tie.Need-say-frames-requires
 say-frames-requires c κs = search needs
