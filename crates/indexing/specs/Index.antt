@@ -15,7 +15,7 @@ use Rattle.indexing.specs.Keys.{begins, find, isFound, keyOf}
 
 -- few slots or many, and the numbers of the shortest index that has many
 abbrev pub fewSlots : ℕ
-fewSlots = 64
+fewSlots = 32
 
 abbrev pub manySlots : ℕ
 manySlots = 512

@@ -49,7 +49,7 @@ pub fn hash_of(key: &[u8]) -> usize
 }
 
 // Few slots or many, and the numbers of the shortest index that has many.
-pub const FEW_SLOTS: usize = 64;
+pub const FEW_SLOTS: usize = 32;
 
 pub const MANY_SLOTS: usize = 512;
 
