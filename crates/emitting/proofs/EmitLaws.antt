@@ -9,7 +9,7 @@ use lib.ListN.{length, getD}
 use lib.Seq.{length-take-le}
 use borrow.Author.Tests.{ltb-true, leb-true, eq-eqb, ne-eqb}
 use Rattle.base.specs.Choose.{both-hold}
-use Rattle.first_reading.specs.First.{isAtom}
+use Rattle.frame_tests.specs.Faults.{isAtom}
 use Rattle.kinds.specs.Kinds.{kinds, kindAt, fixedLength}
 use Rattle.frames.specs.Frames.{kindOf}
 use Rattle.model.specs.Atoms.{localOf, Step, Atom}

@@ -2,8 +2,8 @@
 use super::refusals::say_refusal;
 use super::steps::say_step;
 use first_reading::first::Reading;
-use first_reading::first::Text;
 use first_reading::first::sheet_size;
+use frame_tests::tests::Text;
 use frames::frame::frame_at;
 use reading::second::LONG_INDEX;
 use reading::second::LONG_SHEET;

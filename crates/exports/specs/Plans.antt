@@ -3,7 +3,7 @@ use Prim.Native.Nat.{ℕ}
 use lib.Dec.{eqb}
 use Rattle.base.specs.Choose.{pick}
 use Rattle.packing.specs.Packed.{packedRefusal, packedCounts}
-use Rattle.first_reading.specs.First.{textNumber}
+use Rattle.frame_tests.specs.Faults.{textNumber}
 use Rattle.planner.specs.Planner.{Answer}
 use Rattle.planner.specs.declared.entry.Planned.{Planned}
 use Rattle.planner.specs.declared.entry.Planned.the-variants.{Written, Refused}

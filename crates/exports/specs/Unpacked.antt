@@ -6,9 +6,9 @@ use mathlib.Core.List.{List}
 use native.Mathlib.Omega.{arith}
 use borrow.Author.Tests.{ne-eqb}
 use Rattle.packing.specs.Unpacked.{TellsRefusal, TellsCounts, TellsWritten, TellsPlain, refusal-told, counts-told, written-told, plain-told}
-use Rattle.first_reading.specs.First.{textNumber}
-use Rattle.first_reading.specs.declared.first.Text.{Text}
-use Rattle.first_reading.specs.declared.first.Text.the-variants.{Query, Plan, Table}
+use Rattle.frame_tests.specs.Faults.{textNumber}
+use Rattle.frame_tests.specs.declared.tests.Text.{Text}
+use Rattle.frame_tests.specs.declared.tests.Text.the-variants.{Query, Plan, Table}
 use Rattle.planner.specs.Planner.{Answer, plan}
 use Rattle.round_costs.specs.Costs.{Answer as RoundAnswer, Chosen, Ended, TurnedBack, roundCosts}
 use Rattle.planner.specs.AnswerBounds.{Within, plan-within}

@@ -10,11 +10,12 @@ use Rattle.hex.specs.Lines.{hexLineOf}
 use Rattle.hex.specs.Decoding.{Room, behind, Passes}
 use Rattle.hex.specs.declared.Found.{Found}
 use Rattle.hex.specs.declared.Found.the-variants.{At, Nothing}
-use Rattle.first_reading.specs.declared.first.Text.{Text}
+use Rattle.frame_tests.specs.declared.tests.Text.{Text}
 use Rattle.first_reading.specs.declared.first.Stand.{Stand}
 use Rattle.first_reading.specs.declared.first.Reading.the-variants.{Accepted, Refused}
 use Rattle.fields.specs.Limits.{textMost}
-use Rattle.first_reading.specs.First.{counted, frameFault, SheetRoom, LinesLaid}
+use Rattle.frame_tests.specs.Faults.{counted, frameFault}
+use Rattle.first_reading.specs.First.{SheetRoom, LinesLaid}
 use Rattle.first_reading.specs.Stands.{atStart, endedAt, byFault, afterFrame, afterLine, readingOf, Few, LineRoom}
 use Rattle.first_reading.proofs.FirstLaws.{Seen, seen-starts, decode-room, lines-few, count-few, none-refused, behind-half, end-within, end-few, found-from, found-within, frame-long, line-refused, next-seen, all-passed}
 

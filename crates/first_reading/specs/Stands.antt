@@ -4,8 +4,8 @@ use mathlib.Core.List.{List}
 use lib.ListN.{length, getD, take, drop}
 use lib.Dec.{eqb}
 use Rattle.base.specs.Choose.{pick}
-use Rattle.first_reading.specs.First.{counted, frameFault}
-use Rattle.first_reading.specs.declared.first.Text.{Text}
+use Rattle.frame_tests.specs.Faults.{counted, frameFault}
+use Rattle.frame_tests.specs.declared.tests.Text.{Text}
 use Rattle.first_reading.specs.declared.first.Stand.{Stand}
 use Rattle.first_reading.specs.declared.first.Reading.{Reading}
 use Rattle.first_reading.specs.declared.first.Reading.the-variants.{Accepted, Refused}

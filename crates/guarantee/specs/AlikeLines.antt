@@ -9,7 +9,8 @@ use native.Mathlib.Omega.{arith}
 use lib.ListN.{getD}
 use Rattle.base.specs.Choose.{pick}
 use Rattle.hex.specs.Digits.{bytesOf}
-use Rattle.first_reading.specs.First.{framesOf, firstLine, isAtom}
+use Rattle.frame_tests.specs.Faults.{isAtom}
+use Rattle.first_reading.specs.First.{framesOf, firstLine}
 use Rattle.model.specs.Atoms.{Atom}
 use Rattle.cost.specs.QueryAtoms.{atomOfFrame, atomsIn}
 use Rattle.guarantee.specs.Terms.{Alike}

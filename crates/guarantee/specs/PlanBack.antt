@@ -8,7 +8,7 @@ use lib.ListN.{length, getD}
 use Rattle.hex.specs.Digits.{bytesOf, digitValue, hexDigit}
 use Rattle.hex.specs.Bytes.{digit-read}
 use Rattle.first_reading.specs.First.{firstLine}
-use Rattle.first_reading.specs.declared.first.Text.the-variants.{Query, Plan}
+use Rattle.frame_tests.specs.declared.tests.Text.the-variants.{Query, Plan}
 use Rattle.first_reading.specs.declared.first.Reading.the-variants.{Accepted}
 use Rattle.reading.specs.Second.{reading}
 use Rattle.reading_facts.specs.Whole.{query-within}

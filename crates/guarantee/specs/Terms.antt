@@ -7,7 +7,7 @@ use mathlib.Core.List.{List, [], _∷_, _++_, map, flatMap, List·Memᴰ}
 use lib.ListN.{length, drop}
 use Rattle.kinds.specs.Kinds.{table}
 use Rattle.first_reading.specs.First.{framesOf}
-use Rattle.first_reading.specs.declared.first.Text.the-variants.{Table}
+use Rattle.frame_tests.specs.declared.tests.Text.the-variants.{Table}
 use Rattle.reading.specs.Second.{reading}
 use Rattle.model.specs.Atoms.{Atom, Plain, Lit, LitBind, Eq, EqGlobal, Pred, Variadic}
 use Rattle.model.specs.Refusing.{isRun}

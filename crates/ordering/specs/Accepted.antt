@@ -14,11 +14,12 @@ use Rattle.fields.specs.Limits.{atomsMost, itemsMost, kMost, bootstrapMost}
 use Rattle.fields.specs.Fields.{fieldPasses, fieldFits, noCounts}
 use Rattle.kinds.specs.Kinds.{kinds, kindAt, itemsOf}
 use Rattle.frames.specs.Frames.{kindOf, framePasses}
-use Rattle.first_reading.specs.First.{framesOf, isAtom}
+use Rattle.frame_tests.specs.Faults.{isAtom}
+use Rattle.first_reading.specs.First.{framesOf}
 use Rattle.fields.specs.declared.field.Counts.{Counts}
 use Rattle.fields.specs.declared.field.Field.{Field}
 use Rattle.fields.specs.declared.field.Test.the-variants.{Limits}
-use Rattle.first_reading.specs.declared.first.Text.the-variants.{Query}
+use Rattle.frame_tests.specs.declared.tests.Text.the-variants.{Query}
 use Rattle.first_reading.specs.declared.first.Reading.the-variants.{Accepted}
 use Rattle.indexing.specs.Keys.{begins, find, isFound}
 use Rattle.reading.specs.Second.{countsOf, reading}

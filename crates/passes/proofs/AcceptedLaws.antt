@@ -8,7 +8,7 @@ use lib.Dec.{eqb, ltb}
 use lib.ListN.{length, getD, replicate}
 use borrow.Author.Tests.{ltb-true, lt-ltb}
 use Rattle.base.specs.Choose.{pick, both-hold}
-use Rattle.first_reading.specs.First.{isAtom}
+use Rattle.frame_tests.specs.Faults.{isAtom}
 use Rattle.first_reading.specs.declared.first.Reading.{Reading}
 use Rattle.first_reading.specs.declared.first.Reading.the-variants.{Accepted}
 use Rattle.reading.specs.Formed.{or-passes}

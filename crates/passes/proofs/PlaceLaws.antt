@@ -11,7 +11,7 @@ use lib.Seq.{drop-cons, getD-set-same, getD-set-other}
 use borrow.Author.Tests.{le-leb, lt-leb}
 use Rattle.base.specs.Choose.{pick}
 use Rattle.frames.specs.Sheet.{frameAt, framesIn}
-use Rattle.first_reading.specs.First.{isAtom}
+use Rattle.frame_tests.specs.Faults.{isAtom}
 use Rattle.frames.proofs.SheetLaws.{frames-end, frame-some, frame-within, frames-step}
 use Rattle.model.specs.Bound.{most}
 use Rattle.cost.specs.QueryAtoms.{atomFrames}

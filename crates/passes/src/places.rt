@@ -3,7 +3,7 @@ ghost use mathlib.Core.Path.{_≡_};
 ghost use mathlib.Core.Bool.{true};
 ghost use Prim.Native.Nat.{_+_, _<_, _≤_};
 ghost use lib.ListN.{length, getD};
-ghost use Rattle.first_reading.specs.First.{isAtom};
+ghost use Rattle.frame_tests.specs.Faults.{isAtom};
 ghost use Rattle.frames.specs.Sheet.{framesIn};
 ghost use Rattle.model.specs.Bound.{most};
 ghost use Rattle.cost.specs.QueryAtoms.{atomFrames};

@@ -15,7 +15,7 @@ use Rattle.fields.specs.Limits.{itemsMost}
 use Rattle.fields.specs.Fields.{width, fieldPasses, fieldFits, fieldIn, operandIn, noCounts}
 use Rattle.kinds.specs.Kinds.{kinds, kindAt, fixedLength}
 use Rattle.frames.specs.Frames.{kindOf, passAll, itemFields, framePasses}
-use Rattle.first_reading.specs.First.{isAtom}
+use Rattle.frame_tests.specs.Faults.{isAtom}
 use Rattle.fields.specs.declared.field.Field.{Field}
 use Rattle.fields.specs.declared.field.Field.the-variants.{Operand as OperandField, Element as ElementField, Atom as AtomField}
 use Rattle.fields.specs.declared.field.Counts.{Counts}

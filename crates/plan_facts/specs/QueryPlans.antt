@@ -11,9 +11,10 @@ use lib.Pow.{areBytes}
 use Rattle.base.specs.Choose.{pick, is-true}
 use Rattle.hex.specs.Digits.{bytesOf}
 use Rattle.fields.specs.Limits.{atomsMost}
-use Rattle.first_reading.specs.First.{framesOf, firstLine, isAtom}
+use Rattle.frame_tests.specs.Faults.{isAtom}
+use Rattle.first_reading.specs.First.{framesOf, firstLine}
 use Rattle.fields.specs.declared.field.Counts.{Counts}
-use Rattle.first_reading.specs.declared.first.Text.the-variants.{Query, Plan}
+use Rattle.frame_tests.specs.declared.tests.Text.the-variants.{Query, Plan}
 use Rattle.first_reading.specs.declared.first.Reading.the-variants.{Accepted}
 use Rattle.reading.specs.Second.{countsOf, reading}
 use Rattle.reading_facts.specs.Whole.{countFrom, accepted, query-within, frame-bytes}

@@ -11,7 +11,7 @@ use lib.Ieee.{Float}
 use borrow.Author.Tests.{lt-ltb, le-ltb, leb-true, leb-false, le-leb, not-true, not-false}
 use Rattle.frames.specs.Sheet.{frameAt, framesIn}
 use Rattle.first_reading.specs.First.{Sheet}
-use Rattle.first_reading.specs.declared.first.Text.the-variants.{Query}
+use Rattle.frame_tests.specs.declared.tests.Text.the-variants.{Query}
 use Rattle.first_reading.specs.declared.first.Reading.{Reading}
 use Rattle.first_reading.specs.declared.first.Reading.the-variants.{Accepted, Refused}
 use Rattle.reading.specs.Second.{countsIn, reading}

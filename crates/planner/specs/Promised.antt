@@ -5,7 +5,7 @@ use mathlib.Core.Bool.{true}
 use mathlib.Core.List.{List, []}
 use native.Mathlib.Omega.{arith}
 use Rattle.first_reading.specs.First.{framesOf}
-use Rattle.first_reading.specs.declared.first.Text.the-variants.{Query}
+use Rattle.frame_tests.specs.declared.tests.Text.the-variants.{Query}
 use Rattle.first_reading.specs.declared.first.Reading.the-variants.{Accepted}
 use Rattle.reading.specs.Second.{reading}
 use Rattle.model.specs.Reading.{boundFirst}

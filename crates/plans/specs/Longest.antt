@@ -12,7 +12,7 @@ use Rattle.base.specs.Choose.{pick}
 use Rattle.fields.specs.Limits.{variablesMost, globalsMost, literalsMost, atomsMost}
 use Rattle.first_reading.specs.First.{framesOf}
 use Rattle.fields.specs.declared.field.Counts.{Counts}
-use Rattle.first_reading.specs.declared.first.Text.the-variants.{Plan}
+use Rattle.frame_tests.specs.declared.tests.Text.the-variants.{Plan}
 use Rattle.first_reading.specs.declared.first.Reading.the-variants.{Accepted}
 use Rattle.reading.specs.Second.{reading}
 use Rattle.model.specs.Tabulate.{tabulate-length}

@@ -14,9 +14,10 @@ use Rattle.fields.specs.Limits.{textMost, variablesMost, globalsMost, literalsM
 use Rattle.fields.specs.Fields.{fieldPasses, fieldFits, fieldIn, fieldReal, noCounts}
 use Rattle.kinds.specs.Kinds.{kinds, kindAt}
 use Rattle.frames.specs.Frames.{frameLength, passAll}
-use Rattle.first_reading.specs.First.{framesOf, frameFault, lineFault, firstLines, firstFrom, firstLine, stepsSay, stepsRight, firstReading}
+use Rattle.frame_tests.specs.Faults.{frameFault}
+use Rattle.first_reading.specs.First.{framesOf, lineFault, firstLines, firstFrom, firstLine, stepsSay, stepsRight, firstReading}
 use Rattle.fields.specs.declared.field.Counts.{Counts}
-use Rattle.first_reading.specs.declared.first.Text.the-variants.{Plan}
+use Rattle.frame_tests.specs.declared.tests.Text.the-variants.{Plan}
 use Rattle.first_reading.specs.declared.first.Reading.{Reading}
 use Rattle.first_reading.specs.declared.first.Reading.the-variants.{Accepted}
 use Rattle.indexing.specs.Keys.{keyGiven}

@@ -14,11 +14,11 @@ use Rattle.fields.specs.Limits.{itemsMost, lookupsMost}
 use Rattle.fields.specs.Fields.{fieldFits, fieldIn, fieldReal, fieldPasses, operandIn, lookupFits, lookupIn, endsFit, restFits}
 use Rattle.kinds.specs.Kinds.{kinds, kindAt}
 use Rattle.frames.specs.Frames.{frameLength, passAll, framePasses}
-use Rattle.first_reading.specs.First.{belongs}
+use Rattle.frame_tests.specs.Faults.{belongs}
 use Rattle.fields.specs.declared.field.Field.the-variants.{Operand as OperandField, Element as ElementField, Lookup as LookupField}
 use Rattle.fields.specs.declared.field.Counts.{Counts}
 use Rattle.fields.specs.declared.field.Test.the-variants.{Limits, Range, Reals}
-use Rattle.first_reading.specs.declared.first.Text.the-variants.{Plan}
+use Rattle.frame_tests.specs.declared.tests.Text.the-variants.{Plan}
 use Rattle.indexing.specs.Keys.{keyGiven}
 use Rattle.model.specs.Bools.{both, first, second}
 use Rattle.model.specs.Atoms.{Operand, local, global, A, AC, ACI, Lookup, ByOp, ByChildPos, ByRepr, ByContains, Step, Join, ExtractChild, CheckChildEq, CheckEq, CheckEqGlobal, BindGlobal, CopyBinding, Expand, ExtractLitVal, CheckLit, CheckPred}

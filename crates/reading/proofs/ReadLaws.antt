@@ -5,7 +5,7 @@ use mathlib.Core.List.{List}
 use lib.ListN.{length, take}
 use lib.Seq.{length-take-le}
 use Rattle.first_reading.specs.First.{sheetSize, Sheet}
-use Rattle.first_reading.specs.declared.first.Text.{Text}
+use Rattle.frame_tests.specs.declared.tests.Text.{Text}
 use Rattle.first_reading.specs.declared.first.Reading.{Reading}
 use Rattle.first_reading.specs.declared.first.Reading.the-variants.{Accepted}
 use Rattle.indexing.specs.Index.{Indexed}

@@ -13,11 +13,12 @@ use Rattle.hex.specs.Lines.{split, isHex}
 use Rattle.fields.specs.Limits.{textMost}
 use Rattle.fields.specs.Fields.{fieldPasses, noCounts}
 use Rattle.frames.specs.Frames.{framePasses, frameLength}
-use Rattle.first_reading.specs.First.{framesOf, belongs, hasRoom, counted, frameFault, lineFault, orElse, firstLines, firstFrom, stepsSay, stepsRight}
+use Rattle.frame_tests.specs.Faults.{belongs, hasRoom, counted, frameFault}
+use Rattle.first_reading.specs.First.{framesOf, lineFault, orElse, firstLines, firstFrom, stepsSay, stepsRight}
 use Rattle.fields.specs.declared.field.Counts.{Counts}
 use Rattle.fields.specs.declared.field.Test.the-variants.{Limits, Range, Reals}
-use Rattle.first_reading.specs.declared.first.Text.{Text}
-use Rattle.first_reading.specs.declared.first.Text.the-variants.{Query, Plan, Table}
+use Rattle.frame_tests.specs.declared.tests.Text.{Text}
+use Rattle.frame_tests.specs.declared.tests.Text.the-variants.{Query, Plan, Table}
 use Rattle.first_reading.specs.declared.first.Reading.{Reading}
 use Rattle.first_reading.specs.declared.first.Reading.the-variants.{Accepted, Refused}
 use Rattle.indexing.specs.Keys.{keyGiven}

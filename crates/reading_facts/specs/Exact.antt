@@ -14,10 +14,11 @@ use Rattle.hex.specs.Digits.{bytesOf}
 use Rattle.hex.specs.Lines.{split, isHex}
 use Rattle.fields.specs.Limits.{textMost}
 use Rattle.frames.specs.Frames.{kindOf}
-use Rattle.first_reading.specs.First.{framesOf, isCounted, countedMost, counted, hasRoom, lineFault, firstLines, firstFrom, stepsSay, stepsRight, firstReading}
+use Rattle.frame_tests.specs.Faults.{isCounted, countedMost, counted, hasRoom}
+use Rattle.first_reading.specs.First.{framesOf, lineFault, firstLines, firstFrom, stepsSay, stepsRight, firstReading}
 use Rattle.fields.specs.declared.field.Counts.{Counts}
-use Rattle.first_reading.specs.declared.first.Text.{Text}
-use Rattle.first_reading.specs.declared.first.Text.the-variants.{Query, Plan, Table}
+use Rattle.frame_tests.specs.declared.tests.Text.{Text}
+use Rattle.frame_tests.specs.declared.tests.Text.the-variants.{Query, Plan, Table}
 use Rattle.first_reading.specs.declared.first.Reading.{Reading}
 use Rattle.first_reading.specs.declared.first.Reading.the-variants.{Accepted}
 use Rattle.indexing.specs.Keys.{begins, find, isFound, keyOf, keyGiven}

@@ -7,8 +7,8 @@ use Rattle.hex.specs.Lines.{split}
 use Rattle.fields.specs.Fields.{fieldPasses}
 use Rattle.kinds.specs.Kinds.{kindAt}
 use Rattle.frames.specs.Frames.{passAll}
-use Rattle.first_reading.specs.declared.first.Text.{Text}
-use Rattle.first_reading.specs.declared.first.Text.the-variants.{Query, Plan, Table}
+use Rattle.frame_tests.specs.declared.tests.Text.{Text}
+use Rattle.frame_tests.specs.declared.tests.Text.the-variants.{Query, Plan, Table}
 use Rattle.first_reading.specs.declared.first.Reading.{Reading}
 use Rattle.first_reading.specs.declared.first.Reading.the-variants.{Accepted, Refused}
 use Rattle.reading.specs.Second.{reading}

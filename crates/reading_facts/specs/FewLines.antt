@@ -11,10 +11,11 @@ use Rattle.base.specs.Choose.{pick-elim}
 use Rattle.hex.specs.Digits.{bytesOf}
 use Rattle.hex.specs.Lines.{Split, split, withLine, withByte, isHex}
 use Rattle.fields.specs.Limits.{textMost}
-use Rattle.first_reading.specs.First.{framesOf, counted, lineFault, orElse, firstLines, firstFrom, stepsSay, stepsRight}
+use Rattle.frame_tests.specs.Faults.{counted}
+use Rattle.first_reading.specs.First.{framesOf, lineFault, orElse, firstLines, firstFrom, stepsSay, stepsRight}
 use Rattle.fields.specs.declared.field.Counts.{Counts}
-use Rattle.first_reading.specs.declared.first.Text.{Text}
-use Rattle.first_reading.specs.declared.first.Text.the-variants.{Query, Plan, Table}
+use Rattle.frame_tests.specs.declared.tests.Text.{Text}
+use Rattle.frame_tests.specs.declared.tests.Text.the-variants.{Query, Plan, Table}
 use Rattle.first_reading.specs.declared.first.Reading.{Reading}
 use Rattle.first_reading.specs.declared.first.Reading.the-variants.{Accepted, Refused}
 use Rattle.reading.specs.Second.{countsOf, secondFault, secondFrom, second, reading}

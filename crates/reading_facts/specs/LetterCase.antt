@@ -8,9 +8,10 @@ use lib.Dec.{eqb}
 use Rattle.hex.specs.Digits.{bytesOf}
 use Rattle.hex.specs.Lines.{split, endOf}
 use Rattle.hex.specs.Case.{lowered, lower, bytes-lower, length-lower, hex-lower, end-lowered, split-lower}
-use Rattle.first_reading.specs.First.{framesOf, counted, lineFault, firstLines, firstFrom, firstLine, stepsRight, firstReading}
-use Rattle.first_reading.specs.declared.first.Text.{Text}
-use Rattle.first_reading.specs.declared.first.Text.the-variants.{Query, Plan, Table}
+use Rattle.frame_tests.specs.Faults.{counted}
+use Rattle.first_reading.specs.First.{framesOf, lineFault, firstLines, firstFrom, firstLine, stepsRight, firstReading}
+use Rattle.frame_tests.specs.declared.tests.Text.{Text}
+use Rattle.frame_tests.specs.declared.tests.Text.the-variants.{Query, Plan, Table}
 use Rattle.first_reading.specs.declared.first.Reading.{Reading}
 use Rattle.first_reading.specs.declared.first.Reading.the-variants.{Accepted, Refused}
 use Rattle.reading.specs.Second.{countsOf, second, reading}

@@ -9,7 +9,7 @@ use lib.ListN.{length, getD}
 use Rattle.base.specs.Choose.{pick}
 use Rattle.frames.specs.Frames.{kindOf}
 use Rattle.first_reading.specs.First.{framesOf}
-use Rattle.first_reading.specs.declared.first.Text.{Text}
+use Rattle.frame_tests.specs.declared.tests.Text.{Text}
 use Rattle.first_reading.specs.declared.first.Reading.the-variants.{Accepted}
 use Rattle.indexing.specs.Keys.{begins, find, isFound, keyOf}
 use Rattle.reading.specs.Second.{reading}

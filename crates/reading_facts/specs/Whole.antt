@@ -20,11 +20,12 @@ use Rattle.fields.specs.Limits.{textMost, variablesMost, globalsMost, literalsM
 use Rattle.fields.specs.Fields.{fieldPasses, noCounts}
 use Rattle.kinds.specs.Kinds.{kindAt, query, plan}
 use Rattle.frames.specs.Frames.{kindOf, passAll, framePasses}
-use Rattle.first_reading.specs.First.{framesOf, isHeader, belongs, countedMost, firstLine, stepsSay, firstReading}
+use Rattle.frame_tests.specs.Faults.{isHeader, belongs, countedMost}
+use Rattle.first_reading.specs.First.{framesOf, firstLine, stepsSay, firstReading}
 use Rattle.fields.specs.declared.field.Counts.{Counts}
 use Rattle.fields.specs.declared.field.Test.the-variants.{Limits, Range, Reals}
-use Rattle.first_reading.specs.declared.first.Text.{Text}
-use Rattle.first_reading.specs.declared.first.Text.the-variants.{Query, Plan, Table}
+use Rattle.frame_tests.specs.declared.tests.Text.{Text}
+use Rattle.frame_tests.specs.declared.tests.Text.the-variants.{Query, Plan, Table}
 use Rattle.first_reading.specs.declared.first.Reading.{Reading}
 use Rattle.first_reading.specs.declared.first.Reading.the-variants.{Accepted, Refused}
 use Rattle.indexing.specs.Keys.{begins, find, isFound, keyOf, keyGiven}

@@ -9,7 +9,7 @@ use lib.Dec.{T, ltb}
 use lib.ListN.{length, getD, drop, drop-of-length-le}
 use lib.Seq.{drop-cons}
 use Rattle.frames.specs.Sheet.{frameAt}
-use Rattle.first_reading.specs.First.{isAtom}
+use Rattle.frame_tests.specs.Faults.{isAtom}
 use Rattle.kinds.specs.Kinds.{kinds, kindAt}
 use Rattle.model.specs.Atoms.{Operand, Atom, Eq}
 use Rattle.model.specs.Bound.{Bound, has, most}

@@ -10,7 +10,7 @@ ghost use Rattle.hex.specs.Digits.{bytesOf};
 use entries::run::run;
 use exports::some::rimdovek_some_match;
 use first_reading::first::Reading;
-use first_reading::first::Text;
+use frame_tests::tests::Text;
 use planner::entry::PLAN_MOST;
 use planner::entry::plan;
 use printing::print_planned;

@@ -11,7 +11,7 @@ use borrow.Author.Tests.{not-true, not-false}
 use Rattle.base.specs.Lists.{any-default}
 use Rattle.frames.specs.Sheet.{framesIn}
 use Rattle.first_reading.specs.First.{Sheet}
-use Rattle.first_reading.specs.declared.first.Text.the-variants.{Query}
+use Rattle.frame_tests.specs.declared.tests.Text.the-variants.{Query}
 use Rattle.first_reading.specs.declared.first.Reading.{Reading}
 use Rattle.first_reading.specs.declared.first.Reading.the-variants.{Accepted, Refused}
 use Rattle.reading.specs.Second.{reading}

@@ -14,8 +14,9 @@ use Rattle.base.specs.Choose.{pick, is-true}
 use Rattle.hex.specs.Digits.{shortAt}
 use Rattle.kinds.specs.Kinds.{kinds, kindAt}
 use Rattle.frames.specs.Frames.{frameLength}
-use Rattle.first_reading.specs.First.{framesOf, isRow}
-use Rattle.first_reading.specs.declared.first.Text.the-variants.{Table}
+use Rattle.frame_tests.specs.Faults.{isRow}
+use Rattle.first_reading.specs.First.{framesOf}
+use Rattle.frame_tests.specs.declared.tests.Text.the-variants.{Table}
 use Rattle.first_reading.specs.declared.first.Reading.the-variants.{Accepted}
 use Rattle.indexing.specs.Keys.{keyOf}
 use Rattle.reading.specs.Second.{reading}

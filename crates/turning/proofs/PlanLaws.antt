@@ -19,7 +19,7 @@ use Rattle.frames.specs.Frames.{passAll, framePasses}
 use Rattle.first_reading.specs.First.{framesOf}
 use Rattle.fields.specs.declared.field.Counts.{Counts}
 use Rattle.fields.specs.declared.field.Test.the-variants.{Range}
-use Rattle.first_reading.specs.declared.first.Text.the-variants.{Plan}
+use Rattle.frame_tests.specs.declared.tests.Text.the-variants.{Plan}
 use Rattle.reading.specs.Second.{countsOf}
 use Rattle.reading.specs.Walk.{taken-none, taken-line, taken-step, frames-end}
 use Rattle.reading_facts.specs.Whole.{Whole, accepted, Headed, headed}

@@ -17,7 +17,8 @@ use Rattle.hex.specs.Bytes.{byte-at, digits-bytes}
 use Rattle.hex.specs.Lines.{lineAt}
 use Rattle.hex.specs.Cuts.{Line}
 use Rattle.kinds.specs.Kinds.{table}
-use Rattle.first_reading.specs.First.{framesOf, isRow}
+use Rattle.frame_tests.specs.Faults.{isRow}
+use Rattle.first_reading.specs.First.{framesOf}
 use Rattle.reading.specs.Walk.{taken-none, taken-line, taken-step, frames-end}
 use Rattle.model.specs.Atoms.{Row, Node, Literal, opOf}
 use Rattle.model.specs.Refusing.{allRows}

@@ -9,8 +9,8 @@ use lib.Seq.{length-take-le}
 use Rattle.fields.specs.Limits.{globalsMost}
 use Rattle.kinds.specs.Kinds.{table}
 use Rattle.first_reading.specs.First.{sheetSize, Sheet}
-use Rattle.first_reading.specs.declared.first.Text.{Text}
-use Rattle.first_reading.specs.declared.first.Text.the-variants.{Plan, Table as TableText}
+use Rattle.frame_tests.specs.declared.tests.Text.{Text}
+use Rattle.frame_tests.specs.declared.tests.Text.the-variants.{Plan, Table as TableText}
 use Rattle.first_reading.specs.declared.first.Reading.{Reading}
 use Rattle.first_reading.specs.declared.first.Reading.the-variants.{Accepted, Refused}
 use Rattle.reading.specs.Second.{reading}

@@ -9,7 +9,7 @@ use Rattle.base.specs.Choose.{pick}
 use Rattle.kinds.specs.Kinds.{table}
 use Rattle.fields.specs.Limits.{variablesMost, globalsMost}
 use Rattle.first_reading.specs.First.{framesOf, Sheet}
-use Rattle.first_reading.specs.declared.first.Text.the-variants.{Plan, Table as TableText}
+use Rattle.frame_tests.specs.declared.tests.Text.the-variants.{Plan, Table as TableText}
 use Rattle.first_reading.specs.declared.first.Reading.the-variants.{Accepted}
 use Rattle.reading.specs.Second.{reading}
 use Rattle.model.specs.Atoms.{Table}

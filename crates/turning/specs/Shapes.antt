@@ -6,7 +6,8 @@ use mathlib.Core.List.{List, []}
 use lib.ListN.{length, getD, set}
 use lib.Dec.{eqb}
 use Rattle.base.specs.Choose.{pick}
-use Rattle.first_reading.specs.First.{framesOf, isRow}
+use Rattle.frame_tests.specs.Faults.{isRow}
+use Rattle.first_reading.specs.First.{framesOf}
 use Rattle.model.specs.Atoms.{Row, Node, Literal}
 use Rattle.model.specs.Refusing.{allRows}
 use Rattle.running.specs.Tables.{rowOf, rowsIn}

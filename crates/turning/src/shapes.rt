@@ -4,7 +4,7 @@ ghost use Prim.Native.Nat.{_+_, _<_};
 ghost use lib.Dec.{eqb};
 ghost use lib.ListN.{length, replicate};
 ghost use Rattle.hex.specs.Digits.{bytesOf};
-ghost use Rattle.first_reading.specs.First.{isRow};
+ghost use Rattle.frame_tests.specs.Faults.{isRow};
 ghost use Rattle.running.specs.Tables.{rowOf};
 ghost use Rattle.turning.specs.Shapes.{shapeOf, fitsShape, RowNoted, TableNoted};
 use fields::field::wide;

@@ -8,7 +8,7 @@ use lib.Dec.{eqb, ltb}
 use lib.ListN.{length, getD}
 use borrow.Author.Tests.{lt-ltb, le-ltb, eq-eqb, ne-eqb}
 use Rattle.base.specs.Choose.{pick}
-use Rattle.first_reading.specs.First.{isAtom}
+use Rattle.frame_tests.specs.Faults.{isAtom}
 use Rattle.kinds.specs.Kinds.{kinds, kindAt, fixedLength, itemsOf}
 use Rattle.frames.specs.Frames.{kindOf}
 use Rattle.cost.specs.Operands.{operands-length}

@@ -67,13 +67,13 @@ use Rattle.hex.proofs.reader.position.Symbol.{name as #hex·reader·position}
 use Rattle.hex.proofs.reader.position.Met as place-thm
 use Rattle.first_reading.specs.First.{SheetRoom, LinesLaid}
 use Rattle.first_reading.specs.Stands.{atStart, afterLine, readingOf, LineRoom}
-use Rattle.first_reading.specs.declared.first.Text.{Text}
+use Rattle.frame_tests.specs.declared.tests.Text.{Text}
 use Rattle.first_reading.specs.declared.first.Stand.{Stand}
 use Rattle.first_reading.specs.declared.first.Reading.{Reading}
 use Rattle.first_reading.proofs.Lending.{Shared, lends-mut, mut-back, lends-shared, shared-back}
 use Rattle.first_reading.proofs.StandLaws.{Walked, Moves, walked-starts, walked-room, walked-few, walked-line, walked-moves, walked-done}
-use Rattle.first_reading.proofs.first.Text as Tx
-use Rattle.first_reading.proofs.first.Text.Laws as Tx′
+use Rattle.frame_tests.proofs.tests.Text as Tx
+use Rattle.frame_tests.proofs.tests.Text.Laws as Tx′
 use Rattle.first_reading.proofs.first.Stand as St
 use Rattle.first_reading.proofs.first.Stand.Laws as St′
 use Rattle.first_reading.proofs.first.Reading as Re

@@ -1,8 +1,8 @@
--- `first_reading::first::belongs` meets its contract.
+-- `frame_tests::tests::belongs` meets its contract.
 use borrow.Author.Tests.{eq-eqb, ne-eqb}
 use borrow.Author.Needs.{needs}
-use Rattle.first_reading.proofs.first.belongs.Statement.{statement}
-use Rattle.first_reading.proofs.first.belongs.Tie as tie
+use Rattle.frame_tests.proofs.tests.belongs.Statement.{statement}
+use Rattle.frame_tests.proofs.tests.belongs.Tie as tie
 
 text-number-requires : tie.Need-text-number-requires
 text-number-requires c κs = search needs

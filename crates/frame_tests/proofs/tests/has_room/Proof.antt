@@ -1,7 +1,7 @@
--- `first_reading::first::has_room` meets its contract.
+-- `frame_tests::tests::has_room` meets its contract.
 use borrow.Author.Needs.{needs}
-use Rattle.first_reading.proofs.first.has_room.Statement.{statement}
-use Rattle.first_reading.proofs.first.has_room.Tie as tie
+use Rattle.frame_tests.proofs.tests.has_room.Statement.{statement}
+use Rattle.frame_tests.proofs.tests.has_room.Tie as tie
 
 is-counted-requires : tie.Need-is-counted-requires
 is-counted-requires c κs = search needs

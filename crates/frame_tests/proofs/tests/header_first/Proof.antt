@@ -1,7 +1,7 @@
--- `first_reading::first::header_first` meets its contract.
+-- `frame_tests::tests::header_first` meets its contract.
 use borrow.Author.Needs.{needs}
-use Rattle.first_reading.proofs.first.header_first.Statement.{statement}
-use Rattle.first_reading.proofs.first.header_first.Tie as tie
+use Rattle.frame_tests.proofs.tests.header_first.Statement.{statement}
+use Rattle.frame_tests.proofs.tests.header_first.Tie as tie
 
 is-header-requires : tie.Need-is-header-requires
 is-header-requires c κs = search needs

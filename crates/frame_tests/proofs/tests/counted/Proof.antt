@@ -1,7 +1,7 @@
 -- `cost::memo::counted` meets its contract: by what the measurement is.
 use borrow.Author.Needs.{needs}
-use Rattle.first_reading.proofs.first.counted.Statement.{statement}
-use Rattle.first_reading.proofs.first.counted.Tie as tie
+use Rattle.frame_tests.proofs.tests.counted.Statement.{statement}
+use Rattle.frame_tests.proofs.tests.counted.Tie as tie
 
 is-counted-requires : tie.Need-is-counted-requires
 is-counted-requires c κs = search needs

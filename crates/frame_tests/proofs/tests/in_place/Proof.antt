@@ -1,7 +1,7 @@
--- `first_reading::first::in_place` meets its contract.
+-- `frame_tests::tests::in_place` meets its contract.
 use borrow.Author.Needs.{needs}
-use Rattle.first_reading.proofs.first.in_place.Statement.{statement}
-use Rattle.first_reading.proofs.first.in_place.Tie as tie
+use Rattle.frame_tests.proofs.tests.in_place.Statement.{statement}
+use Rattle.frame_tests.proofs.tests.in_place.Tie as tie
 
 enum-told : tie.Need-enum-told
 enum-told c = search needs

@@ -1,11 +1,11 @@
--- `first_reading::first::frame_fault` meets its contract.
+-- `frame_tests::tests::frame_fault` meets its contract.
 use mathlib.Core.Path.{_∙_}
-use Rattle.first_reading.proofs.FirstLaws.{fault-2, fault-3, fault-4, fault-none, fault-full}
+use Rattle.frame_tests.proofs.FaultLaws.{fault-2, fault-3, fault-4, fault-none, fault-full}
 use Rattle.frames.proofs.FrameLaws.{tests-here}
 use Rattle.kinds.proofs.KindLaws.{tests-text}
 use borrow.Author.Needs.{needs}
-use Rattle.first_reading.proofs.first.frame_fault.Statement.{statement}
-use Rattle.first_reading.proofs.first.frame_fault.Tie as tie
+use Rattle.frame_tests.proofs.tests.frame_fault.Statement.{statement}
+use Rattle.frame_tests.proofs.tests.frame_fault.Tie as tie
 
 byte-at-requires : tie.Need-byte-at-requires
 byte-at-requires c κs = search needs

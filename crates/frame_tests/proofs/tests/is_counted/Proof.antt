@@ -1,7 +1,7 @@
--- `first_reading::first::is_counted` meets its contract.
+-- `frame_tests::tests::is_counted` meets its contract.
 use borrow.Author.Needs.{needs}
-use Rattle.first_reading.proofs.first.is_counted.Statement.{statement}
-use Rattle.first_reading.proofs.first.is_counted.Tie as tie
+use Rattle.frame_tests.proofs.tests.is_counted.Statement.{statement}
+use Rattle.frame_tests.proofs.tests.is_counted.Tie as tie
 
 enum-told : tie.Need-enum-told
 enum-told c = search needs
