@@ -14,9 +14,6 @@ large-buffer-requires c κs = search needs
 slice-aggregate-run : tie.Need-slice-aggregate-run
 slice-aggregate-run c = sym (length-take-le _ _ (c .before .before .if1 .left))
 
-allowance-requires : tie.Need-allowance-requires
-allowance-requires c κs = search needs
-
 slice-aggregate-run-2 : tie.Need-slice-aggregate-run-2
 slice-aggregate-run-2 c = search needs
 
@@ -39,7 +36,6 @@ run-over-spec =
     returns
     large-buffer-requires
     slice-aggregate-run
-    allowance-requires
     slice-aggregate-run-2
     run-requires
     slice-aggregate-print-run
