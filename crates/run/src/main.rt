@@ -1,6 +1,7 @@
 // Runs the plan text on standard input over the table in the file `table` (an empty one where it is missing). The argument, a decimal number
-// below 2^64, is the allowance; without one it is 1,000,000; any other argument gets a line of usage. Prints the match lines, then the line 51 0000 status(1) tries(8) matches(4) with
-// status 00 done, 01 spent, 02 full; for refused texts the line ff number line(2) text, text 01 the plan, 02 the table.
+// below 2^64, is the allowance; without one it is 1,000,000; any other argument gets a line of usage. Prints the match lines, then the line
+// 51 0000 status(1) tries(8) matches(4) with status 00 done, 01 spent, 02 full; for refused texts the line ff number line(2) text, text 01 the
+// plan, 02 the table.
 ghost use Prim.Native.Nat.{_≤_};
 ghost use lib.ListN.{length};
 use arguments::Argument;
