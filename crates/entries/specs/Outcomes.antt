@@ -10,13 +10,13 @@ use Rattle.runner.specs.Entries.{answerOf}
 use Rattle.runner.specs.declared.run.Tally.{Tally}
 use Rattle.runner.specs.declared.run.Ran.{Ran as RanAs}
 use Rattle.entries.specs.declared.run.Outcome.{Outcome as OutcomeAs}
-use Rattle.entries.specs.declared.run.Outcome.the-variants.{Refused as TurnedBack, Ran as Went}
+use Rattle.entries.specs.declared.run.Outcome.the-variants.{Refused as Invalid, Ran as Went}
 use Rattle.entries.specs.declared.some.Reply.{Reply as ReplyAs}
 
 -- ---- the run
 
 abbrev pub outcomeOf : OutcomeAs → Outcome
-outcomeOf (TurnedBack k x l) = Refused k x l
+outcomeOf (Invalid k x l) = Refused k x l
 outcomeOf (Went s tries matches written) = Ran (statusOf s) tries matches written
 
 abbrev pub resultOf : OutcomeAs → List ℕ → Result

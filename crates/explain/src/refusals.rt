@@ -1,4 +1,4 @@
-// Why a text is turned back, in document 01's words.
+// Why a text is refused, in document 01's words.
 use super::words::say;
 use super::words::say_number;
 use fields::field::wide;

@@ -2,10 +2,10 @@
 use Prim.Native.Nat.{ℕ}
 use mathlib.Core.Bool.{true, false}
 use Rattle.packing.specs.Packed.{packedRefusal, packedChoice}
-use Rattle.round_costs.specs.Costs.{Answer, Chosen, Ended, TurnedBack}
+use Rattle.round_costs.specs.Costs.{Answer, Chosen, Ended, Invalid}
 
 -- the atom chosen, or that no atom is a candidate; a refusal of the text 00, the query
 abbrev pub packedRound : Answer → ℕ
 packedRound (Chosen i) = packedChoice true i
 packedRound Ended = packedChoice false 0
-packedRound (TurnedBack k l) = packedRefusal k 0 l
+packedRound (Invalid k l) = packedRefusal k 0 l

@@ -10,7 +10,7 @@ use Rattle.frame_tests.specs.Faults.{textNumber}
 use Rattle.frame_tests.specs.declared.tests.Text.{Text}
 use Rattle.frame_tests.specs.declared.tests.Text.the-variants.{Query, Plan, Table}
 use Rattle.planner.specs.Planner.{Answer, plan}
-use Rattle.round_costs.specs.Costs.{Answer as RoundAnswer, Chosen, Ended, TurnedBack, roundCosts}
+use Rattle.round_costs.specs.Costs.{Answer as RoundAnswer, Chosen, Ended, Invalid, roundCosts}
 use Rattle.planner.specs.AnswerBounds.{Within, plan-within}
 use Rattle.round_costs.specs.Bounds.{RoundWithin, round-within}
 use Rattle.running.specs.Run.{Outcome, Refused, Ran, run, Reply, Rejected, Match, None, Exhausted, Replies}
@@ -56,7 +56,7 @@ refused-told x o z = by (plan x o .answer) (plan-within x o) z
 abbrev pub TellsRound : RoundAnswer → ℕ → Type 0
 TellsRound (Chosen i) n = TellsPlain i n × (i < 64)
 TellsRound Ended n = TellsPlain 0x100 n
-TellsRound (TurnedBack k l) n = TellsRefusal k 0 l n
+TellsRound (Invalid k l) n = TellsRefusal k 0 l n
 
 -- The answer of every round of every text is told whole.
 pub round-told : (x : List ℕ) (round : ℕ) (o : List ℕ) → TellsRound (roundCosts x round o .answer) (packedRound (roundCosts x round o .answer))
@@ -65,7 +65,7 @@ round-told x round o = by (roundCosts x round o .answer) (round-within x round o
     by : (a : RoundAnswer) → RoundWithin a → TellsRound a (packedRound a)
     by (Chosen i) w = (plain-told i (omega arith), w)
     by Ended w = plain-told 0x100 (omega arith)
-    by (TurnedBack k l) w = refusal-told k 0 l (omega arith) (omega arith) (omega arith)
+    by (Invalid k l) w = refusal-told k 0 l (omega arith) (omega arith) (omega arith)
 
 -- ---- `rimdovek_run`
 

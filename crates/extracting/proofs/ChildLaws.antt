@@ -2,14 +2,14 @@
 use Prim.Native.Nat.{ℕ, _+_, _-_, _*_, _<_, _≤_}
 use mathlib.Core.Path.{_≡_, refl, sym, _∙_, ap, subst}
 use mathlib.Core.Bool.{Bool, true, false}
-use mathlib.Core.List.{List, [], _∷_, _++_, map, flatMap, append-assoc, append-nil}
+use mathlib.Core.List.{List, [], _∷_, _++_, map, map-append, flatMap, append-assoc, append-nil}
 use native.Mathlib.Omega.{arith}
 use native.Mathlib.Numerals.{add-one}
 use lib.ListN.{length, getD}
 use Rattle.fields.specs.Fields.{width}
 use Rattle.kinds.specs.Kinds.{kindAt, fixedLength, itemsOf}
 use Rattle.frames.specs.Frames.{kindOf}
-use Rattle.model.specs.Atoms.{Operand, local, global, localOf}
+use Rattle.model.specs.Atoms.{Operand, local, global, wild, localOf}
 use Rattle.model.specs.Bound.{Bound}
 use Rattle.model.specs.Lowering.{pvIsBound, pvMarkBound, markAll, readChild, emitReadChildren}
 use Rattle.model.specs.Premises.{numbersBelow}
@@ -23,12 +23,12 @@ use Rattle.output.proofs.PutLaws.{written-size, frames-none, frames-then}
 use Rattle.step_bytes.specs.Begun.{Begins}
 use Rattle.step_bytes.proofs.PieceLaws.{Placed, placed-items}
 
-child-short : (c : Operand) (t : Bool) (n i : ℕ) → length (frameOf (readChild n i t c)) ≤ 5
-unfolding frameOf
+child-short : (c : Operand) (t : Bool) (n i : ℕ) → textLength (map frameOf (readChild n i t c)) ≤ 11
+unfolding frameOf textLength
 child-short (local v) true n i = omega arith
 child-short (local v) false n i = omega arith
-child-short (global g) true n i = omega arith
-child-short (global g) false n i = omega arith
+child-short (global g) t n i = omega arith
+child-short wild t n i = omega arith
 
 pub begun-put : (b : List ℕ) (fs : List (List ℕ)) (o q : List ℕ) (at r : ℕ) → Begins b fs → PutsFrames o at (fixedIn b ∷ []) q r → PutsFrames o at fs q r
 begun-put b fs o q at r e u = subst (λ (x : List (List ℕ)). PutsFrames o at x q r) (e .is) u
@@ -59,27 +59,27 @@ module _ (f : List ℕ) (B₀ : Bound) (o₀ : List ℕ) (from kind i w n : ℕ)
   pub child-below : k < n → numbersBelow (length B) (localOf (operandAt f (i + w * k))) ≡ true
   child-below h = next-below f i w n B₀ B k (m .marked) h
 
-  pub reading-again : (C : Bound) (q : List ℕ) (r : ℕ) → k < n → C ≡ pvMarkBound B (operandAt f (i + w * k)) → PutsFrames o at (frameOf (readChild (getD f 1 0) k (pvIsBound B (operandAt f (i + w * k))) (operandAt f (i + w * k))) ∷ []) q r → Reading f B₀ o₀ from kind i w n C q r (k + 1)
-  unfolding emitReadChildren textLength
+  pub reading-again : (C : Bound) (q : List ℕ) (r : ℕ) → k < n → C ≡ pvMarkBound B (operandAt f (i + w * k)) → PutsFrames o at (map frameOf (readChild (getD f 1 0) k (pvIsBound B (operandAt f (i + w * k))) (operandAt f (i + w * k)))) q r → Reading f B₀ o₀ from kind i w n C q r (k + 1)
+  unfolding emitReadChildren
   reading-again C q r h e u = record {
     placed = m .placed;
     marked = marked-again f i w n B₀ B k (m .marked) C (omega (arith, m .placed .narrow)) h e;
     place = omega (arith, m .place, m .placed .narrow);
     room = omega (arith, m .room, u .next, child-short c (pvIsBound B c) (getD f 1 0) k);
-    size = ap length (u .is) ∙ written-size o at (textOf (F ∷ [])) ∙ m .size;
-    done = m .done ++ (F ∷ []);
-    puts = frames-then (m .done) (F ∷ []) (m .puts) u;
-    rest = append-assoc (m .done) (F ∷ []) (childrenFrom f i w n C (k + 1)) ∙ ap (λ (x : List (List ℕ)). m .done ++ x) (sym more) ∙ m .rest;
+    size = ap length (u .is) ∙ written-size o at (textOf F) ∙ m .size;
+    done = m .done ++ F;
+    puts = frames-then (m .done) F (m .puts) u;
+    rest = append-assoc (m .done) F (childrenFrom f i w n C (k + 1)) ∙ ap (λ (x : List (List ℕ)). m .done ++ x) (sym more) ∙ m .rest;
   }
     where
       c : Operand
       c = operandAt f (i + w * k)
 
-      F : List ℕ
-      F = frameOf (readChild (getD f 1 0) k (pvIsBound B c) c)
+      F : List (List ℕ)
+      F = map frameOf (readChild (getD f 1 0) k (pvIsBound B c) c)
 
-      more : childrenFrom f i w n B k ≡ F ∷ childrenFrom f i w n C (k + 1)
-      more = rw (operands-more f i w n k h, e, add-one k)
+      more : childrenFrom f i w n B k ≡ F ++ childrenFrom f i w n C (k + 1)
+      more = rw (operands-more f i w n k h, e, add-one k) (map-append frameOf (readChild (getD f 1 0) k (pvIsBound B c) c) _)
 
   module _ (h : n ≤ k) where
     pub reading-all : PutsFrames o₀ from (map frameOf (emitReadChildren (getD f 1 0) 0 B₀ (itemOperands f))) o at

@@ -32,7 +32,7 @@ fn read_child(
     requires { ⌜ numbersBelow (length (now bound)) (localOf (operandAt (now frame) j)) ≡ true ⌝ }
     requires { ⌜ at < 0x3000_0000 ⌝ }
     ensures { λ r. ⌜ now (bound .exit) ≡ pvMarkBound (now (bound .entry)) (operandAt (now (frame .entry)) j) ⌝ }
-    ensures { λ r. ⌜ PutsFrames (now (out .entry)) at (frameOf (readChild (getD (now (frame .entry)) 1 0) position (pvIsBound (now (bound .entry)) (operandAt (now (frame .entry)) j)) (operandAt (now (frame .entry)) j)) ∷ []) (now (out .exit)) r ⌝ }
+    ensures { λ r. ⌜ PutsFrames (now (out .entry)) at (map frameOf (readChild (getD (now (frame .entry)) 1 0) position (pvIsBound (now (bound .entry)) (operandAt (now (frame .entry)) j)) (operandAt (now (frame .entry)) j))) (now (out .exit)) r ⌝ }
 {
     let step = child_at(frame, j, position, bound);
     pv_mark_bound(frame, j, bound);

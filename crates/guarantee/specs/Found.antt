@@ -13,38 +13,39 @@ use Rattle.first_reading.specs.declared.first.Reading.the-variants.{Accepted, R
 use Rattle.reading.specs.Second.{reading}
 use Rattle.model.specs.Atoms.{Step}
 use Rattle.model.specs.Bound.{has}
-use Rattle.model.specs.Running.{runs}
+use Rattle.model.specs.Running.{runs, trace, founds, attempts}
 use Rattle.model.specs.Matching.{InShapes, Line, line, Given, Exact}
-use Rattle.model.specs.Limits.{trace, founds, attempts, Done, Played}
-use Rattle.model.specs.Limited.{ran, founds-trace}
+use Rattle.model.specs.Limits.{Done, Played}
+use Rattle.model.specs.Limited.{ran}
+use Rattle.model.specs.Traces.{founds-trace}
 use Rattle.model.specs.Unlowered.{run-all-lowered}
 use Rattle.model.specs.Guarantee.{exact, guaranteed}
 use Rattle.cost.specs.Choice.{fresh, choose, choose-fair, planned}
 use Rattle.plan_facts.specs.QueryPlans.{atomsOf, countAt}
 use Rattle.planner.specs.Planner.{stepsOf}
 use Rattle.running.specs.Tables.{tableOf, countsIn, planSteps}
-use Rattle.running.specs.Turning.{Verdict, Passed, TurnedBack, andThen, ofReading, shapesFrom, stepsPass, turning}
+use Rattle.running.specs.Validation.{Verdict, Passed, Invalid, andThen, ofReading, shapesFrom, stepsPass, validation}
 use Rattle.running.specs.Run.{unbound, unbound-blank, events, matchLine, lineText, Result, ran as result, run}
 use Rattle.running.specs.DistinctRows.{distinct-rows}
 use Rattle.guarantee.specs.Terms.{planFor, Runs, allLines, Enough, Finds}
 use Rattle.guarantee.specs.PlanBack.{plan-steps, plan-variables, plan-literals}
 use Rattle.guarantee.specs.Below.{query-given}
 
--- ---- texts that are not turned back
+-- ---- texts that are not refused
 
 record TableRead (a : Reading) : Type 0 where
   pub lines : ℕ
   pub rows : ℕ
   pub is : a ≡ Accepted lines rows
 
-table-read : (p t : List ℕ) → turning p t ≡ Passed → TableRead (reading Table t)
+table-read : (p t : List ℕ) → validation p t ≡ Passed → TableRead (reading Table t)
 unfolding turning
 table-read p t h = by (ofReading plan (reading Plan p)) (reading Table t) (andThen (shapesFrom [] 0 (framesOf t)) (stepsPass (tableOf t) (planSteps p))) h
   where
     by : (v : Verdict) (a : Reading) (w : Verdict) → andThen v (andThen (ofReading table a) w) ≡ Passed → TableRead a
     by Passed (Accepted n c) w h = record { lines = n; rows = c; is = refl }
     by Passed (Refused k l) w h = let z : _≡_ {A = ℕ} 0 1 = cc in absurd (omega arith)
-    by (TurnedBack k y l) a w h = let z : _≡_ {A = ℕ} 0 1 = cc in absurd (omega arith)
+    by (Invalid k y l) a w h = let z : _≡_ {A = ℕ} 0 1 = cc in absurd (omega arith)
 
 -- ---- a plan text p that reads as the steps ss, with n variables and m literals
 
@@ -60,7 +61,7 @@ module _ (p t : List ℕ) (n m : ℕ) (ss : List Step) (steps : planSteps p ≡ 
       ∙ ap (λ k. map (line k (countsIn p .literals)) (runs (tableOf t) ss unbound)) variables
       ∙ ap (λ k. map (line n k) (runs (tableOf t) ss unbound)) literals
 
-  run-is : turning p t ≡ Passed → (A : ℕ) (o : List ℕ) → run p t A o ≡ result (ran (λ τ. lineText (line n m τ)) (tableOf t) ss unbound A o)
+  run-is : validation p t ≡ Passed → (A : ℕ) (o : List ℕ) → run p t A o ≡ result (ran (λ τ. lineText (line n m τ)) (tableOf t) ss unbound A o)
   unfolding run
   run-is h A o =
       rw (h, events-are)
@@ -73,9 +74,9 @@ found-by : (x t o : List ℕ) (s : Result) (r : Played) (ls : List Line) → s �
     → r .output ≡ flatMap lineText ls ++ drop (length (flatMap lineText ls)) o → Finds x t o s
 found-by x t o s r ls is e a b c d f = record { lines = ls; matches-are = e; outcome = rw (is, a, b, c, d); output = rw is f }
 
--- ---- an accepted query that runs, over a table in shape that is not turned back
+-- ---- an accepted query that runs, over a table in shape that is not refused
 
-module _ (x t : List ℕ) (n c : ℕ) (ok : reading Query x ≡ Accepted n c) (q : Runs x) (passed : turning (planFor x) t ≡ Passed) (sh : InShapes (tableOf t) (atomsOf x)) where
+module _ (x t : List ℕ) (n c : ℕ) (ok : reading Query x ≡ Accepted n c) (q : Runs x) (passed : validation (planFor x) t ≡ Passed) (sh : InShapes (tableOf t) (atomsOf x)) where
   all : (i : ℕ) → i < length (atomsOf x) → has (planned (framesOf x) (atomsOf x) .used) i ≡ true
   unfolding planned
   all = run-all-lowered (atomsOf x) (choose (framesOf x) (atomsOf x)) fresh (choose-fair (framesOf x) (atomsOf x)) (q .kinds) (q .lowered)

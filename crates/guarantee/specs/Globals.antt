@@ -9,13 +9,12 @@ use native.Mathlib.Omega.{arith}
 use lib.Dec.{T, eqb}
 use Rattle.model.specs.Lists.{one}
 use Rattle.model.specs.Bools.{both, first, second}
-use Rattle.model.specs.Atoms.{Operand, local, global, Atom, Plain, Lit, LitBind, Eq, EqGlobal, Pred, Variadic, Lookup, ByChildPos, Step, Join, unset, Table, globalClass}
+use Rattle.model.specs.Atoms.{Operand, local, global, Atom, Plain, Lit, LitBind, Eq, EqGlobal, Pred, Variadic, Lookup, ByChildPos, Step, Join, unset, Table, globalClass, isRun}
 use Rattle.model.specs.Bound.{Bound, has, add}
 use Rattle.model.specs.Lowering.{pvIsBound, pvMarkBound, readChild, emitReadChildren, childLookups, joinLookups, Emitted, lowerEq, lowerEqGlobal, lower, Lowered, done, more}
-use Rattle.model.specs.Refusing.{isRun}
 use Rattle.plans.specs.StepFrames.{Each}
 use Rattle.plans.specs.Fitting.{each-append}
-use Rattle.running.specs.Turning.{globalOf, lookupGlobals, globalsOf, allGiven}
+use Rattle.running.specs.Validation.{globalOf, lookupGlobals, globalsOf, allGiven}
 use Rattle.guarantee.specs.Terms.{atomGlobals}
 
 module _ (tb : Table) where

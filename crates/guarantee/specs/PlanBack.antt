@@ -20,7 +20,7 @@ use Rattle.plan_facts.specs.QueryPlans.{countAt, ReadBack}
 use Rattle.planner.specs.Planner.{stepsOf, talliedOf, rejectedOf, planOf}
 use Rattle.planner.specs.Promised.{read-back}
 use Rattle.ordering.specs.Accepted.{few-keys}
-use Rattle.running.specs.Tables.{countsIn, planSteps}
+use Rattle.running.specs.Tables.{countsIn, planSteps, stepsIn}
 use Rattle.guarantee.specs.Terms.{planFor}
 
 -- a byte from its digits
@@ -46,7 +46,7 @@ module _ (x : List ℕ) (n c : ℕ) (ok : reading Query x ≡ Accepted n c) wher
   plan-accepted = back .accepts
 
   pub plan-steps : planSteps (planFor x) ≡ stepsOf x
-  unfolding planOf planSteps
+  unfolding planOf stepsIn
   plan-steps = back .gives
 
   pub plan-variables : countsIn (planFor x) .variables ≡ countAt x 1

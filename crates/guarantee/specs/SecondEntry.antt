@@ -8,14 +8,14 @@ use native.Mathlib.Omega.{arith}
 use Rattle.frame_tests.specs.declared.tests.Text.the-variants.{Query}
 use Rattle.first_reading.specs.declared.first.Reading.the-variants.{Accepted}
 use Rattle.reading.specs.Second.{reading}
-use Rattle.model.specs.Running.{Env}
+use Rattle.model.specs.Running.{Env, Event, trace, attempts}
 use Rattle.model.specs.Matching.{InShapes, Line, line, IsMatch}
-use Rattle.model.specs.Limits.{Event, trace, attempts, Answer, SomeMatch, NoMatch, OutOfTries, Answers}
+use Rattle.model.specs.Limits.{Answer, SomeMatch, NoMatch, OutOfTries, Answers}
 use Rattle.model.specs.Answered.{none-to, none-back, some-is}
 use Rattle.plan_facts.specs.QueryPlans.{atomsOf, countAt}
 use Rattle.planner.specs.Planner.{stepsOf}
 use Rattle.running.specs.Tables.{tableOf, countsIn}
-use Rattle.running.specs.Turning.{Passed, turning}
+use Rattle.running.specs.Validation.{Passed, validation}
 use Rattle.running.specs.Run.{unbound, events, matchLine, Match, None, replied, Replies, rejects, answers}
 use Rattle.guarantee.specs.Terms.{planFor, Runs}
 use Rattle.guarantee.specs.PlanBack.{plan-steps, plan-variables, plan-literals}
@@ -30,7 +30,7 @@ pub record NoneExists (x t : List ℕ) (A : ℕ) : Type 0 where
   pub none-holds : (y : Line) → MatchOf x t y → ⊥
   pub ended : attempts (events (planFor x) t) ≤ A
 
-module _ (x t : List ℕ) (n c : ℕ) (ok : reading Query x ≡ Accepted n c) (q : Runs x) (passed : turning (planFor x) t ≡ Passed) (sh : InShapes (tableOf t) (atomsOf x)) (A : ℕ) where
+module _ (x t : List ℕ) (n c : ℕ) (ok : reading Query x ≡ Accepted n c) (q : Runs x) (passed : validation (planFor x) t ≡ Passed) (sh : InShapes (tableOf t) (atomsOf x)) (A : ℕ) where
   es : events (planFor x) t ≡ trace (tableOf t) (stepsOf x) unbound
   es = events-are (planFor x) t (countAt x 1) (countAt x 3) (stepsOf x) (plan-steps x n c ok) (plan-variables x n c ok) (plan-literals x n c ok)
 

@@ -9,16 +9,16 @@ use Rattle.kinds.specs.Kinds.{table}
 use Rattle.first_reading.specs.First.{framesOf}
 use Rattle.frame_tests.specs.declared.tests.Text.the-variants.{Table}
 use Rattle.reading.specs.Second.{reading}
-use Rattle.model.specs.Atoms.{Atom, Plain, Lit, LitBind, Eq, EqGlobal, Pred, Variadic}
-use Rattle.model.specs.Refusing.{isRun}
+use Rattle.model.specs.Atoms.{Atom, Plain, Lit, LitBind, Eq, EqGlobal, Pred, Variadic, isRun}
 use Rattle.model.specs.Waiting.{Unbound}
 use Rattle.model.specs.Matching.{Line, Exact}
 use Rattle.model.specs.Lines.{SameAtoms}
-use Rattle.model.specs.Limits.{founds, attempts, Done}
+use Rattle.model.specs.Limits.{Done}
+use Rattle.model.specs.Running.{founds, attempts}
 use Rattle.plan_facts.specs.QueryPlans.{atomsOf, countAt}
 use Rattle.planner.specs.Planner.{planOf}
 use Rattle.running.specs.Tables.{tableOf}
-use Rattle.running.specs.Turning.{Verdict, andThen, ofReading, shapesFrom, globalOf, allGiven}
+use Rattle.running.specs.Validation.{Verdict, andThen, ofReading, shapesFrom, globalOf, allGiven}
 use Rattle.running.specs.Run.{events, matchLine, lineText, Ran, Result}
 
 -- the plan of the query text x

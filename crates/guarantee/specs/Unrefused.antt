@@ -16,10 +16,10 @@ use Rattle.first_reading.specs.declared.first.Reading.{Reading}
 use Rattle.first_reading.specs.declared.first.Reading.the-variants.{Accepted, Refused}
 use Rattle.reading.specs.Second.{reading}
 use Rattle.model.specs.Bools.{first, second}
-use Rattle.model.specs.Atoms.{Atom, Step, Row, Table}
+use Rattle.model.specs.Atoms.{Atom, Step, Row, Table, isRun}
 use Rattle.model.specs.Bound.{Bound, blank, has-blank}
 use Rattle.model.specs.Reading.{ready, boundFirst, boundBy, pickedBy}
-use Rattle.model.specs.Refusing.{isRun, runnable, allRunnable, fits, opsBy, allFit}
+use Rattle.model.specs.Refusing.{runnable, allRunnable, fits, opsBy, allFit}
 use Rattle.model.specs.Matching.{InShapes}
 use Rattle.model.specs.Lines.{shape-mem, mem-shape}
 use Rattle.model.specs.Scheduling.{State, Chosen, Fair, atomOf, numbers, schedule}
@@ -31,7 +31,7 @@ use Rattle.plans.specs.StepFrames.{Each}
 use Rattle.plan_facts.specs.QueryPlans.{atomsOf}
 use Rattle.planner.specs.Planner.{stepsOf}
 use Rattle.running.specs.Tables.{tableOf}
-use Rattle.running.specs.Turning.{Verdict, Passed, TurnedBack, andThen, ofReading, ofFault, rowFault, withRow, shapesFrom, globalsOf, allGiven, stepsFrom, stepsPass, turning}
+use Rattle.running.specs.Validation.{Verdict, Passed, Invalid, andThen, ofReading, ofFault, rowFault, withRow, shapesFrom, globalsOf, allGiven, stepsFrom, stepsPass, validation}
 use Rattle.guarantee.specs.Terms.{planFor, atomGlobals, GlobalsGiven, tableTests}
 use Rattle.guarantee.specs.PlanBack.{plan-accepted, plan-steps}
 use Rattle.guarantee.specs.Globals.{StepGiven, plan-given}
@@ -45,25 +45,25 @@ steps-pass tb (s ∷ ss) B R O n r b f g =
     (steps-pass tb ss (boundBy s B) (pickedBy s R) (opsBy s O) (suc n) (second (runnable s) _ r) (second (ready B R s) _ b) (second (fits tb O s) _ f) (g .1))
 
 -- steps that run and read nothing unbound are refused for 11 or 5 alone
-steps-refused : (tb : Table) (ss : List Step) (B R : Bound) (O : List ℕ) (n k y l : ℕ) → allRunnable ss ≡ true → boundFirst B R ss ≡ true → stepsFrom tb B R O n ss ≡ TurnedBack k y l → (k ≡ 11) ⊎ (k ≡ 5)
+steps-refused : (tb : Table) (ss : List Step) (B R : Bound) (O : List ℕ) (n k y l : ℕ) → allRunnable ss ≡ true → boundFirst B R ss ≡ true → stepsFrom tb B R O n ss ≡ Invalid k y l → (k ≡ 11) ⊎ (k ≡ 5)
 unfolding stepsFrom allRunnable boundFirst
 steps-refused tb [] B R O n k y l r b h = let z : _≡_ {A = ℕ} 0 1 = cc in absurd (omega arith)
 steps-refused tb (s ∷ ss) B R O n k y l r b h =
     by (fits tb O s) (allGiven tb (globalsOf s)) (rw (first (runnable s) _ r, first (ready B R s) _ b) at h)
     (steps-refused tb ss (boundBy s B) (pickedBy s R) (opsBy s O) (suc n) k y l (second (runnable s) _ r) (second (ready B R s) _ b))
   where
-    by : {v : Verdict} (f g : Bool) → ofFault plan (pick f (pick g 0 5) 11) n v ≡ TurnedBack k y l → (v ≡ TurnedBack k y l → (k ≡ 11) ⊎ (k ≡ 5)) → (k ≡ 11) ⊎ (k ≡ 5)
+    by : {v : Verdict} (f g : Bool) → ofFault plan (pick f (pick g 0 5) 11) n v ≡ Invalid k y l → (v ≡ Invalid k y l → (k ≡ 11) ⊎ (k ≡ 5)) → (k ≡ 11) ⊎ (k ≡ 5)
     by true true h more = more h
     by true false h more = inr (cc)
     by false g h more = inl (cc)
 
 -- the test of the table's shapes tells of the table
-shapes-refused : (rs : List Row) (n : ℕ) (fs : List (List ℕ)) (k y l : ℕ) → shapesFrom rs n fs ≡ TurnedBack k y l → y ≡ table
+shapes-refused : (rs : List Row) (n : ℕ) (fs : List (List ℕ)) (k y l : ℕ) → shapesFrom rs n fs ≡ Invalid k y l → y ≡ table
 unfolding shapesFrom
 shapes-refused rs n [] k y l h = let z : _≡_ {A = ℕ} 0 1 = cc in absurd (omega arith)
 shapes-refused rs n (f ∷ fs) k y l h = by (rowFault rs f) h (shapes-refused (withRow rs f) (suc n) fs k y l)
   where
-    by : {v : Verdict} (m : ℕ) → ofFault table m n v ≡ TurnedBack k y l → (v ≡ TurnedBack k y l → y ≡ table) → y ≡ table
+    by : {v : Verdict} (m : ℕ) → ofFault table m n v ≡ Invalid k y l → (v ≡ Invalid k y l → y ≡ table) → y ≡ table
     by zero h more = more h
     by (suc m) h more = cc
 
@@ -84,23 +84,23 @@ module _ (x t : List ℕ) (n c : ℕ) (ok : reading Query x ≡ Accepted n c) wh
   unfolding stepsOf planned
   plan-passes = schedule-passes (tableOf t) (atomsOf x) (choose (framesOf x) (atomsOf x)) fresh (choose-fair (framesOf x) (atomsOf x))
 
-  pub only-the-table : ((a : Atom) → List·Memᴰ a (atomsOf x) → isRun a ≡ true) → InShapes (tableOf t) (atomsOf x) → GlobalsGiven x t → turning (planFor x) t ≡ tableTests t
+  pub only-the-table : ((a : Atom) → List·Memᴰ a (atomsOf x) → isRun a ≡ true) → InShapes (tableOf t) (atomsOf x) → GlobalsGiven x t → validation (planFor x) t ≡ tableTests t
   unfolding turning
   only-the-table run sh given = rw (plan-accepted x n c ok, plan-steps x n c ok, plan-passes run sh given) (last (ofReading table (reading TableText t)) (shapesFrom [] 0 (framesOf t)))
     where
       last : (v w : Verdict) → andThen v (andThen w Passed) ≡ andThen v w
       last Passed Passed = refl
-      last Passed (TurnedBack k y l) = refl
-      last (TurnedBack k y l) w = refl
+      last Passed (Invalid k y l) = refl
+      last (Invalid k y l) w = refl
 
   -- over any table: the plan's lines are refused for 11 or the missing global alone
-  pub plan-refusal : ((a : Atom) → List·Memᴰ a (atomsOf x) → isRun a ≡ true) → (k l : ℕ) → turning (planFor x) t ≡ TurnedBack k plan l → (k ≡ 11) ⊎ (k ≡ 5)
-  unfolding turning stepsOf planned
+  pub plan-refusal : ((a : Atom) → List·Memᴰ a (atomsOf x) → isRun a ≡ true) → (k l : ℕ) → validation (planFor x) t ≡ Invalid k plan l → (k ≡ 11) ⊎ (k ≡ 5)
+  unfolding validation stepsOf planned
   plan-refusal run k l h = by (reading TableText t) (shapesFrom [] 0 (framesOf t)) (shapes-refused [] 0 (framesOf t) k plan l) (rw (plan-accepted x n c ok, plan-steps x n c ok) at h)
     where
-      by : (a : Reading) (v : Verdict) → (v ≡ TurnedBack k plan l → plan ≡ table) → andThen (ofReading table a) (andThen v (stepsPass (tableOf t) (stepsOf x))) ≡ TurnedBack k plan l → (k ≡ 11) ⊎ (k ≡ 5)
+      by : (a : Reading) (v : Verdict) → (v ≡ Invalid k plan l → plan ≡ table) → andThen (ofReading table a) (andThen v (stepsPass (tableOf t) (stepsOf x))) ≡ Invalid k plan l → (k ≡ 11) ⊎ (k ≡ 5)
       by (Refused m j) v u h = let z : table ≡ plan = cc in absurd (omega arith)
-      by (Accepted m j) (TurnedBack i y j′) u h = absurd (omega (arith, u h))
+      by (Accepted m j) (Invalid i y j′) u h = absurd (omega (arith, u h))
       by (Accepted m j) Passed u h = steps-refused (tableOf t) (stepsOf x) blank blank (replicate variablesMost 0) 1 k plan l
           (schedule-runnable (atomsOf x) (choose (framesOf x) (atomsOf x)) fresh (choose-fair (framesOf x) (atomsOf x)) run)
           (schedule-bound-first (atomsOf x) (choose (framesOf x) (atomsOf x)) fresh (choose-fair (framesOf x) (atomsOf x)) blank blank has-blank)

@@ -7,7 +7,7 @@ use mathlib.Core.List.{List, [], _∷_}
 use native.Mathlib.Omega.{arith}
 use native.Mathlib.Decide.{ℕ-discrete}
 use Rattle.base.specs.Choose.{pick-elim}
-use Rattle.model.specs.Atoms.{Operand, local, global, Atom, Plain, Lit, LitBind, Eq, EqGlobal, Pred, Variadic}
+use Rattle.model.specs.Atoms.{Operand, local, global, wild, Atom, Plain, Lit, LitBind, Eq, EqGlobal, Pred, Variadic}
 use Rattle.model.specs.Bound.{Bound, has, put, put-other}
 use Rattle.cost.specs.Emitters.{Emitter, Emitters, emitterOf, from, orKeep, setEmitter, setOperand, setChildren, setElements, copyEmitter, recordAtom, recordEmitters}
 
@@ -32,6 +32,7 @@ set-keeps em v r = by (emitterOf em v) refl
 operand-keeps : (em : Emitters) (x : Operand) (r : Option Emitter) → Keeps em (setOperand em x r)
 operand-keeps em (local v) r = set-keeps em v r
 operand-keeps em (global g) r = λ w e p. p
+operand-keeps em wild r = λ w e p. p
 
 children-keep : (em : Emitters) (a p : ℕ) (cs : List Operand) → Keeps em (setChildren em a p cs)
 unfolding setChildren

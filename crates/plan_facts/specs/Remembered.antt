@@ -18,7 +18,7 @@ use Rattle.measure.specs.declared.Estimate.the-variants.{Accepted, Rejected}
 use Rattle.query.specs.Statistics.{settings}
 use Rattle.query.specs.declared.statistics.Sampled.{Sampled}
 use Rattle.query.specs.declared.statistics.Sampled.the-variants.{On, Off}
-use Rattle.model.specs.Atoms.{Operand, local, global, Atom, Plain, Lit, LitBind, Eq, EqGlobal, Pred, Variadic}
+use Rattle.model.specs.Atoms.{Operand, local, global, wild, Atom, Plain, Lit, LitBind, Eq, EqGlobal, Pred, Variadic}
 use Rattle.model.specs.Bools.{both, true-false}
 use Rattle.model.specs.Lists.{Pairs, from, into}
 use Rattle.model.specs.Bound.{Bound, has}
@@ -45,6 +45,7 @@ keyBy (some e) o path place = record { emitter = e .atom; site = e .site; positi
 abbrev pub keyFor : Emitters → Operand → ℕ → ℕ → ℕ → List Key
 keyFor em (local v) o path place = keyBy (emitterOf em v) o path place
 keyFor em (global g) o path place = []
+keyFor em wild o path place = []
 
 -- of the children from position p on
 unfoldable pub childKeys : Emitters → ℕ → ℕ → List Operand → List Key
@@ -92,6 +93,7 @@ module _ (fs : List (List ℕ)) (A : Key → Type 0) (P : Tally → Type 0) (ste
   pub sampled-keeps : (em : Emitters) (x : Operand) (o path place : ℕ) (t : Tally) → All A (keyFor em x o path place) → P t → P (sampled fs em x o path place t .tally)
   sampled-keeps em (local v) o path place t a p = by-keeps (emitterOf em v) o path place t a p
   sampled-keeps em (global g) o path place t a p = p
+  sampled-keeps em wild o path place t a p = p
 
   pub children-keep : (em : Emitters) (B : Bound) (o p : ℕ) (xs : List Operand) (c : Costed) → All A (childKeys em o p xs) → P (c .tally) → P (childCosts fs em B o p xs c .tally)
   unfolding childCosts childKeys
@@ -226,6 +228,7 @@ key-few em (local v) o path place = by (emitterOf em v)
     by none = omega arith
     by (some e) = omega arith
 key-few em (global g) o path place = omega arith
+key-few em wild o path place = omega arith
 
 child-few : (em : Emitters) (o p : ℕ) (xs : List Operand) → length (childKeys em o p xs) ≤ length xs
 unfolding childKeys
@@ -263,6 +266,7 @@ key-stays em em′ s (local v) o path place k i = by (emitterOf em v) refl i
     by none p j = absurd (List·Memᴰ·not-nil j)
     by (some e) p j = rw (s v e p) j
 key-stays em em′ s (global g) o path place k i = i
+key-stays em em′ s wild o path place k i = i
 
 -- an element of one list or another, brought over
 append-stays : (a a′ b b′ : List Key) (k : Key) → (List·Memᴰ k a → List·Memᴰ k a′) → (List·Memᴰ k b → List·Memᴰ k b′) → List·Memᴰ k (a ++ b) → List·Memᴰ k (a′ ++ b′)

@@ -12,7 +12,7 @@ use Rattle.fields.specs.Limits.{itemsMost}
 use Rattle.fields.specs.declared.field.Counts.{Counts}
 use Rattle.model.specs.Lists.{one}
 use Rattle.model.specs.Tabulate.{tabulate-mem}
-use Rattle.model.specs.Atoms.{Operand, local, global, Atom, Plain, Lit, LitBind, Eq, EqGlobal, Pred, Variadic, Lookup, ByOp, ByChildPos, ByContains, Step, Join}
+use Rattle.model.specs.Atoms.{Operand, local, global, wild, Atom, Plain, Lit, LitBind, Eq, EqGlobal, Pred, Variadic, Lookup, ByOp, ByChildPos, ByContains, Step, Join}
 use Rattle.model.specs.Bound.{Bound, has, add}
 use Rattle.model.specs.Lowering.{pvIsBound, pvMarkBound, readChild, emitReadChildren, childLookups, containsLookups, joinLookups, Emitted, lowerEq, lowerEqGlobal, lower, Lowered, done, more}
 use Rattle.model.specs.Scheduling.{State, Chosen, Fair, atomOf, numbers, schedule}
@@ -37,6 +37,7 @@ operands-more : (n : Counts) (m : ℕ) (cs : List Operand) → Each (OperandFits
 operands-more n m [] h = tt
 operands-more n m (local v ∷ cs) h = (h .0, operands-more n m cs (h .1))
 operands-more n m (global g ∷ cs) h = (h .0, operands-more n m cs (h .1))
+operands-more n m (wild ∷ cs) h = absurd (h .0)
 
 pub atom-more : (n : Counts) (m : ℕ) → n .atoms ≤ m → (a : Atom) → AtomFits n a → AtomFits (withAtoms n m) a
 atom-more n m k (Plain v o cs) h = (h .0, h .1, (h .2 .0, operands-more n m cs (h .2 .1)))
@@ -98,15 +99,16 @@ module _ (n : Counts) where
   join-fits false v k o ls h j p m f = (h, j, omega arith, (p, f))
 
   -- ---- the children are read
-  read-fits : (b : Bool) (v i : ℕ) (c : Operand) → v < n .variables → Byte i → OperandFits n c → StepFits n (readChild v i b c)
-  read-fits true v i c h k p = (h, k, p)
-  read-fits false v i (local w) h k p = (p, h, k)
-  read-fits false v i (global g) h k p = (h, k, p)
+  read-fits : (b : Bool) (v i : ℕ) (c : Operand) → v < n .variables → Byte i → OperandFits n c → Each (StepFits n) (readChild v i b c)
+  read-fits true v i (local w) h k p = ((h, k, p), tt)
+  read-fits false v i (local w) h k p = ((p, h, k), tt)
+  read-fits b v i (global g) h k p = ((h, k, p), tt)
+  read-fits b v i wild h k p = tt
 
   reads-fit : (v i : ℕ) (B : Bound) (cs : List Operand) → v < n .variables → i + length cs ≤ 256 → Each (OperandFits n) cs → Each (StepFits n) (emitReadChildren v i B cs)
   unfolding emitReadChildren
   reads-fit v i B [] h k p = tt
-  reads-fit v i B (c ∷ cs) h k p = (read-fits (pvIsBound B c) v i c h (omega arith) (p .0), reads-fit v (suc i) (pvMarkBound B c) cs h (omega arith) (p .1))
+  reads-fit v i B (c ∷ cs) h k p = each-append (StepFits n) (readChild v i (pvIsBound B c) c) _ (read-fits (pvIsBound B c) v i c h (omega arith) (p .0)) (reads-fit v (suc i) (pvMarkBound B c) cs h (omega arith) (p .1))
 
   -- ---- one atom's steps
   abbrev Steps : Emitted → Type 0

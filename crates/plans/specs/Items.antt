@@ -13,13 +13,13 @@ use Rattle.plans.specs.StepFrames.{Each, itemsAt}
 
 module _ {X : Type 0} (g : X → List ℕ) (w : ℕ) (wide : (x : X) → length (g x) ≡ w) where
   -- what an item's place reads gives the item, whatever stands around it
-  pub items-read : (read : List ℕ → ℕ → X) → ((x : X) (p q : List ℕ) → read (p ++ (g x ++ q)) (length p) ≡ x) → (xs : List X) (p : List ℕ) → itemsAt read w (p ++ flatMap g xs) (length p) (length xs) ≡ xs
+  pub items-read : (read : List ℕ → ℕ → X) (Q : X → Type 0) → ((x : X) → Q x → (p q : List ℕ) → read (p ++ (g x ++ q)) (length p) ≡ x) → (xs : List X) → Each Q xs → (p : List ℕ) → itemsAt read w (p ++ flatMap g xs) (length p) (length xs) ≡ xs
   unfolding flatMap itemsAt
-  items-read read r [] p = refl
-  items-read read r (x ∷ xs) p =
+  items-read read Q r [] h p = refl
+  items-read read Q r (x ∷ xs) h p =
       let e : p ++ (g x ++ flatMap g xs) ≡ (p ++ g x) ++ flatMap g xs = sym (append-assoc p (g x) (flatMap g xs)) in
       let l : length p + w ≡ length (p ++ g x) = sym (length-append p (g x) ∙ ap (λ (m : ℕ). length p + m) (wide x)) in
-      rw (r x p (flatMap g xs), l, e, items-read read r xs (p ++ g x))
+      rw (r x (h .0) p (flatMap g xs), l, e, items-read read Q r xs (h .1) (p ++ g x))
 
 -- each item passes a test where its bytes do, whatever stands around them
 pub items-pass : {X : Type 0} (g : X → List ℕ) (P : Field → List ℕ → ℕ → Bool) (t : Field) (Q : X → Type 0) → ((x : X) → length (g x) ≡ width t) → ((x : X) → Q x → (p q : List ℕ) → P t (p ++ (g x ++ q)) (length p) ≡ true)

@@ -16,12 +16,12 @@ use Rattle.frame_tests.specs.declared.tests.Text.the-variants.{Plan}
 use Rattle.first_reading.specs.declared.first.Reading.the-variants.{Accepted}
 use Rattle.reading.specs.Second.{reading}
 use Rattle.model.specs.Tabulate.{tabulate-length}
-use Rattle.model.specs.Atoms.{Operand, local, global, Form, A, AC, ACI, Atom, Plain, Lit, LitBind, Eq, EqGlobal, Pred, Variadic, Lookup, Step, Join, Expand}
+use Rattle.model.specs.Atoms.{Operand, local, global, wild, Form, A, AC, ACI, Atom, Plain, Lit, LitBind, Eq, EqGlobal, Pred, Variadic, Lookup, Step, Join, Expand}
 use Rattle.model.specs.Bound.{Bound, has, add}
 use Rattle.model.specs.Lowering.{pvIsBound, pvMarkBound, readChild, emitReadChildren, childLookups, containsLookups, joinLookups, Emitted, lowerEq, lowerEqGlobal, lower}
 use Rattle.model.specs.Scheduling.{State, unplanned, Chosen, Fair, unlowered, atomOf, numbers, schedule}
 use Rattle.model.specs.Scheduled.{Reached, fresh, takes, unlowered-lt, number-mem, reached}
-use Rattle.model.specs.Limited.{flat-length}
+use Rattle.model.specs.Lengths.{flat-length}
 use Rattle.plans.specs.StepFrames.{operandBytes, lookupBytes, elementsOf, elementBytes, frameOf, stepOf, Each}
 use Rattle.plans.specs.PlanText.{textLength, planText}
 use Rattle.plans.specs.StepsRead.{lookup-wide}
@@ -88,21 +88,29 @@ expand-line v cs (A p s) = omega (arith, flat-length operandBytes 2 (λ c. refl)
 expand-line v cs (AC ms r) = omega (arith, flat-length elementBytes 3 (λ e. refl) (elementsOf cs ms), elements-length cs ms)
 expand-line v cs (ACI r) = omega (arith, flat-length operandBytes 2 (λ c. refl) cs)
 
-read-line : (b : Bool) (v i : ℕ) (c : Operand) → lineLength (readChild v i b c) ≤ 11
-unfolding frameOf
-read-line true v i c = omega arith
+read-line : (b : Bool) (v i : ℕ) (c : Operand) → total lineLength (readChild v i b c) ≤ 11
+unfolding total frameOf
+read-line true v i (local w) = omega arith
 read-line false v i (local w) = omega arith
-read-line false v i (global g) = omega arith
+read-line b v i (global g) = omega arith
+read-line b v i wild = omega arith
+
+read-step : (b : Bool) (v i : ℕ) (c : Operand) → total oneEach (readChild v i b c) ≤ 1
+unfolding total
+read-step true v i (local w) = omega arith
+read-step false v i (local w) = omega arith
+read-step b v i (global g) = omega arith
+read-step b v i wild = omega arith
 
 reads-lines : (v i : ℕ) (B : Bound) (cs : List Operand) → total lineLength (emitReadChildren v i B cs) ≤ 11 * length cs
 unfolding total emitReadChildren
 reads-lines v i B [] = omega arith
-reads-lines v i B (c ∷ cs) = let h = reads-lines v (suc i) (pvMarkBound B c) cs in omega (arith, read-line (pvIsBound B c) v i c)
+reads-lines v i B (c ∷ cs) = let h = reads-lines v (suc i) (pvMarkBound B c) cs in omega (arith, read-line (pvIsBound B c) v i c, total-append lineLength (readChild v i (pvIsBound B c) c) (emitReadChildren v (suc i) (pvMarkBound B c) cs))
 
-reads-steps : (v i : ℕ) (B : Bound) (cs : List Operand) → total oneEach (emitReadChildren v i B cs) ≡ length cs
+reads-steps : (v i : ℕ) (B : Bound) (cs : List Operand) → total oneEach (emitReadChildren v i B cs) ≤ length cs
 unfolding total emitReadChildren
-reads-steps v i B [] = refl
-reads-steps v i B (c ∷ cs) = let h = reads-steps v (suc i) (pvMarkBound B c) cs in omega arith
+reads-steps v i B [] = omega arith
+reads-steps v i B (c ∷ cs) = let h = reads-steps v (suc i) (pvMarkBound B c) cs in omega (arith, read-step (pvIsBound B c) v i c, total-append oneEach (readChild v i (pvIsBound B c) c) (emitReadChildren v (suc i) (pvMarkBound B c) cs))
 
 -- ---- an atom's steps: one; a Join and one more; or a Join and a line for each child
 data Shape : List Step → Type 0 where

@@ -21,8 +21,8 @@ use Rattle.fields.specs.declared.field.Test.the-variants.{Limits, Range, Reals}
 use Rattle.frame_tests.specs.declared.tests.Text.the-variants.{Plan}
 use Rattle.indexing.specs.Keys.{keyGiven}
 use Rattle.model.specs.Bools.{both, first, second}
-use Rattle.model.specs.Atoms.{Operand, local, global, A, AC, ACI, Lookup, ByOp, ByChildPos, ByRepr, ByContains, Step, Join, ExtractChild, CheckChildEq, CheckEq, CheckEqGlobal, BindGlobal, CopyBinding, Expand, ExtractLitVal, CheckLit, CheckPred}
-use Rattle.model.specs.Limited.{flat-length}
+use Rattle.model.specs.Atoms.{Operand, local, global, wild, A, AC, ACI, Lookup, ByOp, ByChildPos, ByRepr, ByContains, Step, Join, ExtractChild, CheckChildEq, CheckEq, CheckEqGlobal, BindGlobal, CopyBinding, Expand, ExtractLitVal, CheckLit, CheckPred}
+use Rattle.model.specs.Lengths.{flat-length}
 use Rattle.plans.specs.StepFrames.{tagOf, indexOf, operandBytes, lookupBytes, Element, elementsOf, elementBytes, flagOf, orZero, endsFlags, frameOf, Each, Byte, CountsFit, OperandFits, LookupFits, HandleFits, StepFits}
 use Rattle.plans.specs.Items.{items-pass, behind}
 use Rattle.plans.specs.StepsRead.{lookup-wide}
@@ -61,44 +61,48 @@ step-length (ExtractLitVal v l) = refl
 step-length (CheckLit v x) = refl
 step-length (CheckPred g) = refl
 
+abbrev ElementFits : Counts → Element → Type 0
+ElementFits n e = OperandFits n (e .operand) × Byte (e .multiplicity)
+
 -- ---- items, each behind p: within the limits
-tag-fits : (c : Operand) → leb (tagOf c) 1 ≡ true
-tag-fits (local v) = refl
-tag-fits (global g) = refl
+tag-fits : (n : Counts) (c : Operand) → OperandFits n c → leb (tagOf c) 1 ≡ true
+tag-fits n (local v) h = refl
+tag-fits n (global g) h = refl
+tag-fits n wild h = absurd h
 
-operand-limits : (n : Counts) (c : Operand) (p q : List ℕ) → fieldPasses Limits n OperandField (p ++ (operandBytes c ++ q)) (length p) ≡ true
+operand-limits : (n m : Counts) (c : Operand) → OperandFits n c → (p q : List ℕ) → fieldPasses Limits m OperandField (p ++ (operandBytes c ++ q)) (length p) ≡ true
 unfolding fieldPasses fieldFits
-operand-limits n c p q = rw (behind p (operandBytes c ++ q)) (tag-fits c)
+operand-limits n m c h p q = rw (behind p (operandBytes c ++ q)) (tag-fits n c h)
 
-element-limits : (n : Counts) (e : Element) (p q : List ℕ) → fieldPasses Limits n ElementField (p ++ (elementBytes e ++ q)) (length p) ≡ true
+element-limits : (n m : Counts) (e : Element) → ElementFits n e → (p q : List ℕ) → fieldPasses Limits m ElementField (p ++ (elementBytes e ++ q)) (length p) ≡ true
 unfolding fieldPasses fieldFits
-element-limits n e p q = rw (behind p (elementBytes e ++ q)) (tag-fits (e .operand))
+element-limits n m e h p q = rw (behind p (elementBytes e ++ q)) (tag-fits n (e .operand) (h .0))
 
-lookup-limits : (n : Counts) (l : Lookup) (p q : List ℕ) → fieldPasses Limits n LookupField (p ++ (lookupBytes l ++ q)) (length p) ≡ true
+lookup-limits : (n m : Counts) (l : Lookup) → LookupFits n l → (p q : List ℕ) → fieldPasses Limits m LookupField (p ++ (lookupBytes l ++ q)) (length p) ≡ true
 unfolding fieldPasses fieldFits
-lookup-limits n l p q =
+lookup-limits n m l h p q =
     let r = lookupBytes l ++ q in
-    rw (behind p r, getD-append-add p r 1 0, getD-append-add p r 2 0, getD-append-add p r 3 0) (go l)
+    rw (behind p r, getD-append-add p r 1 0, getD-append-add p r 2 0, getD-append-add p r 3 0) (go l h)
   where
-    go : (l : Lookup) → lookupFits (getD (lookupBytes l ++ q) 0 0) (getD (lookupBytes l ++ q) 1 0) (getD (lookupBytes l ++ q) 2 0) (getD (lookupBytes l ++ q) 3 0) ≡ true
-    go (ByOp o) = refl
-    go (ByChildPos (local v) i) = refl
-    go (ByChildPos (global g) i) = refl
-    go (ByRepr v) = refl
-    go (ByContains (local v)) = refl
-    go (ByContains (global g)) = refl
+    go : (l : Lookup) → LookupFits n l → lookupFits (getD (lookupBytes l ++ q) 0 0) (getD (lookupBytes l ++ q) 1 0) (getD (lookupBytes l ++ q) 2 0) (getD (lookupBytes l ++ q) 3 0) ≡ true
+    go (ByOp o) h = refl
+    go (ByChildPos (local v) i) h = refl
+    go (ByChildPos (global g) i) h = refl
+    go (ByChildPos wild i) h = absurd (h .0)
+    go (ByRepr v) h = refl
+    go (ByContains (local v)) h = refl
+    go (ByContains (global g)) h = refl
+    go (ByContains wild) h = absurd h
 
 -- ---- items within the counts
 operand-in : (n : Counts) (c : Operand) → OperandFits n c → operandIn n (tagOf c) (indexOf c) ≡ true
 operand-in n (local v) h = lt-ltb v (n .variables) h
 operand-in n (global g) h = lt-ltb g (n .globals) h
+operand-in n wild h = absurd h
 
 operand-range : (n : Counts) (c : Operand) → OperandFits n c → (p q : List ℕ) → fieldPasses Range n OperandField (p ++ (operandBytes c ++ q)) (length p) ≡ true
 unfolding fieldPasses fieldIn
 operand-range n c h p q = rw (behind p (operandBytes c ++ q), getD-append-add p (operandBytes c ++ q) 1 0) (operand-in n c h)
-
-abbrev ElementFits : Counts → Element → Type 0
-ElementFits n e = OperandFits n (e .operand) × Byte (e .multiplicity)
 
 element-range : (n : Counts) (e : Element) → ElementFits n e → (p q : List ℕ) → fieldPasses Range n ElementField (p ++ (elementBytes e ++ q)) (length p) ≡ true
 unfolding fieldPasses fieldIn
@@ -147,25 +151,26 @@ pub step-limits : (n m : Counts) (s : Step) → StepFits n s → framePasses (fi
 unfolding frameOf kindAt kinds passAll fieldPasses fieldFits
 step-limits n m (Join t k ls) h =
     rw (le-leb (length ls) lookupsMost (h .2))
-    (items-pass lookupBytes (fieldPasses Limits m) LookupField (λ l. Unit {0}) lookup-wide (λ l u. lookup-limits m l) ls (each-any ls) (0x40 ∷ t ∷ k ∷ length ls ∷ []))
+    (items-pass lookupBytes (fieldPasses Limits m) LookupField (LookupFits n) lookup-wide (lookup-limits n m) ls (h .3) (0x40 ∷ t ∷ k ∷ length ls ∷ []))
 step-limits n m (ExtractChild t p i) h = refl
 step-limits n m (CheckChildEq p i (local v)) h = refl
 step-limits n m (CheckChildEq p i (global g)) h = refl
+step-limits n m (CheckChildEq p i wild) h = absurd (h .2)
 step-limits n m (CheckEq a b) h = refl
 step-limits n m (CheckEqGlobal a g) h = refl
 step-limits n m (BindGlobal t g) h = refl
 step-limits n m (CopyBinding t o) h = refl
 step-limits n m (Expand v cs (A p s)) h =
     rw (ends-fit p s, le-leb (length cs) itemsMost (h .1 .0))
-    (items-pass operandBytes (fieldPasses Limits m) OperandField (λ c. Unit {0}) (λ c. refl) (λ c u. operand-limits m c) cs (each-any cs) (0x47 ∷ v ∷ endsFlags p s ∷ orZero p ∷ orZero s ∷ length cs ∷ []))
+    (items-pass operandBytes (fieldPasses Limits m) OperandField (OperandFits n) (λ c. refl) (operand-limits n m) cs (h .1 .1) (0x47 ∷ v ∷ endsFlags p s ∷ orZero p ∷ orZero s ∷ length cs ∷ []))
 step-limits n m (Expand v cs (AC ms r)) h =
     let es = elementsOf cs ms in
     let few : length es ≤ itemsMost = omega (arith, elements-length cs ms, h .1 .0) in
     rw (rest-fits r, le-leb (length es) itemsMost few)
-    (items-pass elementBytes (fieldPasses Limits m) ElementField (λ e. Unit {0}) (λ e. refl) (λ e u. element-limits m e) es (each-any es) (0x48 ∷ v ∷ flagOf r ∷ orZero r ∷ length es ∷ []))
+    (items-pass elementBytes (fieldPasses Limits m) ElementField (ElementFits n) (λ e. refl) (element-limits n m) es (elements-fit n cs ms (h .1 .1) (h .2 .1)) (0x48 ∷ v ∷ flagOf r ∷ orZero r ∷ length es ∷ []))
 step-limits n m (Expand v cs (ACI r)) h =
     rw (rest-fits r, le-leb (length cs) itemsMost (h .1 .0))
-    (items-pass operandBytes (fieldPasses Limits m) OperandField (λ c. Unit {0}) (λ c. refl) (λ c u. operand-limits m c) cs (each-any cs) (0x49 ∷ v ∷ flagOf r ∷ orZero r ∷ length cs ∷ []))
+    (items-pass operandBytes (fieldPasses Limits m) OperandField (OperandFits n) (λ c. refl) (operand-limits n m) cs (h .1 .1) (0x49 ∷ v ∷ flagOf r ∷ orZero r ∷ length cs ∷ []))
 step-limits n m (ExtractLitVal v l) h = refl
 step-limits n m (CheckLit v x) h = refl
 step-limits n m (CheckPred g) h = refl
@@ -250,6 +255,7 @@ module _ (n : Counts) (fit : CountsFit n) where
   operand-bytes : (c : Operand) → OperandFits n c → areBytes (operandBytes c) ≡ true
   operand-bytes (local v) h = rw (variable-byte h)
   operand-bytes (global g) h = rw (global-byte h)
+  operand-bytes wild h = absurd h
 
   element-bytes : (e : Element) → ElementFits n e → areBytes (elementBytes e) ≡ true
   element-bytes e h = bytes-append (operandBytes (e .operand)) (e .multiplicity ∷ []) (operand-bytes (e .operand) (h .0)) (rw (lt-ltb (e .multiplicity) 256 (h .1)))

@@ -12,9 +12,8 @@ use borrow.Author.Tests.{ne-eqb}
 use Rattle.base.specs.Choose.{pick}
 use Rattle.hex.specs.Digits.{wordAt}
 use Rattle.fields.specs.declared.field.Counts.{Counts}
-use Rattle.model.specs.Atoms.{Operand, local, global, A, AC, ACI, Lookup, ByOp, ByChildPos, ByRepr, ByContains, Step, Join, ExtractChild, CheckChildEq, CheckEq, CheckEqGlobal, BindGlobal, CopyBinding, Expand, ExtractLitVal, CheckLit, CheckPred}
-use Rattle.model.specs.Limited.{isJoin}
-use Rattle.plans.specs.StepFrames.{operandBytes, lookupBytes, Element, elementsOf, elementBytes, flagOf, orZero, endsFlags, wordBytes, frameOf, operandAt, lookupAt, elementAt, someIf, itemsAt, stepOf, StepFits}
+use Rattle.model.specs.Atoms.{Operand, local, global, wild, A, AC, ACI, Lookup, ByOp, ByChildPos, ByRepr, ByContains, Step, Join, ExtractChild, CheckChildEq, CheckEq, CheckEqGlobal, BindGlobal, CopyBinding, Expand, ExtractLitVal, CheckLit, CheckPred, isJoin}
+use Rattle.plans.specs.StepFrames.{operandBytes, lookupBytes, Element, elementsOf, elementBytes, flagOf, orZero, endsFlags, wordBytes, frameOf, operandAt, lookupAt, elementAt, someIf, itemsAt, stepOf, Each, OperandFits, LookupFits, StepFits}
 use Rattle.plans.specs.Items.{items-read, behind}
 
 -- what begins behind p
@@ -29,34 +28,43 @@ lookup-behind p r =
 element-behind : (p r : List ℕ) → elementAt (p ++ r) (length p) ≡ elementAt r 0
 element-behind p r = rw (behind p r, getD-append-add p r 1 0, getD-append-add p r 2 0)
 
-operand-at : (c : Operand) (p q : List ℕ) → operandAt (p ++ (operandBytes c ++ q)) (length p) ≡ c
-operand-at c p q = operand-behind p (operandBytes c ++ q) ∙ go c
+operand-at : (n : Counts) (c : Operand) → OperandFits n c → (p q : List ℕ) → operandAt (p ++ (operandBytes c ++ q)) (length p) ≡ c
+operand-at n c h p q = operand-behind p (operandBytes c ++ q) ∙ go c h
   where
-    go : (c : Operand) → operandAt (operandBytes c ++ q) 0 ≡ c
-    go (local v) = refl
-    go (global g) = refl
+    go : (c : Operand) → OperandFits n c → operandAt (operandBytes c ++ q) 0 ≡ c
+    go (local v) h = refl
+    go (global g) h = refl
+    go wild h = absurd h
 
-lookup-at : (l : Lookup) (p q : List ℕ) → lookupAt (p ++ (lookupBytes l ++ q)) (length p) ≡ l
-lookup-at l p q = lookup-behind p (lookupBytes l ++ q) ∙ go l
+lookup-at : (n : Counts) (l : Lookup) → LookupFits n l → (p q : List ℕ) → lookupAt (p ++ (lookupBytes l ++ q)) (length p) ≡ l
+lookup-at n l h p q = lookup-behind p (lookupBytes l ++ q) ∙ go l h
   where
-    go : (l : Lookup) → lookupAt (lookupBytes l ++ q) 0 ≡ l
-    go (ByOp o) = refl
-    go (ByChildPos (local v) i) = refl
-    go (ByChildPos (global g) i) = refl
-    go (ByRepr n) = refl
-    go (ByContains (local v)) = refl
-    go (ByContains (global g)) = refl
+    go : (l : Lookup) → LookupFits n l → lookupAt (lookupBytes l ++ q) 0 ≡ l
+    go (ByOp o) h = refl
+    go (ByChildPos (local v) i) h = refl
+    go (ByChildPos (global g) i) h = refl
+    go (ByChildPos wild i) h = absurd (h .0)
+    go (ByRepr v) h = refl
+    go (ByContains (local v)) h = refl
+    go (ByContains (global g)) h = refl
+    go (ByContains wild) h = absurd h
 
-element-at : (e : Element) (p q : List ℕ) → elementAt (p ++ (elementBytes e ++ q)) (length p) ≡ e
-element-at e p q = element-behind p (elementBytes e ++ q) ∙ go (e .operand)
+element-at : (n : Counts) (e : Element) → OperandFits n (e .operand) → (p q : List ℕ) → elementAt (p ++ (elementBytes e ++ q)) (length p) ≡ e
+element-at n e h p q = element-behind p (elementBytes e ++ q) ∙ go (e .operand) h
   where
-    go : (c : Operand) → elementAt (elementBytes (record { operand = c; multiplicity = e .multiplicity }) ++ q) 0 ≡ record { operand = c; multiplicity = e .multiplicity }
-    go (local v) = refl
-    go (global g) = refl
+    go : (c : Operand) → OperandFits n c → elementAt (elementBytes (record { operand = c; multiplicity = e .multiplicity }) ++ q) 0 ≡ record { operand = c; multiplicity = e .multiplicity }
+    go (local v) h = refl
+    go (global g) h = refl
+    go wild h = absurd h
+
+elements-fit : (n : Counts) (cs : List Operand) (ms : List ℕ) → Each (OperandFits n) cs → Each (λ e. OperandFits n (e .operand)) (elementsOf cs ms)
+elements-fit n [] ms h = tt
+elements-fit n (c ∷ cs) [] h = (h .0, elements-fit n cs [] (h .1))
+elements-fit n (c ∷ cs) (m ∷ ms) h = (h .0, elements-fit n cs ms (h .1))
 
 -- as many items as n says, behind the fields p
-operands-read : (cs : List Operand) (p : List ℕ) → itemsAt operandAt 2 (p ++ flatMap operandBytes cs) (length p) (length cs) ≡ cs
-operands-read = items-read operandBytes 2 (λ c. refl) operandAt operand-at
+operands-read : (n : Counts) (cs : List Operand) → Each (OperandFits n) cs → (p : List ℕ) → itemsAt operandAt 2 (p ++ flatMap operandBytes cs) (length p) (length cs) ≡ cs
+operands-read n = items-read operandBytes 2 (λ c. refl) operandAt (OperandFits n) (operand-at n)
 
 pub lookup-wide : (l : Lookup) → length (lookupBytes l) ≡ 4
 lookup-wide (ByOp o) = refl
@@ -64,11 +72,11 @@ lookup-wide (ByChildPos c i) = refl
 lookup-wide (ByRepr n) = refl
 lookup-wide (ByContains c) = refl
 
-lookups-read : (ls : List Lookup) (p : List ℕ) → itemsAt lookupAt 4 (p ++ flatMap lookupBytes ls) (length p) (length ls) ≡ ls
-lookups-read = items-read lookupBytes 4 lookup-wide lookupAt lookup-at
+lookups-read : (n : Counts) (ls : List Lookup) → Each (LookupFits n) ls → (p : List ℕ) → itemsAt lookupAt 4 (p ++ flatMap lookupBytes ls) (length p) (length ls) ≡ ls
+lookups-read n = items-read lookupBytes 4 lookup-wide lookupAt (LookupFits n) (lookup-at n)
 
-elements-read : (es : List Element) (p : List ℕ) → itemsAt elementAt 3 (p ++ flatMap elementBytes es) (length p) (length es) ≡ es
-elements-read = items-read elementBytes 3 (λ e. refl) elementAt element-at
+elements-read : (n : Counts) (es : List Element) → Each (λ e. OperandFits n (e .operand)) es → (p : List ℕ) → itemsAt elementAt 3 (p ++ flatMap elementBytes es) (length p) (length es) ≡ es
+elements-read n = items-read elementBytes 3 (λ e. refl) elementAt (λ e. OperandFits n (e .operand)) (element-at n)
 
 -- operands and multiplicities from their elements
 operands-of : (cs : List Operand) (ms : List ℕ) → map (λ e. e .operand) (elementsOf cs ms) ≡ cs
@@ -105,18 +113,19 @@ word-read k v x = omega arith
 
 pub read-back : (n : Counts) (s : Step) → StepFits n s → stepOf (frameOf s) ≡ s
 unfolding frameOf stepOf
-read-back n (Join t k ls) h = rw (lookups-read ls (0x40 ∷ t ∷ k ∷ length ls ∷ []))
+read-back n (Join t k ls) h = rw (lookups-read n ls (h .3) (0x40 ∷ t ∷ k ∷ length ls ∷ []))
 read-back n (ExtractChild t p i) h = refl
 read-back n (CheckChildEq p i (local v)) h = refl
 read-back n (CheckChildEq p i (global g)) h = refl
+read-back n (CheckChildEq p i wild) h = absurd (h .2)
 read-back n (CheckEq a b) h = refl
 read-back n (CheckEqGlobal a g) h = refl
 read-back n (BindGlobal t g) h = refl
 read-back n (CopyBinding t o) h = refl
-read-back n (Expand v cs (A p s)) h = rw (operands-read cs (0x47 ∷ v ∷ endsFlags p s ∷ orZero p ∷ orZero s ∷ length cs ∷ []), pre-read p s, suf-read p s)
+read-back n (Expand v cs (A p s)) h = rw (operands-read n cs (h .1 .1) (0x47 ∷ v ∷ endsFlags p s ∷ orZero p ∷ orZero s ∷ length cs ∷ []), pre-read p s, suf-read p s)
 read-back n (Expand v cs (AC ms r)) h =
-    rw (elements-read (elementsOf cs ms) (0x48 ∷ v ∷ flagOf r ∷ orZero r ∷ length (elementsOf cs ms) ∷ []), operands-of cs ms, multiplicities-of cs ms (h .2 .0), rest-read r)
-read-back n (Expand v cs (ACI r)) h = rw (operands-read cs (0x49 ∷ v ∷ flagOf r ∷ orZero r ∷ length cs ∷ []), rest-read r)
+    rw (elements-read n (elementsOf cs ms) (elements-fit n cs ms (h .1 .1)) (0x48 ∷ v ∷ flagOf r ∷ orZero r ∷ length (elementsOf cs ms) ∷ []), operands-of cs ms, multiplicities-of cs ms (h .2 .0), rest-read r)
+read-back n (Expand v cs (ACI r)) h = rw (operands-read n cs (h .1 .1) (0x49 ∷ v ∷ flagOf r ∷ orZero r ∷ length cs ∷ []), rest-read r)
 read-back n (ExtractLitVal v l) h = refl
 read-back n (CheckLit v x) h = rw (word-read 0x4b v x)
 read-back n (CheckPred g) h = refl

@@ -10,7 +10,7 @@ use Rattle.running.specs.RefusalBounds.{Within}
 use Rattle.runner.specs.Runs.{statusOf}
 use Rattle.entries.specs.Outcomes.{outcomeOf}
 use Rattle.entries.specs.declared.run.Outcome.{Outcome as OutcomeAs}
-use Rattle.entries.specs.declared.run.Outcome.the-variants.{Refused as TurnedBack, Ran as Went}
+use Rattle.entries.specs.declared.run.Outcome.the-variants.{Refused as Invalid, Ran as Went}
 use Rattle.run_answers.specs.Runs.{code, packedRun}
 
 pub code-same : (k : ℕ) → codeOf k ≡ code (statusOf k)
@@ -27,7 +27,7 @@ few-codes Full = omega arith
 pub within-told : (k x l : ℕ) → Within k x l → TellsRefusal k x l (packedRefusal k x l)
 within-told k x l w = refusal-told k x l (omega (arith, w .number)) (omega (arith, w .text)) (omega (arith, w .line))
 
-pub packed-back : (o : OutcomeAs) (k x l n : ℕ) → o ≡ TurnedBack k x l → n ≡ packedRefusal k x l → n ≡ packedRun (outcomeOf o)
+pub packed-back : (o : OutcomeAs) (k x l n : ℕ) → o ≡ Invalid k x l → n ≡ packedRefusal k x l → n ≡ packedRun (outcomeOf o)
 packed-back o k x l n e h = h ∙ ap (λ (q : OutcomeAs). packedRun (outcomeOf q)) (sym e)
 
 pub packed-ran : (o : OutcomeAs) (s tries matches w n : ℕ) → o ≡ Went s tries matches w → n ≡ packedWritten (codeOf s) w → n ≡ packedRun (outcomeOf o)

@@ -1,9 +1,9 @@
 -- An accepted table has no two equal rows: `distinct-rows`. Proved from 7, "two equal rows": the frame of a row is had back from the row.
 use Prim.Native.Nat.{ℕ, zero, suc, _+_, _*_, _/_, _%_, _<_}
-use mathlib.Core.Path.{_≡_, refl, sym, _∙_, ap}
+use mathlib.Core.Path.{_≡_, refl, sym, _∙_, ap, subst}
 use mathlib.Core.Logic.{_≢_, _⊎_, inl, inr}
 use mathlib.Core.Bool.{Bool, true, false}
-use mathlib.Core.List.{List, [], _∷_, _++_, flatMap, append-assoc, List·Memᴰ, List·Memᴰ·cases-cons, List·Memᴰ·not-nil}
+use mathlib.Core.List.{List, [], _∷_, _++_, flatMap, append-assoc, append-nil, List·Memᴰ, List·Memᴰ·cases-cons, List·Memᴰ·not-nil}
 use native.Mathlib.Omega.{arith}
 use lib.ListN.{length, getD, length-append}
 use lib.Seq.{getD-append-add}
@@ -28,7 +28,7 @@ use Rattle.model.specs.Matching.{Distinct}
 use Rattle.model.specs.Limits.{classBytes}
 use Rattle.plans.specs.StepFrames.{itemsAt, wordBytes}
 use Rattle.plans.specs.Items.{items-count, behind}
-use Rattle.running.specs.Tables.{rowOf, rowsIn, tableOf}
+use Rattle.running.specs.Tables.{rowOf, rowsIn, tableOf, tableIn}
 
 -- ---- the frame of a row
 
@@ -189,10 +189,10 @@ row-keyed b h = by b (row-kind b h)
     by b (is-literal e) k = let z : kindAt 0x31 .key ≡ 0 = rw e at k in omega arith
 
 pub distinct-rows : (t : List ℕ) (n c : ℕ) → reading Table t ≡ Accepted n c → Distinct (tableOf t)
-unfolding tableOf
+unfolding tableIn
 distinct-rows t n c ok =
     let w = accepted Table t n c ok in
     let e = w .lines in
-    rows-apart (framesOf t)
+    subst (Pairs _≢_) (sym (append-nil (rowsIn (framesOf t)))) (rows-apart (framesOf t)
     (λ i h. record { long = w .formed i (omega arith) .long; bytes = is-true (areBytes (getD (framesOf t) i [])) (frame-bytes t i) })
-    (λ i j h l r q. w .apart i j h (omega arith) (row-keyed (getD (getD (framesOf t) j []) 0 0) r) (ap keyOf q))
+    (λ i j h l r q. w .apart i j h (omega arith) (row-keyed (getD (getD (framesOf t) j []) 0 0) r) (ap keyOf q)))

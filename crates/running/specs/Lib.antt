@@ -1,6 +1,6 @@
 -- Definitions, in document 01's words
 pub mod Tables
-pub mod Turning
+pub mod Validation
 pub mod Run
 -- Theorems
 pub mod Refusals

@@ -1,20 +1,20 @@
--- Whether texts are turned back depends on neither allowance nor output: a run that is turned back says so and writes nothing, and one run
+-- Whether texts are refused depends on neither allowance nor output: a run that is refused says so and writes nothing, and one run
 -- that is not says that none is. Proved by cases on the verdict.
 use Prim.Native.Nat.{ℕ}
 use mathlib.Core.Path.{_≡_, refl}
 use mathlib.Core.List.{List}
 use Rattle.model.specs.Limits.{Played}
-use Rattle.running.specs.Turning.{Verdict, Passed, TurnedBack, turning}
+use Rattle.running.specs.Validation.{Verdict, Passed, Invalid, validation}
 use Rattle.running.specs.Run.{Refused, afterTests, run}
 
-pub turned-back : (p t : List ℕ) (k x l : ℕ) → turning p t ≡ TurnedBack k x l → (A : ℕ) (o : List ℕ) → run p t A o ≡ record { outcome = Refused k x l; output = o }
+pub invalid-run : (p t : List ℕ) (k x l : ℕ) → validation p t ≡ Invalid k x l → (A : ℕ) (o : List ℕ) → run p t A o ≡ record { outcome = Refused k x l; output = o }
 unfolding run
-turned-back p t k x l h A o = rw h
+invalid-run p t k x l h A o = rw h
 
-pub not-refused : (p t : List ℕ) (A : ℕ) (o : List ℕ) → ((k x l : ℕ) → run p t A o .outcome ≡ Refused k x l → ⊥) → turning p t ≡ Passed
+pub not-refused : (p t : List ℕ) (A : ℕ) (o : List ℕ) → ((k x l : ℕ) → run p t A o .outcome ≡ Refused k x l → ⊥) → validation p t ≡ Passed
 unfolding run
-not-refused p t A o h = by (turning p t) _ h
+not-refused p t A o h = by (validation p t) _ h
   where
     by : (v : Verdict) (r : Played) → ((k x l : ℕ) → afterTests v r o .outcome ≡ Refused k x l → ⊥) → v ≡ Passed
     by Passed r h = refl
-    by (TurnedBack k x l) r h = absurd (h k x l refl)
+    by (Invalid k x l) r h = absurd (h k x l refl)

@@ -6,23 +6,23 @@ use mathlib.Core.List.{List, [], _∷_, flatMap}
 use native.Mathlib.Omega.{arith}
 use native.Mathlib.Nat.{zero-add}
 use lib.ListN.{length}
-use Rattle.model.specs.Running.{Env}
-use Rattle.model.specs.Limits.{Event, Spent, noTally, play, Answer, OutOfTries, triesToFirst, Answers, some-match, no-match, out-of-tries, firstMatch}
+use Rattle.model.specs.Running.{Env, Event}
+use Rattle.model.specs.Limits.{Spent, noTally, play, Answer, OutOfTries, triesToFirst, Answers, some-match, no-match, out-of-tries, firstMatch}
 use Rattle.model.specs.Limited.{wrote, bounded}
 use Rattle.model.specs.Answered.{first-answers, spent-to, spent-back}
-use Rattle.running.specs.Turning.{Verdict, Passed, TurnedBack, turning}
+use Rattle.running.specs.Validation.{Verdict, Passed, Invalid, validation}
 use Rattle.running.specs.Run.{events, matchLine, lineText, Ran, ran, afterTests, run, Reply, Rejected, Exhausted, replied, Replies, rejects, answers}
 
 -- a run that stops at its first match replies so
 abbrev firstReply : Verdict → List ℕ → Answer → Reply
-firstReply (TurnedBack k x l) p a = Rejected k x l
+firstReply (Invalid k x l) p a = Rejected k x l
 firstReply Passed p a = replied p a
 
-pub first-replies : (p t : List ℕ) (A : ℕ) → Replies p t A (firstReply (turning p t) p (firstMatch A (events p t)))
-first-replies p t A = by (turning p t) refl
+pub first-replies : (p t : List ℕ) (A : ℕ) → Replies p t A (firstReply (validation p t) p (firstMatch A (events p t)))
+first-replies p t A = by (validation p t) refl
   where
-    by : (v : Verdict) → turning p t ≡ v → Replies p t A (firstReply v p (firstMatch A (events p t)))
-    by (TurnedBack k x l) h = rejects k x l h refl
+    by : (v : Verdict) → validation p t ≡ v → Replies p t A (firstReply v p (firstMatch A (events p t)))
+    by (Invalid k x l) h = rejects k x l h refl
     by Passed h = answers (firstMatch A (events p t)) h (first-answers A (events p t)) refl
 
 -- a run that is spent without a match has written nothing
@@ -51,13 +51,13 @@ module _ (p t : List ℕ) (A : ℕ) where
 
   pub exhausted-back : (o : List ℕ) (n w : ℕ) → run p t A o .outcome ≡ Ran Spent n 0 w → Replies p t A Exhausted
   unfolding run
-  exhausted-back o n w h = by (turning p t) refl h
+  exhausted-back o n w h = by (validation p t) refl h
     where
       text : Env → List ℕ
       text = λ σ. lineText (matchLine p σ)
 
-      by : (v : Verdict) → turning p t ≡ v → afterTests v (play text A (events p t) noTally o) o .outcome ≡ Ran Spent n 0 w → Replies p t A Exhausted
-      by (TurnedBack k x l) q h = let z : _≡_ {A = ℕ} 0 1 = cc in absurd (omega arith)
+      by : (v : Verdict) → validation p t ≡ v → afterTests v (play text A (events p t) noTally o) o .outcome ≡ Ran Spent n 0 w → Replies p t A Exhausted
+      by (Invalid k x l) q h = let z : _≡_ {A = ℕ} 0 1 = cc in absurd (omega arith)
       by Passed q h =
           let s : play text A (events p t) noTally o .status ≡ Spent = cc in
           let m : play text A (events p t) noTally o .tally .matches ≡ 0 = cc in

@@ -2,7 +2,7 @@
 use Prim.Native.Nat.{ℕ, _+_, _<_}
 use mathlib.Core.Path.{_≡_, refl, sym, _∙_, subst}
 use mathlib.Core.Bool.{Bool, true, false}
-use mathlib.Core.List.{List, [], _∷_, flatMap}
+use mathlib.Core.List.{List, [], _∷_, map, flatMap}
 use native.Mathlib.Omega.{arith}
 use lib.Dec.{T, eqb}
 use lib.ListN.{length, getD}
@@ -11,10 +11,11 @@ use Rattle.base.specs.Choose.{pick}
 use Rattle.fields.specs.Fields.{width}
 use Rattle.kinds.specs.Kinds.{kinds, kindAt, fixedLength, itemsOf}
 use Rattle.frames.specs.Frames.{kindOf}
-use Rattle.model.specs.Atoms.{Operand, local, global, ByOp, ByRepr, Join}
+use Rattle.model.specs.Atoms.{Operand, local, global, wild, tame, ByOp, ByRepr, Join}
 use Rattle.model.specs.Bound.{Bound}
 use Rattle.model.specs.Lowering.{pvIsBound, readChild}
 use Rattle.cost.specs.QueryAtoms.{operandAt, operandsFrom}
+use Rattle.cost.specs.Tame.{operand-tame}
 use Rattle.plans.specs.StepFrames.{tagOf, indexOf, lookupBytes, frameOf}
 use Rattle.lowering.specs.AtomLines.{itemOperands}
 use Rattle.lowering.proofs.OperandLaws.{items-are}
@@ -63,21 +64,24 @@ item-bytes f j tag index m ht hi hm = rw (ht, hi ∙ index-at f j, hm)
 
 -- ---- a child
 
-check-begins : (c : Operand) (n i tag index : ℕ) → tag ≡ tagOf c → index ≡ indexOf c → Begins (0x42 ∷ n ∷ i ∷ tag ∷ index ∷ []) (frameOf (readChild n i true c) ∷ [])
+check-begins : (c : Operand) → tame c ≡ true → (n i tag index : ℕ) → tag ≡ tagOf c → index ≡ indexOf c → Begins (0x42 ∷ n ∷ i ∷ tag ∷ index ∷ []) (map frameOf (readChild n i true c))
 unfolding frameOf kindAt kinds
-check-begins c n i tag index p q = record { fits = omega arith; few = omega arith; is = rw (p, q) }
+check-begins (local v) h n i tag index p q = record { fits = omega arith; few = omega arith; is = rw (p, q) }
+check-begins (global g) h n i tag index p q = record { fits = omega arith; few = omega arith; is = rw (p, q) }
+check-begins wild h n i tag index p q = absurd (subst T (sym h) tt)
 
-extract-begins : (c : Operand) (B : Bound) (n i index : ℕ) → pvIsBound B c ≡ false → index ≡ indexOf c → Begins (0x41 ∷ index ∷ n ∷ i ∷ 0 ∷ []) (frameOf (readChild n i false c) ∷ [])
+extract-begins : (c : Operand) → tame c ≡ true → (B : Bound) (n i index : ℕ) → pvIsBound B c ≡ false → index ≡ indexOf c → Begins (0x41 ∷ index ∷ n ∷ i ∷ 0 ∷ []) (map frameOf (readChild n i false c))
 unfolding frameOf kindAt kinds
-extract-begins (local v) B n i index h q = record { fits = omega arith; few = omega arith; is = rw q }
-extract-begins (global g) B n i index h q = absurd (subst T h tt)
+extract-begins (local v) t B n i index h q = record { fits = omega arith; few = omega arith; is = rw q }
+extract-begins (global g) t B n i index h q = absurd (subst T h tt)
+extract-begins wild t B n i index h q = absurd (subst T (sym t) tt)
 
 module _ (f : List ℕ) (B : Bound) (j : ℕ) (t : Bool) (is : t ≡ pvIsBound B (operandAt f j)) (n index : ℕ) (hn : n ≡ getD f 1 0) (hi : index ≡ getD f (j + 1) 0) (i : ℕ) where
-  pub child-checked : (tag : ℕ) → t ≡ true → tag ≡ tagOf (operandAt f j) → Begins (0x42 ∷ n ∷ i ∷ tag ∷ index ∷ []) (frameOf (readChild (getD f 1 0) i (pvIsBound B (operandAt f j)) (operandAt f j)) ∷ [])
-  child-checked tag h p = rw (sym is ∙ h, ← hn) (check-begins (operandAt f j) n i tag index p (hi ∙ index-at f j))
+  pub child-checked : (tag : ℕ) → t ≡ true → tag ≡ tagOf (operandAt f j) → Begins (0x42 ∷ n ∷ i ∷ tag ∷ index ∷ []) (map frameOf (readChild (getD f 1 0) i (pvIsBound B (operandAt f j)) (operandAt f j)))
+  child-checked tag h p = rw (sym is ∙ h, ← hn) (check-begins (operandAt f j) (operand-tame f j) n i tag index p (hi ∙ index-at f j))
 
-  pub child-extracted : t ≡ false → Begins (0x41 ∷ index ∷ n ∷ i ∷ 0 ∷ []) (frameOf (readChild (getD f 1 0) i (pvIsBound B (operandAt f j)) (operandAt f j)) ∷ [])
-  child-extracted h = rw (sym is ∙ h, ← hn) (extract-begins (operandAt f j) B n i index (sym is ∙ h) (hi ∙ index-at f j))
+  pub child-extracted : t ≡ false → Begins (0x41 ∷ index ∷ n ∷ i ∷ 0 ∷ []) (map frameOf (readChild (getD f 1 0) i (pvIsBound B (operandAt f j)) (operandAt f j)))
+  child-extracted h = rw (sym is ∙ h, ← hn) (extract-begins (operandAt f j) (operand-tame f j) B n i index (sym is ∙ h) (hi ∙ index-at f j))
 
 -- ---- a Join
 

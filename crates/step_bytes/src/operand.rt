@@ -1,6 +1,6 @@
 // What an operand of an atom's frame becomes: a lookup of the Join, or the step that reads a Plain's child.
 ghost use mathlib.Core.Path.{_≡_};
-ghost use mathlib.Core.List.{[], _∷_};
+ghost use mathlib.Core.List.{[], _∷_, map};
 ghost use Prim.Native.Nat.{_+_, _<_};
 ghost use lib.ListN.{getD};
 ghost use Rattle.model.specs.Lowering.{pvIsBound, readChild};
@@ -47,7 +47,7 @@ pub fn lookup_at(frame: &[u8], j: usize, plain: bool, position: u8) -> [u8; 4]
 // The step of the child at byte j: checked where it is bound, else extracted.
 pub fn child_at(frame: &[u8], j: usize, position: u8, bound: &[bool]) -> [u8; 5]
     requires { ⌜ j < 65536 ⌝ }
-    ensures { λ r. ⌜ Begins r (frameOf (readChild (getD (now (frame .entry)) 1 0) position (pvIsBound (now (bound .entry)) (operandAt (now (frame .entry)) j)) (operandAt (now (frame .entry)) j)) ∷ []) ⌝ }
+    ensures { λ r. ⌜ Begins r (map frameOf (readChild (getD (now (frame .entry)) 1 0) position (pvIsBound (now (bound .entry)) (operandAt (now (frame .entry)) j)) (operandAt (now (frame .entry)) j))) ⌝ }
 {
     let node = byte_at(frame, 1);
     let index = byte_at(frame, j + 1);

@@ -8,12 +8,11 @@ use lib.Dec.{eqb}
 use lib.ListN.{length, getD, set, length-set}
 use borrow.Author.Tests.{ne-eqb, eqb-true, not-true, not-false}
 use Rattle.base.specs.Choose.{pick}
-use Rattle.model.specs.Atoms.{Step, Join, ExtractChild, CheckChildEq, CheckEq, CheckEqGlobal, BindGlobal, CopyBinding, Expand, ExtractLitVal, CheckLit, CheckPred}
+use Rattle.model.specs.Atoms.{Step, Join, ExtractChild, CheckChildEq, CheckEq, CheckEqGlobal, BindGlobal, CopyBinding, Expand, ExtractLitVal, CheckLit, CheckPred, isJoin}
 use Rattle.model.specs.Bools.{true-false}
 use Rattle.model.specs.Bound.{Bound, add, put, put-set}
 use Rattle.model.specs.Reading.{boundBy, pickedBy}
 use Rattle.model.specs.Refusing.{joinOp, runnable, opsBy}
-use Rattle.model.specs.Limited.{isJoin}
 use Rattle.plans.specs.StepFrames.{stepOf}
 use Rattle.plans.specs.StepsRead.{no-join}
 use Rattle.turning.specs.Steps.{lookupsOf}

@@ -10,12 +10,11 @@ use lib.ListN.{length, getD}
 use borrow.Author.Tests.{ne-eqb, lt-ltb, le-ltb, not-true, not-false}
 use Rattle.base.specs.Choose.{pick}
 use Rattle.base.specs.Table.{all}
-use Rattle.model.specs.Atoms.{local, global, Lookup, ByOp, ByChildPos, ByRepr, ByContains, Step, Join, ExtractChild, CheckChildEq, CheckEq, CheckEqGlobal, BindGlobal, CopyBinding, Expand, ExtractLitVal, CheckLit, CheckPred, Row, Node, Literal, unset, Table, globalClass}
+use Rattle.model.specs.Atoms.{local, global, Lookup, ByOp, ByChildPos, ByRepr, ByContains, Step, Join, ExtractChild, CheckChildEq, CheckEq, CheckEqGlobal, BindGlobal, CopyBinding, Expand, ExtractLitVal, CheckLit, CheckPred, Row, Node, Literal, unset, Table, globalClass, isJoin}
 use Rattle.model.specs.Lists.{one}
 use Rattle.model.specs.Bound.{Bound, has, hasAll, hasNone}
 use Rattle.model.specs.Reading.{lookupReads, namedByRepr, isRepr}
 use Rattle.model.specs.Refusing.{countOps, joinOp, allRows, isLiteral, hasChild, lookupsFit, opAt}
-use Rattle.model.specs.Limited.{isJoin}
 use Rattle.plans.specs.StepFrames.{stepOf}
 use Rattle.plans.specs.StepsRead.{no-join}
 use Rattle.running.specs.Turning.{lookupGlobals, allGiven, stepFault}

@@ -1,7 +1,7 @@
 -- The header's bytes, and how many steps an atom becomes, by its kind. Proved byte by byte, and kind by kind.
-use Prim.Native.Nat.{ℕ, suc, _+_, _/_, _%_, _<_, _≤_}
+use Prim.Native.Nat.{ℕ, zero, suc, _+_, _/_, _%_, _<_, _≤_}
 use mathlib.Core.Path.{_≡_, refl, sym, _∙_, ap}
-use mathlib.Core.Bool.{true}
+use mathlib.Core.Bool.{Bool, true, false}
 use mathlib.Core.List.{List, [], _∷_}
 use native.Mathlib.Omega.{arith}
 use lib.Dec.{eqb, ltb}
@@ -11,13 +11,13 @@ use Rattle.base.specs.Choose.{pick}
 use Rattle.frame_tests.specs.Faults.{isAtom}
 use Rattle.kinds.specs.Kinds.{kinds, kindAt, fixedLength, itemsOf}
 use Rattle.frames.specs.Frames.{kindOf}
-use Rattle.cost.specs.Operands.{operands-length}
-use Rattle.cost.specs.QueryAtoms.{atomOfFrame}
+use Rattle.model.specs.Atoms.{local, global}
+use Rattle.cost.specs.QueryAtoms.{operandsFrom, atomOfFrame}
 use Rattle.plans.specs.StepFrames.{headerOf}
 use Rattle.lowering.specs.AtomLines.{AtomLine}
 use Rattle.lowering.proofs.AtomLaws.{by-kind}
 use Rattle.output.specs.Written.{fixedIn, PutsFrames}
-use Rattle.writing.specs.Steps.{stepCount}
+use Rattle.writing.specs.Steps.{readCount, stepCount}
 
 -- ---- the header
 
@@ -38,9 +38,19 @@ module _ (v g n x y z : ℕ) (b : List ℕ) (is : b ≡ headerOf v g n x y z) wh
 abbrev countKind : List ℕ → ℕ
 countKind f = pick (eqb (getD f 0 0) 1) (suc (getD f 3 0)) (pick (ltb (getD f 0 0) 4) 2 (pick (ltb (getD f 0 0) 7) 1 2))
 
+-- every operand of a frame is read
+operands-read : (f : List ℕ) (i w n : ℕ) → readCount (operandsFrom f i w n) ≡ n
+unfolding readCount operandsFrom
+operands-read f i w zero = refl
+operands-read f i w (suc n) = by (eqb (getD f i 0) 0) (operands-read f (i + w) w n)
+  where
+    by : (b : Bool) → readCount (operandsFrom f (i + w) w n) ≡ n → readCount (pick b (local (getD f (i + 1) 0)) (global (getD f (i + 1) 0)) ∷ operandsFrom f (i + w) w n) ≡ suc n
+    by true h = ap suc h
+    by false h = ap suc h
+
 count-kind : (f : List ℕ) → isAtom (getD f 0 0) ≡ true → countKind f ≡ stepCount (atomOfFrame f)
 unfolding atomOfFrame
-count-kind = by-kind (λ f. countKind f ≡ stepCount (atomOfFrame f)) (λ r. ap suc (sym (operands-length (0x01 ∷ r) 4 2 (getD r 2 0)))) (λ r. refl) (λ r. refl) (λ r. refl) (λ r. refl) (λ r. refl) (λ r. refl) (λ r. refl) (λ r. refl) (λ r. refl) (λ r. refl) (λ r. refl) (λ r. refl) (λ r. refl)
+count-kind = by-kind (λ f. countKind f ≡ stepCount (atomOfFrame f)) (λ r. ap suc (sym (operands-read (0x01 ∷ r) 4 2 (getD r 2 0)))) (λ r. refl) (λ r. refl) (λ r. refl) (λ r. refl) (λ r. refl) (λ r. refl) (λ r. refl) (λ r. refl) (λ r. refl) (λ r. refl) (λ r. refl) (λ r. refl) (λ r. refl)
 
 module _ (f : List ℕ) (k : ℕ) (is : k ≡ getD f 0 0) (line : AtomLine f) where
   pub count-plain : (n : ℕ) → n ≡ itemsOf (kindOf f) f → k ≡ 1 → n + 1 ≡ stepCount (atomOfFrame f)

@@ -7,9 +7,9 @@ use mathlib.Core.List.{List, [], _∷_, _++_, map}
 use native.Mathlib.Omega.{arith}
 use lib.ListN.{length, getD, length-append}
 use Rattle.frames.specs.Sheet.{frameAt}
-use Rattle.model.specs.Atoms.{Operand, Atom, Plain, Lit, LitBind, Eq, EqGlobal, Pred, Variadic, Step}
+use Rattle.model.specs.Atoms.{Operand, local, global, wild, Atom, Plain, Lit, LitBind, Eq, EqGlobal, Pred, Variadic, Step}
 use Rattle.model.specs.Bound.{Bound, has, add, most}
-use Rattle.model.specs.Lowering.{Emitted, emitReadChildren, pvMarkBound, lowerEq, lowerEqGlobal, lower, Lowered, done, more}
+use Rattle.model.specs.Lowering.{Emitted, readChild, emitReadChildren, lowerEq, lowerEqGlobal, lower, Lowered, done, more}
 use Rattle.model.specs.Scheduling.{atomOf}
 use Rattle.plans.specs.StepFrames.{frameOf}
 use Rattle.lowering.specs.AtomLines.{boundBehind}
@@ -31,9 +31,16 @@ lowered-steps (more k l e r) = rw (e, lowered-steps r)
 
 -- ---- how many
 
--- a Join, and a step for each child of a Plain or one for a literal or a collection; one step for the others
+-- the children that are read: all but wildcards
+unfoldable pub readCount : List Operand → ℕ
+readCount [] = 0
+readCount (local v ∷ cs) = suc (readCount cs)
+readCount (global g ∷ cs) = suc (readCount cs)
+readCount (wild ∷ cs) = readCount cs
+
+-- a Join, and a step for each such child of a Plain or one for a literal or a collection; one step for the others
 abbrev pub stepCount : Atom → ℕ
-stepCount (Plain n o cs) = suc (length cs)
+stepCount (Plain n o cs) = suc (readCount cs)
 stepCount (Lit n o x) = 2
 stepCount (LitBind n o l) = 2
 stepCount (Eq a b) = 1
@@ -41,10 +48,16 @@ stepCount (EqGlobal a g) = 1
 stepCount (Pred g ds) = 1
 stepCount (Variadic n o cs f) = 2
 
-children-count : (cs : List Operand) (n i : ℕ) (B : Bound) → length (emitReadChildren n i B cs) ≡ length cs
-unfolding emitReadChildren
+children-count : (cs : List Operand) (n i : ℕ) (B : Bound) → length (emitReadChildren n i B cs) ≡ readCount cs
+unfolding emitReadChildren readCount
 children-count [] n i B = refl
-children-count (c ∷ cs) n i B = ap suc (children-count cs n (suc i) (pvMarkBound B c))
+children-count (local v ∷ cs) n i B = by (has B v) (children-count cs n (suc i) (add B v))
+  where
+    by : (b : Bool) → length (emitReadChildren n (suc i) (add B v) cs) ≡ readCount cs → length (readChild n i b (local v) ++ emitReadChildren n (suc i) (add B v) cs) ≡ suc (readCount cs)
+    by true h = ap suc h
+    by false h = ap suc h
+children-count (global g ∷ cs) n i B = ap suc (children-count cs n (suc i) B)
+children-count (wild ∷ cs) n i B = children-count cs n (suc i) B
 
 -- an atom that lowers becomes as many
 pub lowers-count : (B : Bound) (k : ℕ) (a : Atom) (l : Emitted) → lower B k a ≡ some l → length (stepsOf (lower B k a)) ≡ stepCount a

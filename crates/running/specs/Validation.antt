@@ -1,4 +1,4 @@
--- Why the runner turns texts back: "The runner reads the plan, then the table so, then tests the table for 11, then each plan line for 10, 9,
+-- Why the runner refuses texts: "The runner reads the plan, then the table so, then tests the table for 11, then each plan line for 10, 9,
 -- 11 and the missing global."
 use Prim.Native.Nat.{ℕ, zero, suc}
 use mathlib.Core.Bool.{Bool, true, false, _&&_, not}
@@ -14,32 +14,32 @@ use Rattle.frame_tests.specs.declared.tests.Text.the-variants.{Plan, Table as T
 use Rattle.first_reading.specs.declared.first.Reading.{Reading}
 use Rattle.first_reading.specs.declared.first.Reading.the-variants.{Accepted, Refused}
 use Rattle.reading.specs.Second.{reading}
-use Rattle.model.specs.Atoms.{Operand, local, global, Lookup, ByOp, ByChildPos, ByRepr, ByContains, Step, Join, ExtractChild, CheckChildEq, CheckEq, CheckEqGlobal, BindGlobal, CopyBinding, Expand, ExtractLitVal, CheckLit, CheckPred, Row, Node, Literal, opOf, unset, Table, globalClass}
+use Rattle.model.specs.Atoms.{Operand, local, global, wild, Lookup, ByOp, ByChildPos, ByRepr, ByContains, Step, Join, ExtractChild, CheckChildEq, CheckEq, CheckEqGlobal, BindGlobal, CopyBinding, Expand, ExtractLitVal, CheckLit, CheckPred, Row, Node, Literal, opOf, unset, Table, globalClass}
 use Rattle.model.specs.Bound.{Bound, blank}
 use Rattle.model.specs.Reading.{boundBy, pickedBy, ready}
 use Rattle.model.specs.Refusing.{runnable, allRows, fits, opsBy}
-use Rattle.running.specs.Tables.{rowOf, tableOf, planSteps}
+use Rattle.running.specs.Tables.{rowOf, tableIn, stepsIn}
 
 -- "A refusal returns number, text (query, plan, table) and line from 1": the texts are 00, 01 and 02
 pub data Verdict : Type 0 where
   Passed : Verdict
   -- number, text, line
-  TurnedBack : ℕ → ℕ → ℕ → Verdict
+  Invalid : ℕ → ℕ → ℕ → Verdict
 
 -- the tests in turn: the first that fails decides
 abbrev pub andThen : Verdict → Verdict → Verdict
 andThen Passed v = v
-andThen (TurnedBack k x l) v = TurnedBack k x l
+andThen (Invalid k x l) v = Invalid k x l
 
 -- 1 to 5 and 7, as each text is read
 abbrev pub ofReading : ℕ → Reading → Verdict
 ofReading x (Accepted n c) = Passed
-ofReading x (Refused k l) = TurnedBack k x l
+ofReading x (Refused k l) = Invalid k x l
 
 -- a fault of the line after n, where its number is not 0
 abbrev pub ofFault : ℕ → ℕ → ℕ → Verdict → Verdict
 ofFault x zero n v = v
-ofFault x (suc k) n v = TurnedBack (suc k) x (suc n)
+ofFault x (suc k) n v = Invalid (suc k) x (suc n)
 
 -- ---- "11: operator with two shapes in the table"
 
@@ -68,6 +68,7 @@ shapesFrom earlier n (f ∷ fs) = ofFault table (rowFault earlier f) n (shapesFr
 abbrev pub globalOf : Operand → List ℕ
 globalOf (local v) = []
 globalOf (global g) = g ∷ []
+globalOf wild = []
 
 abbrev pub lookupGlobals : Lookup → List ℕ
 lookupGlobals (ByOp o) = []
@@ -121,9 +122,12 @@ stepsPass tb ss = stepsFrom tb blank blank (replicate variablesMost 0) 1 ss
 
 -- ---- all tests of the plan text p and the table text t
 
-unfoldable pub turning : List ℕ → List ℕ → Verdict
-turning p t =
+-- "then tests the table for 11, then each plan line": of their frames, as they were read
+abbrev pub testsIn : List (List ℕ) → List (List ℕ) → Verdict
+testsIn fs gs = andThen (shapesFrom [] 0 gs) (stepsPass (tableIn gs) (stepsIn fs))
+
+unfoldable pub validation : List ℕ → List ℕ → Verdict
+validation p t =
     andThen (ofReading plan (reading Plan p))
     (andThen (ofReading table (reading TableText t))
-    (andThen (shapesFrom [] 0 (framesOf t))
-    (stepsPass (tableOf t) (planSteps p))))
+    (testsIn (framesOf p) (framesOf t)))
