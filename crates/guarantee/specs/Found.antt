@@ -1,8 +1,10 @@
--- The run of an accepted query's plan finds the matches: `finds`. Proved from the model's guarantee, by the plan as the runner reads it.
+-- The run of a plan of an accepted query finds the matches: `finds`. Proved from the model's guarantee, by the plan as the runner reads it.
 use Prim.Native.Nat.{ℕ, _<_, _≤_}
 use mathlib.Core.Path.{_≡_, refl, sym, _∙_, ap, subst}
+use mathlib.Core.Logic.{_≢_}
 use mathlib.Core.Bool.{true}
-use mathlib.Core.List.{List, [], _++_, map, flatMap}
+use mathlib.Core.Option.{none}
+use mathlib.Core.List.{List, [], _++_, map, flatMap, List·Memᴰ, Memᴰ·of-map}
 use native.Mathlib.Omega.{arith}
 use lib.ListN.{length, drop}
 use Rattle.kinds.specs.Kinds.{plan, table}
@@ -11,90 +13,120 @@ use Rattle.frame_tests.specs.declared.tests.Text.the-variants.{Query, Plan, Tab
 use Rattle.first_reading.specs.declared.first.Reading.{Reading}
 use Rattle.first_reading.specs.declared.first.Reading.the-variants.{Accepted, Refused}
 use Rattle.reading.specs.Second.{reading}
+use Rattle.model.specs.Lists.{Pairs, pairs-map, pairs-of-map}
 use Rattle.model.specs.Atoms.{Step}
-use Rattle.model.specs.Bound.{has}
-use Rattle.model.specs.Running.{runs, trace, founds, attempts}
-use Rattle.model.specs.Matching.{InShapes, Line, line, Given, Exact}
+use Rattle.model.specs.Bound.{has, blank}
+use Rattle.model.specs.Scheduling.{atomOf, schedule}
+use Rattle.model.specs.Running.{Env, runs, trace, founds, attempts}
+use Rattle.model.specs.Matching.{InShapes, GlobalsSet, Line, Counts, line, Given, Exact}
 use Rattle.model.specs.Limits.{Done, Played}
-use Rattle.model.specs.Limited.{ran}
 use Rattle.model.specs.Traces.{founds-trace}
+use Rattle.model.specs.Limited.{ran}
+use Rattle.model.specs.Carried.{EnvHas, runs-have}
+use Rattle.model.specs.Lines.{number-in}
 use Rattle.model.specs.Unlowered.{run-all-lowered}
-use Rattle.model.specs.Guarantee.{exact, guaranteed}
-use Rattle.cost.specs.Choice.{fresh, choose, choose-fair, planned}
-use Rattle.plan_facts.specs.QueryPlans.{atomsOf, countAt}
-use Rattle.planner.specs.Planner.{stepsOf}
-use Rattle.running.specs.Tables.{tableOf, countsIn, planSteps}
+use Rattle.model.specs.Guarantee.{made, all-of, schedule-runnable, schedule-exact, schedule-guaranteed}
+use Rattle.plan_facts.specs.QueryPlans.{atomsOf}
+use Rattle.running.specs.Tables.{tableOf, lineCounts, planSteps}
 use Rattle.running.specs.Validation.{Verdict, Passed, Invalid, andThen, ofReading, shapesFrom, stepsPass, validation}
-use Rattle.running.specs.Run.{unbound, unbound-blank, events, matchLine, lineText, Result, ran as result, run}
-use Rattle.running.specs.DistinctRows.{distinct-rows}
-use Rattle.guarantee.specs.Terms.{planFor, Runs, allLines, Enough, Finds}
-use Rattle.guarantee.specs.PlanBack.{plan-steps, plan-variables, plan-literals}
+use Rattle.running.specs.Run.{unbound, unbound-blank, unbound-picked, events, lineText, Result, ran as result, run}
+use Rattle.running.specs.TableRows.{table-has}
+use Rattle.running.specs.LineTexts.{LineSized, line-one, line-sized}
+use Rattle.guarantee.specs.Terms.{FairPlan, fairSteps, lineOf, Runs, allLines, Enough, Finds}
+use Rattle.guarantee.specs.PlanBack.{plan-steps, plan-counts}
 use Rattle.guarantee.specs.Below.{query-given}
+use Rattle.guarantee.specs.Globals.{plan-set}
+use Rattle.guarantee.specs.Unrefused.{steps-given}
 
 -- ---- texts that are not refused
 
-record TableRead (a : Reading) : Type 0 where
+record Read (p t : List ℕ) : Type 0 where
   pub lines : ℕ
   pub rows : ℕ
-  pub is : a ≡ Accepted lines rows
+  pub table : reading Table t ≡ Accepted lines rows
+  pub steps : stepsPass (tableOf t) (planSteps p) ≡ Passed
 
-table-read : (p t : List ℕ) → validation p t ≡ Passed → TableRead (reading Table t)
-unfolding turning
-table-read p t h = by (ofReading plan (reading Plan p)) (reading Table t) (andThen (shapesFrom [] 0 (framesOf t)) (stepsPass (tableOf t) (planSteps p))) h
+texts-read : (p t : List ℕ) → validation p t ≡ Passed → Read p t
+unfolding validation
+texts-read p t h = by (ofReading plan (reading Plan p)) (reading Table t) (shapesFrom [] 0 (framesOf t)) (stepsPass (tableOf t) (planSteps p)) refl refl h
   where
-    by : (v : Verdict) (a : Reading) (w : Verdict) → andThen v (andThen (ofReading table a) w) ≡ Passed → TableRead a
-    by Passed (Accepted n c) w h = record { lines = n; rows = c; is = refl }
-    by Passed (Refused k l) w h = let z : _≡_ {A = ℕ} 0 1 = cc in absurd (omega arith)
-    by (Invalid k y l) a w h = let z : _≡_ {A = ℕ} 0 1 = cc in absurd (omega arith)
+    by : (v : Verdict) (a : Reading) (w u : Verdict) → reading Table t ≡ a → stepsPass (tableOf t) (planSteps p) ≡ u → andThen v (andThen (ofReading table a) (andThen w u)) ≡ Passed → Read p t
+    by Passed (Accepted n c) Passed u e s h = record { lines = n; rows = c; table = e; steps = s ∙ h }
+    by Passed (Accepted n c) (Invalid k y l) u e s h = let z : _≡_ {A = ℕ} 0 1 = cc in absurd (omega arith)
+    by Passed (Refused k l) w u e s h = let z : _≡_ {A = ℕ} 0 1 = cc in absurd (omega arith)
+    by (Invalid k y l) a w u e s h = let z : _≡_ {A = ℕ} 0 1 = cc in absurd (omega arith)
 
--- ---- a plan text p that reads as the steps ss, with n variables and m literals
+-- ---- a plan text p that reads as the steps ss, with lines of these counts
 
-module _ (p t : List ℕ) (n m : ℕ) (ss : List Step) (steps : planSteps p ≡ ss) (variables : countsIn p .variables ≡ n) (literals : countsIn p .literals ≡ m) where
-  pub events-are : events p t ≡ trace (tableOf t) ss unbound
+module _ (p t : List ℕ) (n : Counts) (ss : List Step) (steps : planSteps p ≡ ss) (counts : lineCounts p ≡ n) where
+  pub events-are : events p t ≡ trace (tableOf t) none ss unbound
   unfolding events
   events-are = rw steps
 
-  lines-are : allLines p t ≡ map (line n m) (runs (tableOf t) ss unbound)
-  lines-are =
-      ap (λ es. map (matchLine p) (founds es)) events-are
-      ∙ ap (map (matchLine p)) (founds-trace (tableOf t) ss unbound)
-      ∙ ap (λ k. map (line k (countsIn p .literals)) (runs (tableOf t) ss unbound)) variables
-      ∙ ap (λ k. map (line n k) (runs (tableOf t) ss unbound)) literals
+  lines-are : allLines p t ≡ map (line n) (founds (trace (tableOf t) none ss unbound))
+  lines-are = rw (events-are, counts)
 
-  run-is : validation p t ≡ Passed → (A : ℕ) (o : List ℕ) → run p t A o ≡ result (ran (λ τ. lineText (line n m τ)) (tableOf t) ss unbound A o)
+  run-is : validation p t ≡ Passed → (A : ℕ) (o : List ℕ) → run p t A o ≡ result (ran lineText n (tableOf t) none ss unbound A o)
   unfolding run
-  run-is h A o =
-      rw (h, events-are)
-      (ap (λ k. result (ran (λ τ. lineText (line k (countsIn p .literals) τ)) (tableOf t) ss unbound A o)) variables
-      ∙ ap (λ k. result (ran (λ τ. lineText (line n k τ)) (tableOf t) ss unbound A o)) literals)
+  run-is h A o = rw (h, events-are, counts)
 
--- a run that was played, as the guarantee says it
-found-by : (x t o : List ℕ) (s : Result) (r : Played) (ls : List Line) → s ≡ result r → Exact (tableOf t) (countAt x 1) (countAt x 3) (atomsOf x) ls
-    → r .status ≡ Done → r .tally .tries ≡ attempts (events (planFor x) t) → r .tally .matches ≡ length ls → r .tally .written ≡ length (flatMap lineText ls)
-    → r .output ≡ flatMap lineText ls ++ drop (length (flatMap lineText ls)) o → Finds x t o s
-found-by x t o s r ls is e a b c d f = record { lines = ls; matches-are = e; outcome = rw (is, a, b, c, d); output = rw is f }
+-- ---- an accepted query that runs, a plan of it by a fair choice, a table in shape, both not refused
 
--- ---- an accepted query that runs, over a table in shape that is not refused
+module _ (x p t : List ℕ) (n c : ℕ) (ok : reading Query x ≡ Accepted n c) (f : FairPlan x p) (q : Runs x) (passed : validation p t ≡ Passed) (sh : InShapes (tableOf t) (atomsOf x)) where
+  pub all : (i : ℕ) → i < length (atomsOf x) → has (schedule (atomsOf x) (f .choose) (f .start) .used) i ≡ true
+  all = run-all-lowered (atomsOf x) (f .choose) (f .start) (f .fair) (q .kinds) (q .lowered)
 
-module _ (x t : List ℕ) (n c : ℕ) (ok : reading Query x ≡ Accepted n c) (q : Runs x) (passed : validation (planFor x) t ≡ Passed) (sh : InShapes (tableOf t) (atomsOf x)) where
-  all : (i : ℕ) → i < length (atomsOf x) → has (planned (framesOf x) (atomsOf x) .used) i ≡ true
-  unfolding planned
-  all = run-all-lowered (atomsOf x) (choose (framesOf x) (atomsOf x)) fresh (choose-fair (framesOf x) (atomsOf x)) (q .kinds) (q .lowered)
+  read : Read p t
+  read = texts-read p t passed
 
-  given : Given (tableOf t) (countAt x 1) (countAt x 3) (atomsOf x)
-  given = let r = table-read (planFor x) t passed in query-given x n c ok (tableOf t) (distinct-rows t (r .lines) (r .rows) (r .is)) sh
+  globals : (k : ℕ) → k < length (atomsOf x) → GlobalsSet (tableOf t) (atomOf (atomsOf x) k)
+  globals k h =
+      let o = all-of (atomsOf x) (f .choose) (f .start) (f .fair) all in
+      plan-set (tableOf t) (made (atomsOf x) (f .choose) (f .start) (f .fair) .lowered) (λ j m. q .kinds (atomOf (atomsOf x) j) (number-in (atomsOf x) j (o .only j m)))
+      (steps-given (tableOf t) (fairSteps f) blank blank _ 1 (ap (stepsPass (tableOf t)) (sym (plan-steps x n c ok p f)) ∙ read .steps)) k (o .every k h)
 
-  pub lines-exact : Exact (tableOf t) (countAt x 1) (countAt x 3) (atomsOf x) (map (line (countAt x 1) (countAt x 3)) (runs (tableOf t) (stepsOf x) unbound))
-  unfolding stepsOf planned
-  lines-exact = exact (atomsOf x) (choose (framesOf x) (atomsOf x)) fresh (choose-fair (framesOf x) (atomsOf x)) all (tableOf t) (countAt x 1) (countAt x 3) given unbound unbound-blank
+  given : Given (tableOf t) (lineOf x) (atomsOf x)
+  given = query-given x t n c (read .lines) (read .rows) ok (read .table) (q .kinds) sh globals
 
-  pub finds : (A : ℕ) (o : List ℕ) → Enough (planFor x) t A o → Finds x t o (run (planFor x) t A o)
-  unfolding stepsOf planned
+  pub lines-exact : Exact (tableOf t) none (lineOf x) (atomsOf x) (map (line (lineOf x)) (runs (tableOf t) none (fairSteps f) unbound))
+  lines-exact = schedule-exact (atomsOf x) (f .choose) (f .start) (f .fair) all (tableOf t) (lineOf x) given unbound unbound-blank none
+
+  -- a line that is found has classes of two bytes and values of four
+  found-sized : (y : Line) → List·Memᴰ y (map (line (lineOf x)) (runs (tableOf t) none (fairSteps f) unbound)) → LineSized y
+  found-sized y m =
+      let r = Memᴰ·of-map (line (lineOf x)) (runs (tableOf t) none (fairSteps f) unbound) m in
+      let w = table-has t (read .lines) (read .rows) (read .table) in
+      subst LineSized (r .2) (line-sized (lineOf x) refl (r .0)
+      (runs-have _ _ (tableOf t) none w (fairSteps f) (schedule-runnable (atomsOf x) (f .choose) (f .start) (f .fair) (q .kinds)) unbound start (r .0) (r .1)))
+    where
+      start : EnvHas (λ c. c < 0x1_0000) (λ v. v < 0x1_0000_0000) unbound
+      start =
+          let w = table-has t (read .lines) (read .rows) (read .table) in
+          record {
+            classes = λ v. rw (unbound-blank .classes v) (w .blank);
+            rows = λ v. rw (unbound-picked v) (w .none-picked);
+            literals = λ l. rw (unbound-blank .literals l) tt;
+          }
+
+  -- no two lines that are found have the same text
+  texts-apart : (ls : List Line) → ls ≡ map (line (lineOf x)) (runs (tableOf t) none (fairSteps f) unbound) → Exact (tableOf t) none (lineOf x) (atomsOf x) ls → Pairs _≢_ (map lineText ls)
+  texts-apart ls e g = pairs-of-map lineText ls (pairs-map ls (λ y z i j ne s. ne (line-one y z (sized y i) (sized z j) (g .sound y i .width ∙ sym (g .sound z j .width)) (g .sound y i .depth ∙ sym (g .sound z j .depth)) s)) (g .once))
+    where
+      sized : (y : Line) → List·Memᴰ y ls → LineSized y
+      sized y i = found-sized y (subst (List·Memᴰ y) e i)
+
+  pub finds : (A : ℕ) (o : List ℕ) → Enough p t A o → Finds x p t o (run p t A o)
   finds A o e =
-      let es = events-are (planFor x) t (countAt x 1) (countAt x 3) (stepsOf x) (plan-steps x n c ok) (plan-variables x n c ok) (plan-literals x n c ok) in
-      let ls = lines-are (planFor x) t (countAt x 1) (countAt x 3) (stepsOf x) (plan-steps x n c ok) (plan-variables x n c ok) (plan-literals x n c ok) in
-      let is = run-is (planFor x) t (countAt x 1) (countAt x 3) (stepsOf x) (plan-steps x n c ok) (plan-variables x n c ok) (plan-literals x n c ok) passed A o in
+      let es = events-are p t (lineOf x) (fairSteps f) (plan-steps x n c ok p f) (plan-counts x n c ok p f) in
+      let ls = lines-are p t (lineOf x) (fairSteps f) (plan-steps x n c ok p f) (plan-counts x n c ok p f) in
+      let is = run-is p t (lineOf x) (fairSteps f) (plan-steps x n c ok p f) (plan-counts x n c ok p f) passed A o in
       let h = subst (λ k. attempts k ≤ A) es (e .tries) in
       let k = subst (λ l. length (flatMap lineText l) ≤ length o) ls (e .room) in
-      let g = guaranteed (atomsOf x) (choose (framesOf x) (atomsOf x)) fresh (choose-fair (framesOf x) (atomsOf x)) all (tableOf t) (countAt x 1) (countAt x 3) given unbound unbound-blank lineText A o h k in
-      found-by x t o _ _ (g .lines) is (g .matches-are) (g .status) (g .tries ∙ ap attempts (sym es)) (g .matches) (g .written) (g .output)
+      let g = schedule-guaranteed (atomsOf x) (f .choose) (f .start) (f .fair) all (tableOf t) (lineOf x) given unbound unbound-blank none lineText A o h k in
+      record {
+        lines = g .lines;
+        matches-are = g .matches-are;
+        apart = texts-apart (g .lines) (ap (map (line (lineOf x))) (founds-trace (tableOf t) none (fairSteps f) unbound)) (g .matches-are);
+        outcome = rw (is, g .status, g .tried, g .matches, g .written, es);
+        output = rw is (g .output);
+      }

@@ -3,6 +3,7 @@ pub mod Terms
 pub mod Demand3
 -- Its parts
 pub mod PlanBack
+pub mod Equalities
 pub mod Globals
 pub mod Unrefused
 pub mod Below

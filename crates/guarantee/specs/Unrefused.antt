@@ -1,10 +1,10 @@
--- The plan of an accepted query of the kinds that run is the cause of no refusal: over a table in shape, with a class for every global that
+-- A plan of an accepted query of the kinds that run is the cause of no refusal: over a table in shape, with a class for every global that
 -- an atom names, only the table's own tests can fail (`only-the-table`). Proved from the lowering sequence.
 use Prim.Native.Nat.{ℕ, zero, suc}
 use mathlib.Core.Path.{_≡_, refl}
 use mathlib.Core.Logic.{_⊎_, inl, inr}
 use mathlib.Core.Bool.{Bool, true, false}
-use mathlib.Core.List.{List, [], _∷_, map, List·Memᴰ}
+use mathlib.Core.List.{List, [], _∷_, List·Memᴰ}
 use native.Mathlib.Omega.{arith}
 use lib.ListN.{replicate}
 use Rattle.base.specs.Choose.{pick}
@@ -21,18 +21,15 @@ use Rattle.model.specs.Bound.{Bound, blank, has-blank}
 use Rattle.model.specs.Reading.{ready, boundFirst, boundBy, pickedBy}
 use Rattle.model.specs.Refusing.{runnable, allRunnable, fits, opsBy, allFit}
 use Rattle.model.specs.Matching.{InShapes}
-use Rattle.model.specs.Lines.{shape-mem, mem-shape}
 use Rattle.model.specs.Scheduling.{State, Chosen, Fair, atomOf, numbers, schedule}
 use Rattle.model.specs.Scheduled.{number-mem}
 use Rattle.model.specs.Accepted.{plan-fits}
-use Rattle.model.specs.Guarantee.{made, order-mem, schedule-bound-first, schedule-runnable}
-use Rattle.cost.specs.Choice.{fresh, choose, choose-fair, planned}
+use Rattle.model.specs.Guarantee.{made, known-below, schedule-bound-first, schedule-runnable}
 use Rattle.plans.specs.StepFrames.{Each}
 use Rattle.plan_facts.specs.QueryPlans.{atomsOf}
-use Rattle.planner.specs.Planner.{stepsOf}
 use Rattle.running.specs.Tables.{tableOf}
 use Rattle.running.specs.Validation.{Verdict, Passed, Invalid, andThen, ofReading, ofFault, rowFault, withRow, shapesFrom, globalsOf, allGiven, stepsFrom, stepsPass, validation}
-use Rattle.guarantee.specs.Terms.{planFor, atomGlobals, GlobalsGiven, tableTests}
+use Rattle.guarantee.specs.Terms.{FairPlan, fairSteps, atomGlobals, GlobalsGiven, tableTests}
 use Rattle.guarantee.specs.PlanBack.{plan-accepted, plan-steps}
 use Rattle.guarantee.specs.Globals.{StepGiven, plan-given}
 
@@ -76,17 +73,16 @@ module _ (tb : Table) (qs : List Atom) {X : Type 0} (choose : X → State → Ch
   schedule-passes run sh given = steps-pass tb (schedule qs choose x .steps) blank blank (replicate variablesMost 0) 1
       (schedule-runnable qs choose x fair run)
       (schedule-bound-first qs choose x fair blank blank has-blank)
-      (plan-fits tb (made qs choose x fair .lowered) (mem-shape tb (map (atomOf qs) (made qs choose x fair .order)) (λ a m. shape-mem tb qs sh a (order-mem qs choose x fair a m))) (replicate variablesMost 0))
+      (plan-fits tb (made qs choose x fair .lowered) (λ k m. sh k (known-below qs choose x fair k m)) (replicate variablesMost 0))
       (plan-given tb (made qs choose x fair .lowered) (λ k m. run (atomOf qs k) (known k m)) (λ k m. given (atomOf qs k) (known k m)))
 
-module _ (x t : List ℕ) (n c : ℕ) (ok : reading Query x ≡ Accepted n c) where
-  plan-passes : ((a : Atom) → List·Memᴰ a (atomsOf x) → isRun a ≡ true) → InShapes (tableOf t) (atomsOf x) → GlobalsGiven x t → stepsPass (tableOf t) (stepsOf x) ≡ Passed
-  unfolding stepsOf planned
-  plan-passes = schedule-passes (tableOf t) (atomsOf x) (choose (framesOf x) (atomsOf x)) fresh (choose-fair (framesOf x) (atomsOf x))
+module _ (x p t : List ℕ) (n c : ℕ) (ok : reading Query x ≡ Accepted n c) (f : FairPlan x p) where
+  plan-passes : ((a : Atom) → List·Memᴰ a (atomsOf x) → isRun a ≡ true) → InShapes (tableOf t) (atomsOf x) → GlobalsGiven x t → stepsPass (tableOf t) (fairSteps f) ≡ Passed
+  plan-passes = schedule-passes (tableOf t) (atomsOf x) (f .choose) (f .start) (f .fair)
 
-  pub only-the-table : ((a : Atom) → List·Memᴰ a (atomsOf x) → isRun a ≡ true) → InShapes (tableOf t) (atomsOf x) → GlobalsGiven x t → validation (planFor x) t ≡ tableTests t
-  unfolding turning
-  only-the-table run sh given = rw (plan-accepted x n c ok, plan-steps x n c ok, plan-passes run sh given) (last (ofReading table (reading TableText t)) (shapesFrom [] 0 (framesOf t)))
+  pub only-the-table : ((a : Atom) → List·Memᴰ a (atomsOf x) → isRun a ≡ true) → InShapes (tableOf t) (atomsOf x) → GlobalsGiven x t → validation p t ≡ tableTests t
+  unfolding validation
+  only-the-table run sh given = rw (plan-accepted x n c ok p f, plan-steps x n c ok p f, plan-passes run sh given) (last (ofReading table (reading TableText t)) (shapesFrom [] 0 (framesOf t)))
     where
       last : (v w : Verdict) → andThen v (andThen w Passed) ≡ andThen v w
       last Passed Passed = refl
@@ -94,14 +90,27 @@ module _ (x t : List ℕ) (n c : ℕ) (ok : reading Query x ≡ Accepted n c) wh
       last (Invalid k y l) w = refl
 
   -- over any table: the plan's lines are refused for 11 or the missing global alone
-  pub plan-refusal : ((a : Atom) → List·Memᴰ a (atomsOf x) → isRun a ≡ true) → (k l : ℕ) → validation (planFor x) t ≡ Invalid k plan l → (k ≡ 11) ⊎ (k ≡ 5)
-  unfolding validation stepsOf planned
-  plan-refusal run k l h = by (reading TableText t) (shapesFrom [] 0 (framesOf t)) (shapes-refused [] 0 (framesOf t) k plan l) (rw (plan-accepted x n c ok, plan-steps x n c ok) at h)
+  pub plan-refusal : ((a : Atom) → List·Memᴰ a (atomsOf x) → isRun a ≡ true) → (k l : ℕ) → validation p t ≡ Invalid k plan l → (k ≡ 11) ⊎ (k ≡ 5)
+  unfolding validation
+  plan-refusal run k l h = by (reading TableText t) (shapesFrom [] 0 (framesOf t)) (shapes-refused [] 0 (framesOf t) k plan l) (rw (plan-accepted x n c ok p f, plan-steps x n c ok p f) at h)
     where
-      by : (a : Reading) (v : Verdict) → (v ≡ Invalid k plan l → plan ≡ table) → andThen (ofReading table a) (andThen v (stepsPass (tableOf t) (stepsOf x))) ≡ Invalid k plan l → (k ≡ 11) ⊎ (k ≡ 5)
+      by : (a : Reading) (v : Verdict) → (v ≡ Invalid k plan l → plan ≡ table) → andThen (ofReading table a) (andThen v (stepsPass (tableOf t) (fairSteps f))) ≡ Invalid k plan l → (k ≡ 11) ⊎ (k ≡ 5)
       by (Refused m j) v u h = let z : table ≡ plan = cc in absurd (omega arith)
       by (Accepted m j) (Invalid i y j′) u h = absurd (omega (arith, u h))
-      by (Accepted m j) Passed u h = steps-refused (tableOf t) (stepsOf x) blank blank (replicate variablesMost 0) 1 k plan l
-          (schedule-runnable (atomsOf x) (choose (framesOf x) (atomsOf x)) fresh (choose-fair (framesOf x) (atomsOf x)) run)
-          (schedule-bound-first (atomsOf x) (choose (framesOf x) (atomsOf x)) fresh (choose-fair (framesOf x) (atomsOf x)) blank blank has-blank)
+      by (Accepted m j) Passed u h = steps-refused (tableOf t) (fairSteps f) blank blank (replicate variablesMost 0) 1 k plan l
+          (schedule-runnable (atomsOf x) (f .choose) (f .start) (f .fair) run)
+          (schedule-bound-first (atomsOf x) (f .choose) (f .start) (f .fair) blank blank has-blank)
           h
+
+-- where the steps pass, the globals that they name have classes
+pub steps-given : (tb : Table) (ss : List Step) (B R : Bound) (O : List ℕ) (n : ℕ) → stepsFrom tb B R O n ss ≡ Passed → Each (StepGiven tb) ss
+unfolding stepsFrom
+steps-given tb [] B R O n h = tt
+steps-given tb (s ∷ ss) B R O n h = by (runnable s) (ready B R s) (fits tb O s) (allGiven tb (globalsOf s)) refl h (steps-given tb ss (boundBy s B) (pickedBy s R) (opsBy s O) (suc n))
+  where
+    by : {v : Verdict} (r b f g : Bool) → allGiven tb (globalsOf s) ≡ g → ofFault plan (pick r (pick b (pick f (pick g 0 5) 11) 9) 10) n v ≡ Passed → (v ≡ Passed → Each (StepGiven tb) ss) → Each (StepGiven tb) (s ∷ ss)
+    by true true true true e h k = (e, k h)
+    by true true true false e h k = let z : _≡_ {A = ℕ} 0 1 = cc in absurd (omega arith)
+    by true true false g e h k = let z : _≡_ {A = ℕ} 0 1 = cc in absurd (omega arith)
+    by true false f g e h k = let z : _≡_ {A = ℕ} 0 1 = cc in absurd (omega arith)
+    by false b f g e h k = let z : _≡_ {A = ℕ} 0 1 = cc in absurd (omega arith)

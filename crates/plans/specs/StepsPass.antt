@@ -236,11 +236,11 @@ step-keyless earlier (CheckLit v x) = refl
 step-keyless earlier (CheckPred g) = refl
 
 -- ---- every byte of it is one
-bytes-append : (f g : List ℕ) → areBytes f ≡ true → areBytes g ≡ true → areBytes (f ++ g) ≡ true
+pub bytes-append : (f g : List ℕ) → areBytes f ≡ true → areBytes g ≡ true → areBytes (f ++ g) ≡ true
 bytes-append [] g h k = k
 bytes-append (b ∷ f) g h k = both (first (ltb b 256) (areBytes f) h) (bytes-append f g (second (ltb b 256) (areBytes f) h) k)
 
-items-bytes : {X : Type 0} (g : X → List ℕ) (Q : X → Type 0) → ((x : X) → Q x → areBytes (g x) ≡ true) → (xs : List X) → Each Q xs → areBytes (flatMap g xs) ≡ true
+pub items-bytes : {X : Type 0} (g : X → List ℕ) (Q : X → Type 0) → ((x : X) → Q x → areBytes (g x) ≡ true) → (xs : List X) → Each Q xs → areBytes (flatMap g xs) ≡ true
 unfolding flatMap
 items-bytes g Q r [] h = refl
 items-bytes g Q r (x ∷ xs) h = bytes-append (g x) (flatMap g xs) (r x (h .0)) (items-bytes g Q r xs (h .1))

@@ -113,11 +113,11 @@ record Formed (f : List ℕ) : Type 0 where
   pub long : length f ≡ frameLength f
   pub bytes : areBytes f ≡ true
 
-data IsRow : ℕ → Type 0 where
+pub data IsRow : ℕ → Type 0 where
   is-node : {b : ℕ} → b ≡ 0x30 → IsRow b
   is-literal : {b : ℕ} → b ≡ 0x31 → IsRow b
 
-row-kind : (b : ℕ) → isRow b ≡ true → IsRow b
+pub row-kind : (b : ℕ) → isRow b ≡ true → IsRow b
 row-kind b h = by (eqb b 0x30) refl h
   where
     by : (t : Bool) → eqb b 0x30 ≡ t → pick t true (eqb b 0x31) ≡ true → IsRow b
@@ -138,13 +138,13 @@ row-back (b ∷ r) h g = by b (row-kind b h) (g .long) (second (ltb b 256) (areB
 
 -- ---- the rows among frames
 
-record RowAt (fs : List (List ℕ)) (r : Row) : Type 0 where
+pub record RowAt (fs : List (List ℕ)) (r : Row) : Type 0 where
   pub at : ℕ
   pub within : at < length fs
   pub kind : isRow (getD (getD fs at []) 0 0) ≡ true
   pub is : r ≡ rowOf (getD fs at [])
 
-row-at : (fs : List (List ℕ)) (r : Row) → List·Memᴰ r (rowsIn fs) → RowAt fs r
+pub row-at : (fs : List (List ℕ)) (r : Row) → List·Memᴰ r (rowsIn fs) → RowAt fs r
 unfolding rowsIn
 row-at [] r m = absurd (List·Memᴰ·not-nil m)
 row-at (f ∷ fs) r m = by (isRow (getD f 0 0)) refl m (row-at fs r)

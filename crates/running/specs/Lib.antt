@@ -7,4 +7,6 @@ pub mod Refusals
 pub mod RefusalBounds
 pub mod Second
 pub mod DistinctRows
+pub mod TableRows
+pub mod LineTexts
 pub mod Examples
