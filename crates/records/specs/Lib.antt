@@ -1,3 +1,4 @@
 pub mod Items
 pub mod Rows
 pub mod Lookups
+pub mod Examples
