@@ -1,5 +1,5 @@
--- A frame's items, one after another behind its fields: read back, tested and counted one by one. Proved by induction over the items.
-use Prim.Native.Nat.{ℕ, zero, suc, _+_}
+-- A frame's items, one after another behind its fields: read back and tested one by one. Proved by induction over the items.
+use Prim.Native.Nat.{ℕ, _+_}
 use mathlib.Core.Path.{_≡_, refl, sym, _∙_, ap}
 use mathlib.Core.Bool.{Bool, true}
 use mathlib.Core.List.{List, [], _∷_, _++_, flatMap, append-assoc}
@@ -9,7 +9,8 @@ use lib.Seq.{getD-append-add}
 use Rattle.fields.specs.Fields.{width}
 use Rattle.frames.specs.Frames.{passAll}
 use Rattle.fields.specs.declared.field.Field.{Field}
-use Rattle.plans.specs.StepFrames.{Each, itemsAt}
+use Rattle.records.specs.Items.{Each, itemsAt}
+pub use Rattle.records.specs.Items.{items-count}
 
 module _ {X : Type 0} (g : X → List ℕ) (w : ℕ) (wide : (x : X) → length (g x) ≡ w) where
   -- what an item's place reads gives the item, whatever stands around it
@@ -30,12 +31,6 @@ items-pass g P t Q wide r (x ∷ xs) h p =
     let e : p ++ (g x ++ flatMap g xs) ≡ (p ++ g x) ++ flatMap g xs = sym (append-assoc p (g x) (flatMap g xs)) in
     let l : length p + width t ≡ length (p ++ g x) = sym (length-append p (g x) ∙ ap (λ (m : ℕ). length p + m) (wide x)) in
     rw (r x (h .0) p (flatMap g xs), l, e, items-pass g P t Q wide r xs (h .1) (p ++ g x))
-
--- as many as are read
-pub items-count : {X : Type 0} (read : List ℕ → ℕ → X) (w : ℕ) (f : List ℕ) (i n : ℕ) → length (itemsAt read w f i n) ≡ n
-unfolding itemsAt
-items-count read w f i zero = refl
-items-count read w f i (suc n) = ap suc (items-count read w f (i + w) n)
 
 -- the byte at p's end is the first of what follows p
 pub behind : (p r : List ℕ) → getD (p ++ r) (length p) 0 ≡ getD r 0 0

@@ -11,7 +11,7 @@ use Rattle.model.specs.Atoms.{local, global, Lookup, ByOp, ByChildPos, ByRepr, 
 use Rattle.model.specs.Bound.{Bound, has, hasAll}
 use Rattle.model.specs.Reading.{lookupReads, isRepr}
 use Rattle.model.specs.Refusing.{countOps, joinOp, opAt}
-use Rattle.plans.specs.StepFrames.{lookupAt, itemsAt}
+pub use Rattle.records.specs.Lookups.{lookupsOf}
 use Rattle.running.specs.Turning.{lookupGlobals, allGiven}
 use Rattle.turning.specs.declared.steps.Simple.{Simple}
 use Rattle.turning.specs.declared.steps.Simple.the-variants.{Extract, ChildLocal, ChildGlobal, Equal, EqualGlobal, Bind, Copy, ReadLit, NotRun}
@@ -36,10 +36,7 @@ literalFits F o = fitsShape (eqb 1) (getD F o 0)
 abbrev pub given : List ℕ → ℕ → Bool
 given G g = not (eqb (getD G g unset) unset)
 
--- ---- a Join's lookups: "40 Join target atom n lookups"
-
-abbrev pub lookupsOf : List ℕ → List Lookup
-lookupsOf f = itemsAt lookupAt 4 f 4 (getD f 3 0)
+-- ---- a Join's lookups
 
 -- a table that is asked for its globals only
 abbrev pub onlyGlobals : List ℕ → Table
