@@ -20,7 +20,8 @@ use Rattle.model.specs.Bound.{isIn}
 use Rattle.model.specs.Scheduling.{atomOf}
 use Rattle.model.specs.Lines.{number-in}
 use Rattle.model.specs.Matching.{InShapes, GlobalsSet, mentionsSeq, any, Given}
-use Rattle.plans.specs.StepFrames.{Each, OperandFits}
+use Rattle.records.specs.Items.{Each}
+use Rattle.plans.specs.StepFrames.{OperandFits}
 use Rattle.plans.specs.Fitting.{AtomFits}
 use Rattle.plan_facts.specs.QueryPlans.{atomsOf, countAt, query-fits}
 use Rattle.cost.specs.Tame.{atoms-tame}

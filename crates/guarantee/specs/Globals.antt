@@ -15,7 +15,7 @@ use Rattle.model.specs.Atoms.{Operand, local, global, wild, Atom, Plain, Lit, L
 use Rattle.model.specs.Bound.{Bound, has, add}
 use Rattle.model.specs.Lowering.{pvIsBound, pvMarkBound, readChild, emitReadChildren, childLookups, joinLookups, Emitted, lowerEq, lowerEqGlobal, lower, Lowered, done, more}
 use Rattle.model.specs.Matching.{GlobalsSet}
-use Rattle.plans.specs.StepFrames.{Each}
+use Rattle.records.specs.Items.{Each}
 use Rattle.plans.specs.Fitting.{each-append}
 use Rattle.running.specs.Validation.{globalOf, lookupGlobals, globalsOf, allGiven}
 use Rattle.guarantee.specs.Terms.{atomGlobals}

@@ -25,7 +25,7 @@ use Rattle.model.specs.Scheduling.{State, Chosen, Fair, atomOf, numbers, schedu
 use Rattle.model.specs.Scheduled.{number-mem}
 use Rattle.model.specs.Accepted.{plan-fits}
 use Rattle.model.specs.Guarantee.{made, known-below, schedule-bound-first, schedule-runnable}
-use Rattle.plans.specs.StepFrames.{Each}
+use Rattle.records.specs.Items.{Each}
 use Rattle.plan_facts.specs.QueryPlans.{atomsOf}
 use Rattle.running.specs.Tables.{tableOf}
 use Rattle.running.specs.Validation.{Verdict, Passed, Invalid, andThen, ofReading, ofFault, rowFault, withRow, shapesFrom, globalsOf, allGiven, stepsFrom, stepsPass, validation}

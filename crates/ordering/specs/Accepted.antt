@@ -34,7 +34,7 @@ use Rattle.model.specs.Bound.{blank}
 use Rattle.model.specs.Scheduling.{unlowered, numbers}
 use Rattle.cost.specs.QueryAtoms.{atomFrames}
 use Rattle.cost.specs.Choice.{rounds, remembered}
-use Rattle.plans.specs.StepFrames.{Each}
+use Rattle.records.specs.Items.{Each}
 use Rattle.plans.specs.Fitting.{AtomFits}
 use Rattle.lowering.specs.AtomLines.{AtomLine}
 use Rattle.passes.specs.Places.{frames-length}

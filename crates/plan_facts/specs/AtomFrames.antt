@@ -23,7 +23,8 @@ use Rattle.fields.specs.declared.field.Test.the-variants.{Limits, Range}
 use Rattle.model.specs.Atoms.{local, global}
 use Rattle.cost.specs.QueryAtoms.{operandAt, operandsFrom, bytesFrom, atomOfFrame}
 use Rattle.cost.specs.Operands.{operands-length}
-use Rattle.plans.specs.StepFrames.{Each, Byte, OperandFits, OperandsFit}
+use Rattle.records.specs.Items.{Each}
+use Rattle.plans.specs.StepFrames.{Byte, OperandFits, OperandsFit}
 use Rattle.plans.specs.Fitting.{AtomFits}
 
 -- ---- the fields one by one

@@ -21,7 +21,8 @@ use Rattle.reading_facts.specs.Whole.{countFrom, accepted, query-within, frame-
 use Rattle.model.specs.Atoms.{Atom, Step}
 use Rattle.model.specs.Scheduling.{State, Chosen, Fair, atomOf, numbers, schedule}
 use Rattle.cost.specs.QueryAtoms.{atomOfFrame, atomsIn}
-use Rattle.plans.specs.StepFrames.{Each, frameOf, stepOf}
+use Rattle.records.specs.Items.{Each}
+use Rattle.plans.specs.StepFrames.{frameOf, stepOf}
 use Rattle.plans.specs.PlanText.{textLength, planText}
 use Rattle.plans.specs.PlanRead.{plan-length}
 use Rattle.plans.specs.Fitting.{AtomFits, atom-more}

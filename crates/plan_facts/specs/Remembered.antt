@@ -30,7 +30,7 @@ use Rattle.cost.specs.Emitters.{Emitter, Emitters, emitterOf}
 use Rattle.cost.specs.Sampling.{Tally, sameKey, isKnown, measure, tallyOf, afterEstimate}
 use Rattle.cost.specs.Costs.{Costed, sampled, sampledBy, estimate, childCosts, elementCosts, estimateCost}
 use Rattle.cost.specs.Choice.{Memory, fresh, recorded, cost, emittedBy, byCost, choose, roundsFrom, rounds}
-use Rattle.plans.specs.StepFrames.{Each}
+use Rattle.records.specs.Items.{Each}
 use Rattle.plan_facts.specs.Emitted.{Keeps, atom-keeps, record-keeps}
 use Rattle.plan_facts.specs.Pigeonhole.{no-longer}
 

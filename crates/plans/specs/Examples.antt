@@ -11,7 +11,8 @@ use Rattle.model.specs.Bound.{put, blank}
 use Rattle.model.specs.Lowering.{markAll, emitReadChildren, childLookups, lower}
 use Rattle.model.specs.Scheduling.{State, unlowered, Chosen, Fair, eagerPass, passesUpTo, roundsUpTo, atomOf, numbers, schedule}
 use Rattle.model.specs.Cheapest.{Priced, scan, cheapest, cheapest-fair}
-use Rattle.plans.specs.StepFrames.{frameOf, Each}
+use Rattle.records.specs.Items.{Each}
+use Rattle.plans.specs.StepFrames.{frameOf}
 use Rattle.plans.specs.PlanText.{textOf, textLength, planText}
 use Rattle.plans.specs.PlanRead.{planCounts, plan-length}
 use Rattle.plans.specs.Fitting.{AtomFits}

@@ -17,7 +17,8 @@ use Rattle.model.specs.Bound.{Bound, has, add}
 use Rattle.model.specs.Lowering.{pvIsBound, pvMarkBound, readChild, emitReadChildren, childLookups, containsLookups, joinLookups, Emitted, lowerEq, lowerEqGlobal, lower, Lowered, done, more}
 use Rattle.model.specs.Scheduling.{State, Chosen, Fair, atomOf, numbers, schedule}
 use Rattle.model.specs.Scheduled.{ordered, number-mem, reached}
-use Rattle.plans.specs.StepFrames.{Each, Byte, OperandFits, OperandsFit, LookupFits, FormFits, StepFits}
+use Rattle.records.specs.Items.{Each}
+use Rattle.plans.specs.StepFrames.{Byte, OperandFits, OperandsFit, LookupFits, FormFits, StepFits}
 
 -- an atom within the limits and the counts n, as the frame of an accepted query is
 abbrev pub AtomFits : Counts → Atom → Type 0

@@ -10,7 +10,6 @@ use Rattle.fields.specs.Fields.{width}
 use Rattle.frames.specs.Frames.{passAll}
 use Rattle.fields.specs.declared.field.Field.{Field}
 use Rattle.records.specs.Items.{Each, itemsAt}
-pub use Rattle.records.specs.Items.{items-count}
 
 module _ {X : Type 0} (g : X → List ℕ) (w : ℕ) (wide : (x : X) → length (g x) ≡ w) where
   -- what an item's place reads gives the item, whatever stands around it

@@ -22,7 +22,8 @@ use Rattle.model.specs.Lowering.{pvIsBound, pvMarkBound, readChild, emitReadChi
 use Rattle.model.specs.Scheduling.{State, unplanned, Chosen, Fair, unlowered, atomOf, numbers, schedule}
 use Rattle.model.specs.Scheduled.{Reached, fresh, takes, unlowered-lt, number-mem, reached}
 use Rattle.model.specs.Lengths.{flat-length}
-use Rattle.plans.specs.StepFrames.{operandBytes, lookupBytes, elementsOf, elementBytes, frameOf, stepOf, Each}
+use Rattle.records.specs.Items.{Each}
+use Rattle.plans.specs.StepFrames.{operandBytes, lookupBytes, elementsOf, elementBytes, frameOf, stepOf}
 use Rattle.plans.specs.PlanText.{textLength, planText}
 use Rattle.plans.specs.StepsRead.{lookup-wide}
 use Rattle.plans.specs.StepsPass.{elements-length}

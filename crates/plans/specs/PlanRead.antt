@@ -23,7 +23,8 @@ use Rattle.first_reading.specs.declared.first.Reading.the-variants.{Accepted}
 use Rattle.indexing.specs.Keys.{keyGiven}
 use Rattle.reading.specs.Second.{countsOf, secondFault, secondFrom, reading}
 use Rattle.model.specs.Atoms.{Step}
-use Rattle.plans.specs.StepFrames.{frameOf, headerOf, stepOf, Each, CountsFit, StepFits}
+use Rattle.records.specs.Items.{Each}
+use Rattle.plans.specs.StepFrames.{frameOf, headerOf, stepOf, CountsFit, StepFits}
 use Rattle.plans.specs.PlanText.{textLength, planFrames, planText}
 use Rattle.plans.specs.StepsRead.{read-back}
 use Rattle.plans.specs.StepsPass.{step-belongs, step-length, step-limits, step-range, step-reals, step-keyless, step-bytes}

@@ -23,7 +23,8 @@ use Rattle.indexing.specs.Keys.{keyGiven}
 use Rattle.model.specs.Bools.{both, first, second}
 use Rattle.model.specs.Atoms.{Operand, local, global, wild, A, AC, ACI, Lookup, ByOp, ByChildPos, ByRepr, ByContains, Step, Join, ExtractChild, CheckChildEq, CheckEq, CheckEqGlobal, BindGlobal, CopyBinding, Expand, ExtractLitVal, CheckLit, CheckPred}
 use Rattle.model.specs.Lengths.{flat-length}
-use Rattle.plans.specs.StepFrames.{tagOf, indexOf, operandBytes, lookupBytes, Element, elementsOf, elementBytes, flagOf, orZero, endsFlags, frameOf, Each, Byte, CountsFit, OperandFits, LookupFits, HandleFits, StepFits}
+use Rattle.records.specs.Items.{Each}
+use Rattle.plans.specs.StepFrames.{tagOf, indexOf, operandBytes, lookupBytes, Element, elementsOf, elementBytes, flagOf, orZero, endsFlags, frameOf, Byte, CountsFit, OperandFits, LookupFits, HandleFits, StepFits}
 use Rattle.plans.specs.Items.{items-pass, behind}
 use Rattle.plans.specs.StepsRead.{lookup-wide}
 

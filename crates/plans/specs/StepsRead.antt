@@ -13,7 +13,9 @@ use Rattle.base.specs.Choose.{pick}
 use Rattle.hex.specs.Digits.{wordAt}
 use Rattle.fields.specs.declared.field.Counts.{Counts}
 use Rattle.model.specs.Atoms.{Operand, local, global, wild, A, AC, ACI, Lookup, ByOp, ByChildPos, ByRepr, ByContains, Step, Join, ExtractChild, CheckChildEq, CheckEq, CheckEqGlobal, BindGlobal, CopyBinding, Expand, ExtractLitVal, CheckLit, CheckPred, isJoin}
-use Rattle.plans.specs.StepFrames.{operandBytes, lookupBytes, Element, elementsOf, elementBytes, flagOf, orZero, endsFlags, wordBytes, frameOf, operandAt, lookupAt, elementAt, someIf, itemsAt, stepOf, Each, OperandFits, LookupFits, StepFits}
+use Rattle.records.specs.Items.{itemsAt, Each}
+use Rattle.records.specs.Lookups.{operandAt, lookupAt}
+use Rattle.plans.specs.StepFrames.{operandBytes, lookupBytes, Element, elementsOf, elementBytes, flagOf, orZero, endsFlags, wordBytes, frameOf, elementAt, someIf, stepOf, OperandFits, LookupFits, StepFits}
 use Rattle.plans.specs.Items.{items-read, behind}
 
 -- what begins behind p

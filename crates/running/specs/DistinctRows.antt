@@ -26,9 +26,11 @@ use Rattle.model.specs.Bools.{first, second}
 use Rattle.model.specs.Atoms.{Row, Node, Literal}
 use Rattle.model.specs.Matching.{Distinct}
 use Rattle.model.specs.Limits.{classBytes}
-use Rattle.plans.specs.StepFrames.{itemsAt, wordBytes}
-use Rattle.plans.specs.Items.{items-count, behind}
-use Rattle.running.specs.Tables.{rowOf, rowsIn, tableOf, tableIn}
+use Rattle.plans.specs.StepFrames.{wordBytes}
+use Rattle.records.specs.Items.{itemsAt, items-count}
+use Rattle.plans.specs.Items.{behind}
+use Rattle.records.specs.Rows.{rowOf, rowsIn}
+use Rattle.running.specs.Tables.{tableOf, tableIn}
 
 -- ---- the frame of a row
 

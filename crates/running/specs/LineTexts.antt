@@ -19,7 +19,7 @@ use Rattle.model.specs.Matching.{Line, Counts, line}
 use Rattle.model.specs.Carried.{LitHas, EnvHas}
 use Rattle.model.specs.Limits.{classBytes, litBytes, seqBytes, matchKind, matchFrame, lineEnd}
 use Rattle.model.specs.Frames.{frame-one}
-use Rattle.plans.specs.StepFrames.{Each}
+use Rattle.records.specs.Items.{Each}
 use Rattle.plans.specs.StepsPass.{bytes-append, items-bytes}
 use Rattle.running.specs.Run.{lineText}
 

@@ -30,8 +30,9 @@ use Rattle.model.specs.Tabulate.{tabulate, tabulate-at, tabulate-length}
 use Rattle.model.specs.Atoms.{Row, Node, Literal, classOf, children, valueOf, unset, Table, rows, globalClass}
 use Rattle.model.specs.Matching.{Proper}
 use Rattle.model.specs.Carried.{RowHas, TableHas}
-use Rattle.plans.specs.StepFrames.{itemsAt}
-use Rattle.running.specs.Tables.{rowOf, rowsIn, classFrom, globalIn, tableOf, tableIn}
+use Rattle.records.specs.Items.{itemsAt}
+use Rattle.records.specs.Rows.{rowOf, rowsIn}
+use Rattle.running.specs.Tables.{classFrom, globalIn, tableOf, tableIn}
 use Rattle.running.specs.DistinctRows.{IsRow, is-node, is-literal, row-kind, RowAt, row-at}
 
 -- an item stands at its place

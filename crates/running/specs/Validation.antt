@@ -18,7 +18,8 @@ use Rattle.model.specs.Atoms.{Operand, local, global, wild, Lookup, ByOp, ByChi
 use Rattle.model.specs.Bound.{Bound, blank}
 use Rattle.model.specs.Reading.{boundBy, pickedBy, ready}
 use Rattle.model.specs.Refusing.{runnable, allRows, fits, opsBy}
-use Rattle.running.specs.Tables.{rowOf, tableIn, stepsIn}
+use Rattle.records.specs.Rows.{rowOf}
+use Rattle.running.specs.Tables.{tableIn, stepsIn}
 
 -- "A refusal returns number, text (query, plan, table) and line from 1": the texts are 00, 01 and 02
 pub data Verdict : Type 0 where
