@@ -1,0 +1,56 @@
+// The tests of a Join: 10, 9, 11 and the missing global.
+ghost use mathlib.Core.Path.{_≡_};
+ghost use Rattle.join_tests.specs.Arrays.{boundIn};
+ghost use Rattle.join_tests.specs.Lookups.{targetFree, seenFault, joinTested};
+use super::arrays::is_bound;
+use super::arrays::reach_fits;
+use super::lookups::Seen;
+use super::lookups::lookups_seen;
+use hex::byte_at;
+
+// A fault's number, or 0; and the operator of a Join's ByOp.
+pub struct Tested {
+    pub fault: u8,
+    pub op: u8,
+}
+
+// Whether the target of a Join is free, or named by ByRepr.
+fn target_free(named: bool, v: u8, marks: &[u16]) -> bool
+    ensures { λ r. ⌜ r ≡ targetFree (boundIn (now (marks .entry))) v named ⌝ }
+{
+    if named {
+        return true;
+    }
+    !is_bound(marks, v)
+}
+
+// The fault of a Join by what was seen of its lookups.
+fn seen_fault(s: Seen, v: u8, marks: &[u16], shapes: &[usize]) -> u8
+    ensures { λ r. ⌜ r ≡ seenFault (now (shapes .entry)) (boundIn (now (marks .entry))) v s ⌝ }
+{
+    if s.ops != 1 {
+        return 10;
+    }
+    if !s.read {
+        return 9;
+    }
+    if !target_free(s.named, v, marks) {
+        return 9;
+    }
+    if !reach_fits(shapes, s.op, s.reach) {
+        return 11;
+    }
+    if !s.given {
+        return 5;
+    }
+    0
+}
+
+// The fault of a Join's frame.
+pub fn join_fault(frame: &[u8], marks: &[u16], shapes: &[usize], globals: &[u16]) -> Tested
+    ensures { λ r. ⌜ r ≡ joinTested (now (shapes .entry)) (boundIn (now (marks .entry))) (now (globals .entry)) (now (frame .entry)) ⌝ }
+{
+    let s = lookups_seen(frame, marks, globals);
+    let fault = seen_fault(s, byte_at(frame, 1), marks, shapes);
+    Tested { fault, op: s.op }
+}
