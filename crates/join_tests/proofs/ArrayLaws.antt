@@ -38,6 +38,9 @@ module _ (G : List ℕ) (g i : ℕ) (e : i ≡ g) where
   pub given-past : length G ≤ i → false ≡ given G g
   given-past h = let l : length G ≤ g = omega arith in rw (List·getD-eq-default G unset l)
 
+pub shape-past : (F : List ℕ) (o : ℕ) → length F ≤ o → 0 ≡ getD F o 0
+shape-past F o h = let l : length F ≤ o = h in sym (List·getD-eq-default F 0 l)
+
 module _ (F : List ℕ) (o s : ℕ) (e : s ≡ getD F o 0) where
   pub reach-any : (r : ℕ) → s ≡ 0 → true ≡ reachFits F o r
   reach-any r h = rw (← e, eq-eqb s 0 h)

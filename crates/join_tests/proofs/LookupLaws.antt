@@ -48,9 +48,6 @@ module _ (s : Seen) (i w : ℕ) (e : w ≡ i) where
 -- ---- the lookup at byte i, by its tag
 
 module _ (B : Bound) (G f : List ℕ) (i v t : ℕ) (s : Seen) (is : t ≡ getD f i 0) where
-
-
-
   pub by-op : (o : ℕ) (x : Seen) → t ≡ 0 → o ≡ getD f (i + 1) 0 → x ≡ opSeen s o → x ≡ lookupSeen B G v s (lookupAt f i)
   by-op o x h e g = g ∙ rw (← is, h, e)
 
@@ -141,16 +138,16 @@ module _ (F : List ℕ) (B : Bound) (v : ℕ) (s : Seen) where
       pub fault-9-target : not t ≡ true → 9 ≡ seenFault F B v s
       fault-9-target k = rw (h, not-false (s .read) g, ← e, not-true t k)
 
-      module _ (k : not t ≡ false) (u : Bool) (p : u ≡ reachFits F (s .op) (s .reach)) where
+      module _ (k : not t ≡ false) (o : ℕ) (d : o ≡ s .op) (u : Bool) (p : u ≡ reachFits F o (s .reach)) where
         pub fault-11 : not u ≡ true → 11 ≡ seenFault F B v s
-        fault-11 q = rw (h, not-false (s .read) g, ← e, not-false t k, ← p, not-true u q)
+        fault-11 q = rw (h, not-false (s .read) g, ← e, not-false t k, ← d, ← p, not-true u q)
 
         module _ (q : not u ≡ false) where
           pub fault-5 : not (s .given) ≡ true → 5 ≡ seenFault F B v s
-          fault-5 x = rw (h, not-false (s .read) g, ← e, not-false t k, ← p, not-false u q, not-true (s .given) x)
+          fault-5 x = rw (h, not-false (s .read) g, ← e, not-false t k, ← d, ← p, not-false u q, not-true (s .given) x)
 
           pub fault-0 : not (s .given) ≡ false → 0 ≡ seenFault F B v s
-          fault-0 x = rw (h, not-false (s .read) g, ← e, not-false t k, ← p, not-false u q, not-false (s .given) x)
+          fault-0 x = rw (h, not-false (s .read) g, ← e, not-false t k, ← d, ← p, not-false u q, not-false (s .given) x)
 
 pub tested : (F : List ℕ) (B : Bound) (G f : List ℕ) (s : Seen) (v k : ℕ) → s ≡ seenIn B G (getD f 1 0) (lookupsOf f) → v ≡ getD f 1 0 → k ≡ seenFault F B v s → _≡_ {A = Tested} (record { fault = k; op = s .op }) (joinTested F B G f)
 tested F B G f s v k e w h = rw (h, w, e)

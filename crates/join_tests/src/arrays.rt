@@ -22,18 +22,17 @@ pub fn is_bound(marks: &[u16], v: u8) -> bool
     mark_at(marks, v) != 0
 }
 
-pub fn shape_at(shapes: &[usize], op: u8) -> usize
+pub fn shape_at(shapes: &[usize], op: usize) -> usize
     ensures { λ r. ⌜ r ≡ getD (now (shapes .entry)) op 0 ⌝ }
 {
-    let i = wide(op);
-    if i < shapes.len() {
-        return shapes[i];
+    if op < shapes.len() {
+        return shapes[op];
     }
     0
 }
 
 // Whether every row of an operator is of a shape from `reach` on.
-pub fn reach_fits(shapes: &[usize], op: u8, reach: usize) -> bool
+pub fn reach_fits(shapes: &[usize], op: usize, reach: usize) -> bool
     ensures { λ r. ⌜ r ≡ reachFits (now (shapes .entry)) op reach ⌝ }
 {
     let shape = shape_at(shapes, op);

@@ -6,6 +6,7 @@ use super::arrays::is_bound;
 use super::arrays::reach_fits;
 use super::lookups::Seen;
 use super::lookups::lookups_seen;
+use fields::field::wide;
 use hex::byte_at;
 
 // A fault's number, or 0; and the operator of a Join's ByOp.
@@ -37,7 +38,7 @@ fn seen_fault(s: Seen, v: u8, marks: &[u16], shapes: &[usize]) -> u8
     if !target_free(s.named, v, marks) {
         return 9;
     }
-    if !reach_fits(shapes, s.op, s.reach) {
+    if !reach_fits(shapes, wide(s.op), s.reach) {
         return 11;
     }
     if !s.given {

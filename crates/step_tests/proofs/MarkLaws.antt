@@ -1,12 +1,12 @@
 -- What a step leaves, by its kind. Assumes nothing.
-use Prim.Native.Nat.{ℕ, _<_, _≤_}
+use Prim.Native.Nat.{ℕ, zero, suc, _+_, _-_, _<_, _≤_}
 use mathlib.Core.Path.{_≡_, refl, sym, _∙_, ap}
 use mathlib.Core.Bool.{Bool, true, false, not}
-use mathlib.Core.List.{List}
+use mathlib.Core.List.{List, [], _∷_, map}
 use native.Mathlib.Omega.{arith}
-use lib.Dec.{eqb}
+use lib.Dec.{eqb, ltb}
 use lib.ListN.{length, getD, set, length-set}
-use borrow.Author.Tests.{ne-eqb, eqb-true, not-true, not-false}
+use borrow.Author.Tests.{eq-eqb, ne-eqb, lt-ltb, eqb-true, not-true, not-false}
 use Rattle.base.specs.Choose.{pick}
 use Rattle.model.specs.Atoms.{Step, Join, ExtractChild, CheckChildEq, CheckEq, CheckEqGlobal, BindGlobal, CopyBinding, Expand, ExtractLitVal, CheckLit, CheckPred, isJoin}
 use Rattle.model.specs.Bools.{true-false}
@@ -15,14 +15,33 @@ use Rattle.model.specs.Reading.{boundBy, pickedBy}
 use Rattle.model.specs.Refusing.{joinOp, runnable, opsBy}
 use Rattle.plans.specs.StepFrames.{stepOf}
 use Rattle.plans.specs.StepsRead.{no-join}
-use Rattle.turning.specs.Steps.{lookupsOf}
-use Rattle.turning.specs.Plans.{bindsTarget, Markable, Stepped}
+use Rattle.join_tests.specs.Arrays.{isBound, isPicked, boundIn, pickedIn, opsIn}
+use Rattle.join_tests.specs.Lookups.{lookupsOf}
+use Rattle.step_tests.specs.Marks.{bindsTarget, boundMark, Markable, Stepped}
 
-put-size : {A : Type 0} (d : A) (l : List A) (i : ℕ) (x : A) → i < length l → length (put d l i x) ≡ length l
-put-size d l i x h = ap length (put-set d l i x h) ∙ length-set l i x
+-- ---- one mark
 
-pub op-set : (O : List ℕ) (v i x : ℕ) → i ≡ v → v < length O → set O i x ≡ put 0 O v x
-op-set O v i x e h = ap (λ (j : ℕ). set O j x) e ∙ sym (put-set 0 O v x h)
+-- what the marks say, where one is set
+map-put : {A : Type 0} (d : A) (f : ℕ → A) (M : List ℕ) (v x : ℕ) → v < length M → map f (set M v x) ≡ put d (map f M) v (f x)
+unfolding put
+map-put d f [] v x h = absurd (omega arith)
+map-put d f (m ∷ M) zero x h = refl
+map-put d f (m ∷ M) (suc v) x h = ap (λ (l : List A). f m ∷ l) (map-put d f M v x (omega arith))
+
+-- what they say stays, where the mark says the same
+map-same : {A : Type 0} (f : ℕ → A) (M : List ℕ) (v x : ℕ) → f x ≡ f (getD M v 0) → map f (set M v x) ≡ map f M
+map-same f [] v x h = refl
+map-same f (m ∷ M) zero x h = ap (λ (y : A). y ∷ map f M) h
+map-same f (m ∷ M) (suc v) x h = ap (λ (l : List A). f m ∷ l) (map-same f M v x h)
+
+-- a mark that is bound says as before who was picked
+kept : {A : Type 0} (f : ℕ → A) (m : ℕ) → f 1 ≡ f 0 → f (boundMark m) ≡ f m
+kept f zero h = h
+kept f (suc m) h = rw (ne-eqb (suc m) 0 (λ e. omega arith))
+
+bound-some : (m : ℕ) → isBound (boundMark m) ≡ true
+bound-some zero = refl
+bound-some (suc m) = rw (ne-eqb (suc m) 0 (λ e. omega arith), ne-eqb (suc m) 0 (λ e. omega arith))
 
 -- ---- steps that are no Join
 
@@ -59,32 +78,27 @@ binds-none : (B : Bound) (t : Bool) (s u : Step) → (runnable s ≡ true → B 
 binds-none B true s u p q = p
 binds-none B false s u p q = q
 
-module _ (f : List ℕ) (B R : Bound) (O : List ℕ) (m : Markable f B R O) (k v : ℕ) (is : k ≡ getD f 0 0) (ev : v ≡ getD f 1 0) where
+module _ (f M : List ℕ) (o : ℕ) (m : Markable f o M) (k w v : ℕ) (is : k ≡ getD f 0 0) (ew : w ≡ getD f 1 0) (ev : v ≡ w) where
+  target : v ≡ getD f 1 0
+  target = ev ∙ ew
+
   target-below : 0x40 ≤ k → k ≤ 0x46 → v < 64
-  target-below h g = rw ev (m .target .below (rw is at h) (rw is at g))
+  target-below h g = rw target (m .target .below (rw is at h) (rw is at g))
 
   module _ (j : k ≡ 0x40) where
-    pub join-below : v < length B
-    join-below = omega (arith, target-below (omega arith) (omega arith), m .sized .bound)
+    pub join-below : v < length M
+    join-below = omega (arith, target-below (omega arith) (omega arith), m .size)
 
-    pub join-below-picked : v < length R
-    join-below-picked = omega (arith, target-below (omega arith) (omega arith), m .sized .picked)
-
-    pub join-below-ops : v < length O
-    join-below-ops = omega (arith, target-below (omega arith) (omega arith), m .sized .ops)
-
-    pub join-marked : (C S : Bound) (Q : List ℕ) (o : ℕ) → C ≡ add B v → S ≡ add R v → o ≡ joinOp (lookupsOf f) → Q ≡ put 0 O v o → Stepped f B R O C S Q
-    unfolding stepOf
-    join-marked C S Q o p q e r = record {
-      bound = p ∙ rw (← is, j, ev);
-      picked = q ∙ rw (← is, j, ev);
-      ops = r ∙ rw (← is, j, ev, e);
-      sized = record {
-        bound = ap length p ∙ put-size false B v true join-below ∙ m .sized .bound;
-        picked = ap length q ∙ put-size false R v true join-below-picked ∙ m .sized .picked;
-        ops = ap length r ∙ put-size 0 O v o join-below-ops ∙ m .sized .ops;
-      };
-    }
+    pub join-marked : (x : ℕ) → x ≡ 2 + o → Stepped f M (set M v x)
+    unfolding stepOf boundIn pickedIn opsIn
+    join-marked x e =
+        let q : x - 2 ≡ joinOp (lookupsOf f) = let p : o ≡ joinOp (lookupsOf f) = m .op (sym is ∙ j) in omega arith in
+        record {
+          bound = map-put false isBound M v x join-below ∙ rw (← is, j, ← target, ne-eqb x 0 (λ z. omega arith));
+          picked = map-put false isPicked M v x join-below ∙ rw (← is, j, ← target, lt-ltb 1 x (omega arith));
+          ops = map-put 0 (λ (y : ℕ). y - 2) M v x join-below ∙ rw (← is, j, ← target, q);
+          size = length-set M v x ∙ m .size;
+        }
 
   module _ (j : k ≡ 0x40 → ⊥) (b : Bool) (eb : b ≡ bindsTarget k) where
     -- the kinds that bind
@@ -99,24 +113,25 @@ module _ (f : List ℕ) (B R : Bound) (O : List ℕ) (m : Markable f B R O) (k v
     other : isJoin (stepOf f) ≡ false
     other = no-join f k is j
 
-    pub bind-below : not b ≡ false → v < length B
-    bind-below h = kinds (not-false b h) (λ e. omega (arith, target-below (omega arith) (omega arith), m .sized .bound)) (λ e. omega (arith, target-below (omega arith) (omega arith), m .sized .bound)) (λ e. omega (arith, target-below (omega arith) (omega arith), m .sized .bound))
+    pub bind-below : not b ≡ false → v < length M
+    bind-below h = kinds (not-false b h) (λ e. omega (arith, target-below (omega arith) (omega arith), m .size)) (λ e. omega (arith, target-below (omega arith) (omega arith), m .size)) (λ e. omega (arith, target-below (omega arith) (omega arith), m .size))
 
-    bound-by : not b ≡ false → add B v ≡ boundBy (stepOf f) B
+    bound-by : (B : Bound) → not b ≡ false → add B v ≡ boundBy (stepOf f) B
     unfolding stepOf
-    bound-by h = kinds (not-false b h) (λ e. rw (← is, e, ev)) (λ e. rw (← is, e, ev)) (λ e. rw (← is, e, ev))
+    bound-by B h = kinds (not-false b h) (λ e. rw (← is, e, target)) (λ e. rw (← is, e, target)) (λ e. rw (← is, e, target))
 
-    pub bind-marked : (C : Bound) → not b ≡ false → C ≡ add B v → Stepped f B R O C R O
-    bind-marked C h p = record {
-      bound = p ∙ bound-by h;
-      picked = picks-none (stepOf f) R other;
-      ops = keeps-ops (stepOf f) O other;
-      sized = record { bound = ap length p ∙ put-size false B v true (bind-below h) ∙ m .sized .bound; picked = m .sized .picked; ops = m .sized .ops };
+    pub bind-marked : (x : ℕ) → not b ≡ false → x ≡ boundMark (getD M v 0) → Stepped f M (set M v x)
+    unfolding boundIn pickedIn opsIn
+    bind-marked x h e = record {
+      bound = map-put false isBound M v x (bind-below h) ∙ rw (e, bound-some (getD M v 0)) (bound-by (map isBound M) h);
+      picked = map-same isPicked M v x (rw e (kept isPicked (getD M v 0) refl)) ∙ picks-none (stepOf f) (map isPicked M) other;
+      ops = map-same (λ (y : ℕ). y - 2) M v x (rw e (kept (λ (y : ℕ). y - 2) (getD M v 0) refl)) ∙ keeps-ops (stepOf f) (map (λ (y : ℕ). y - 2) M) other;
+      size = length-set M v x ∙ m .size;
     }
 
-    unbound-by : bindsTarget k ≡ false → B ≡ boundBy (stepOf f) B
+    unbound-by : (B : Bound) → bindsTarget k ≡ false → B ≡ boundBy (stepOf f) B
     unfolding stepOf
-    unbound-by h = by (eqb k 0x41) refl (eqb k 0x45) refl (eqb k 0x46) refl h
+    unbound-by B h = by (eqb k 0x41) refl (eqb k 0x45) refl (eqb k 0x46) refl h
       where
         by : (x : Bool) → eqb k 0x41 ≡ x → (y : Bool) → eqb k 0x45 ≡ y → (z : Bool) → eqb k 0x46 ≡ z → pick x true (pick y true z) ≡ false → B ≡ boundBy (stepOf f) B
         by true e y d z c g = true-false refl g
@@ -129,5 +144,10 @@ module _ (f : List ℕ) (B R : Bound) (O : List ℕ) (m : Markable f B R O) (k v
             (binds-none B (eqb k 0x4a) _ _ (λ r. refl) (binds-none B (eqb k 0x4b) _ _ (λ r. refl) (λ r. refl))))))))
             (rw (← is, ne-eqb k 0x40 j, e, d, c) at (m .runs)))
 
-    pub none-marked : not b ≡ true → Stepped f B R O B R O
-    none-marked h = record { bound = unbound-by (sym eb ∙ not-true b h); picked = picks-none (stepOf f) R other; ops = keeps-ops (stepOf f) O other; sized = m .sized }
+    pub none-marked : not b ≡ true → Stepped f M M
+    none-marked h = record {
+      bound = unbound-by (boundIn M) (sym eb ∙ not-true b h);
+      picked = picks-none (stepOf f) (pickedIn M) other;
+      ops = keeps-ops (stepOf f) (opsIn M) other;
+      size = m .size;
+    }

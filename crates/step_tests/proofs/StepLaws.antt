@@ -1,27 +1,23 @@
--- The tests of a plan's line give the fault that the definition gives. Proved by the step's kind.
+-- The tests of a step other than a Join give the fault that the definition gives. Proved by the step's kind.
 use Prim.Native.Nat.{ℕ, _+_, _<_}
 use mathlib.Core.Path.{_≡_, refl, sym, _∙_, ap}
-use mathlib.Core.Bool.{Bool, true, false, _&&_, _||_, not, and-true, and-assoc}
-use mathlib.Core.List.{List, [], _∷_, _++_, flatMap}
+use mathlib.Core.Bool.{Bool, true, false, _&&_, not}
+use mathlib.Core.List.{List, [], _∷_}
 use native.Mathlib.Omega.{arith}
 use native.Mathlib.Decide.{decLt}
-use lib.Dec.{eqb, ltb}
+use lib.Dec.{eqb, leb, ltb}
 use lib.ListN.{length, getD}
-use borrow.Author.Tests.{ne-eqb, lt-ltb, le-ltb, not-true, not-false}
+use borrow.Author.Tests.{ne-eqb, lt-ltb, le-ltb, le-leb, lt-leb, not-true, not-false}
 use Rattle.base.specs.Choose.{pick}
-use Rattle.base.specs.Table.{all}
-use Rattle.model.specs.Atoms.{local, global, Lookup, ByOp, ByChildPos, ByRepr, ByContains, Step, Join, ExtractChild, CheckChildEq, CheckEq, CheckEqGlobal, BindGlobal, CopyBinding, Expand, ExtractLitVal, CheckLit, CheckPred, Row, Node, Literal, unset, Table, globalClass, isJoin}
-use Rattle.model.specs.Lists.{one}
+use Rattle.model.specs.Atoms.{local, global, wild, Step, Join, ExtractChild, CheckChildEq, CheckEq, CheckEqGlobal, BindGlobal, CopyBinding, Expand, ExtractLitVal, CheckLit, CheckPred, Row, Node, Literal, unset, Table, rows, globalClass, isJoin}
 use Rattle.model.specs.Bound.{Bound, has, hasAll, hasNone}
-use Rattle.model.specs.Reading.{lookupReads, namedByRepr, isRepr}
-use Rattle.model.specs.Refusing.{countOps, joinOp, allRows, isLiteral, hasChild, lookupsFit, opAt}
+use Rattle.model.specs.Refusing.{allRows, isLiteral, hasChild, opAt}
 use Rattle.plans.specs.StepFrames.{stepOf}
-use Rattle.plans.specs.StepsRead.{no-join}
-use Rattle.running.specs.Turning.{lookupGlobals, allGiven, stepFault}
-use Rattle.turning.specs.declared.steps.Simple.{Simple}
-use Rattle.turning.specs.declared.steps.Simple.the-variants.{Extract, ChildLocal, ChildGlobal, Equal, EqualGlobal, Bind, Copy, ReadLit, NotRun}
-use Rattle.turning.specs.Shapes.{shapeOf}
-use Rattle.turning.specs.Steps.{Described, childFits, literalFits, given, lookupsOf, onlyGlobals, readBy, givenBy, fitsBy, otherThan, targetFree, joinFault, simple, childFault, literalFault, simpleFault}
+use Rattle.running.specs.Validation.{allGiven, stepFault}
+use Rattle.join_tests.specs.Arrays.{given, reachOf}
+use Rattle.step_tests.specs.declared.simple.Simple.{Simple}
+use Rattle.step_tests.specs.declared.simple.Simple.the-variants.{Extract, ChildLocal, ChildGlobal, Equal, EqualGlobal, Bind, Copy, ReadLit, NotRun}
+use Rattle.step_tests.specs.Steps.{shapeOf, Described, childFits, literalFits, simple, childFault, literalFault, simpleFault}
 
 -- ---- choices
 
@@ -97,72 +93,32 @@ is-not-run f k is a b c d e g h i =
     rw (← is, ne-eqb k 0x41 a, ne-eqb k 0x42 b, ne-eqb k 0x43 c, ne-eqb k 0x44 d, ne-eqb k 0x45 e, ne-eqb k 0x46 g, ne-eqb k 0x4a h, ne-eqb k 0x4b i)
     (either-not (eqb k 0x40) _ _ refl (either-not (eqb k 0x47) _ _ refl (either-not (eqb k 0x48) _ _ refl (either-not (eqb k 0x49) _ _ refl refl))))
 
--- ---- a Join
-
-module _ (B : Bound) (v : ℕ) (ls : List Lookup) (n : Bool) (e : n ≡ all (otherThan v) ls) where
-  pub unnamed : (b : Bool) → n ≡ true → b ≡ has B v → not b ≡ targetFree B v ls
-  unnamed b h g = rw (← e, h, g)
-
-  pub named : n ≡ false → true ≡ targetFree B v ls
-  named h = rw (← e, h)
-
-module _ (F G : List ℕ) (B : Bound) (w : ℕ) (ls : List Lookup) (n : ℕ) (en : n ≡ countOps ls) where
-  pub join-10 : (n ≡ 1 → ⊥) → 10 ≡ joinFault F G B w ls
-  join-10 h = rw (← en, ne-eqb n 1 h)
-
-  module _ (hn : n ≡ 1) (r : Bool) (er : r ≡ all (readBy B) ls) where
-    pub join-9 : not r ≡ true → 9 ≡ joinFault F G B w ls
-    join-9 h = rw (← en, hn, ← er, not-true r h)
-
-    module _ (hr : not r ≡ false) (v : ℕ) (t : Bool) (ev : v ≡ w) (et : t ≡ targetFree B v ls) where
-      free : targetFree B w ls ≡ t
-      free = rw (← ev) (sym et)
-
-      pub join-9-target : not t ≡ true → 9 ≡ joinFault F G B w ls
-      join-9-target h = rw (← en, hn, ← er, not-false r hr, free, not-true t h)
-
-      module _ (ht : not t ≡ false) (o : ℕ) (s : Bool) (eo : o ≡ joinOp ls) (es : s ≡ all (fitsBy F o) ls) where
-        pub join-11 : not s ≡ true → 11 ≡ joinFault F G B w ls
-        join-11 h = rw (← en, hn, ← er, not-false r hr, free, not-false t ht, ← eo, ← es, not-true s h)
-
-        module _ (hs : not s ≡ false) (g : Bool) (eg : g ≡ all (givenBy G) ls) where
-          pub join-5 : not g ≡ true → 5 ≡ joinFault F G B w ls
-          join-5 h = rw (← en, hn, ← er, not-false r hr, free, not-false t ht, ← eo, ← es, not-false s hs, ← eg, not-true g h)
-
-          pub join-0 : not g ≡ false → 0 ≡ joinFault F G B w ls
-          join-0 h = rw (← en, hn, ← er, not-false r hr, free, not-false t ht, ← eo, ← es, not-false s hs, ← eg, not-false g h)
-
 -- ---- the tests say what the table says
 
 pub arm : (F G : List ℕ) (B R : Bound) (O : List ℕ) (s d : Simple) (r : ℕ) → s ≡ d → r ≡ simpleFault F G B R O d → r ≡ simpleFault F G B R O s
 arm F G B R O s d r e h = rw e h
 
-child-by : (i : ℕ) (r : Row) → hasChild i r ≡ ltb (i + 2) (shapeOf r)
+child-by : (i : ℕ) (r : Row) → hasChild i r ≡ leb (reachOf i) (shapeOf r)
 child-by i (Node c o ds) = by (decLt i (length ds))
   where
-    by : Dec (i < length ds) → ltb i (length ds) ≡ ltb (i + 2) (2 + length ds)
-    by (yes h) = rw (lt-ltb i (length ds) h, lt-ltb (i + 2) (2 + length ds) (omega arith))
-    by (no h) = rw (le-ltb i (length ds) (omega arith), le-ltb (i + 2) (2 + length ds) (omega arith))
-child-by i (Literal c o x) = rw (le-ltb i 0 (omega arith), le-ltb (i + 2) 1 (omega arith))
+    by : Dec (i < length ds) → ltb i (length ds) ≡ leb (i + 3) (2 + length ds)
+    by (yes h) = rw (lt-ltb i (length ds) h, le-leb (i + 3) (2 + length ds) (omega arith))
+    by (no h) = rw (le-ltb i (length ds) (omega arith), lt-leb (i + 3) (2 + length ds) (omega arith))
+child-by i (Literal c o x) = rw (le-ltb i 0 (omega arith), lt-leb (i + 3) 1 (omega arith))
 
 literal-by : (r : Row) → isLiteral r ≡ eqb 1 (shapeOf r)
 literal-by (Node c o ds) = sym (ne-eqb 1 (2 + length ds) (λ e. omega arith))
 literal-by (Literal c o x) = refl
 
 module _ (tb : Table) (F G : List ℕ) (d : Described tb F G) where
-  child-same : (i o : ℕ) → allRows (hasChild i) o (tb .rows) ≡ childFits F o i
-  child-same i o = d .shaped .is (hasChild i) (ltb (i + 2)) (child-by i) o
+  pub child-same : (i o : ℕ) → allRows (hasChild i) o (rows tb) ≡ childFits F o i
+  child-same i o = d .shaped .is (hasChild i) (leb (reachOf i)) (child-by i) o
 
-  literal-same : (o : ℕ) → allRows isLiteral o (tb .rows) ≡ literalFits F o
+  literal-same : (o : ℕ) → allRows isLiteral o (rows tb) ≡ literalFits F o
   literal-same o = d .shaped .is isLiteral (eqb 1) literal-by o
 
-  given-same : (g : ℕ) → not (eqb (globalClass tb g) unset) ≡ given G g
+  pub given-same : (g : ℕ) → not (eqb (globalClass tb g) unset) ≡ given G g
   given-same g = rw (d .globals)
-
-  all-given-same : (gs : List ℕ) → allGiven tb gs ≡ allGiven (onlyGlobals G) gs
-  unfolding allGiven
-  all-given-same [] = refl
-  all-given-same (g ∷ gs) = rw (given-same g, all-given-same gs)
 
 lit-by : (B R : Bound) (n x : ℕ) → pick (pick (has B n) (has R n) false) x 9 ≡ pick ((has B n && true) && (true && (has R n && true))) x 9
 lit-by B R n x = by (has B n) (has R n)
@@ -172,57 +128,7 @@ lit-by B R n x = by (has B n) (has R n)
     by true true = refl
     by true false = refl
 
--- ---- a Join's lookups
-
-has-both : (B : Bound) (us vs : List ℕ) → hasAll B (us ++ vs) ≡ hasAll B us && hasAll B vs
-unfolding hasAll
-has-both B [] vs = refl
-has-both B (u ∷ us) vs = rw (has-both B us vs) (sym (and-assoc (has B u) (hasAll B us) (hasAll B vs)))
-
-given-both : (tb : Table) (us vs : List ℕ) → allGiven tb (us ++ vs) ≡ allGiven tb us && allGiven tb vs
-unfolding allGiven
-given-both tb [] vs = refl
-given-both tb (u ∷ us) vs = rw (given-both tb us vs) (sym (and-assoc (not (eqb (globalClass tb u) unset)) (allGiven tb us) (allGiven tb vs)))
-
-reads-same : (B : Bound) (ls : List Lookup) → hasAll B (flatMap lookupReads ls) ≡ all (readBy B) ls
-unfolding hasAll all readBy flatMap
-reads-same B [] = refl
-reads-same B (l ∷ ls) = rw (has-both B (lookupReads l) (flatMap lookupReads ls), reads-same B ls)
-
-names-same : (v : ℕ) (ls : List Lookup) → not (namedByRepr v ls) ≡ all (otherThan v) ls
-unfolding namedByRepr all otherThan
-names-same v [] = refl
-names-same v (l ∷ ls) = rw (← names-same v ls) (by (isRepr v l) (namedByRepr v ls))
-  where
-    by : (a b : Bool) → not (a || b) ≡ not a && not b
-    by true b = refl
-    by false b = refl
-
 module _ (tb : Table) (F G : List ℕ) (d : Described tb F G) where
-  fits-same : (o : ℕ) (ls : List Lookup) → lookupsFit tb o ls ≡ all (fitsBy F o) ls
-  unfolding lookupsFit all fitsBy
-  fits-same o [] = refl
-  fits-same o (ByOp p ∷ ls) = fits-same o ls
-  fits-same o (ByChildPos c i ∷ ls) = rw (child-same tb F G d i o, fits-same o ls)
-  fits-same o (ByRepr v ∷ ls) = fits-same o ls
-  fits-same o (ByContains c ∷ ls) = fits-same o ls
-
-  givens-same : (ls : List Lookup) → allGiven tb (flatMap lookupGlobals ls) ≡ all (givenBy G) ls
-  unfolding allGiven all givenBy flatMap
-  givens-same [] = refl
-  givens-same (l ∷ ls) = rw (given-both tb (lookupGlobals l) (flatMap lookupGlobals ls), all-given-same tb F G d (lookupGlobals l), givens-same ls)
-
-  pub join-same : (B R : Bound) (O : List ℕ) (v k : ℕ) (ls : List Lookup) → joinFault F G B v ls ≡ stepFault tb B R O (Join v k ls)
-  unfolding hasAll hasNone
-  join-same B R O v k ls =
-      rw (reads-same B ls, names-same v ls, fits-same (joinOp ls) ls, givens-same ls)
-      (by (all (readBy B) ls) (all (otherThan v) ls) (eqb (countOps ls) 1) (pick (all (fitsBy F (joinOp ls)) ls) (pick (all (givenBy G) ls) 0 5) 11))
-    where
-      by : (r n c : Bool) (x : ℕ) → pick c (pick r (pick (pick n (not (has B v)) true) x 9) 9) 10 ≡ pick c (pick (r && (hasNone B (one n v) && true)) x 9) 10
-      by false n c x = refl
-      by true true c x = rw (and-true (not (has B v) && true), and-true (not (has B v)))
-      by true false c x = refl
-
   -- ---- the other steps
 
   pub simple-same : (B R : Bound) (O : List ℕ) (s : Step) → isJoin s ≡ false → simpleFault F G B R O (simple s) ≡ stepFault tb B R O s
@@ -252,6 +158,12 @@ module _ (tb : Table) (F G : List ℕ) (d : Described tb F G) where
       by true true true true = refl
       by true true true false = refl
       by true true false b = refl
+  simple-same B R O (CheckChildEq p i wild) h = rw (child-same tb F G d i (opAt O p)) (by (has B p) (has R p))
+    where
+      by : (a r : Bool) → pick (pick a r false) (pick a (childFault F O p i) 9) 9 ≡ pick ((a && true) && (true && (r && true))) (childFault F O p i) 9
+      by false r = refl
+      by true true = refl
+      by true false = refl
   simple-same B R O (CheckEq a b) h = by (has B a) (has B b)
     where
       by : (x y : Bool) → _≡_ {A = ℕ} (pick x (pick y 0 9) 9) (pick ((x && (y && true)) && true) 0 9)
@@ -280,13 +192,3 @@ module _ (tb : Table) (F G : List ℕ) (d : Described tb F G) where
   simple-same B R O (ExtractLitVal n l) h = rw (literal-same tb F G d (opAt O n)) (lit-by B R n (literalFault F O n))
   simple-same B R O (CheckLit n x) h = rw (literal-same tb F G d (opAt O n)) (lit-by B R n (literalFault F O n))
   simple-same B R O (CheckPred g) h = refl
-
-  -- ---- a line
-
-  module _ (f : List ℕ) (B R : Bound) (O : List ℕ) (k r : ℕ) (is : k ≡ getD f 0 0) where
-    pub join-line : k ≡ 0x40 → r ≡ joinFault F G B (getD f 1 0) (lookupsOf f) → r ≡ stepFault tb B R O (stepOf f)
-    unfolding stepOf
-    join-line h e = e ∙ join-same B R O (getD f 1 0) (getD f 2 0) (lookupsOf f) ∙ rw (← is, h)
-
-    pub simple-line : (s : Simple) → (k ≡ 0x40 → ⊥) → s ≡ simple (stepOf f) → r ≡ simpleFault F G B R O s → r ≡ stepFault tb B R O (stepOf f)
-    simple-line s h e g = g ∙ ap (simpleFault F G B R O) e ∙ simple-same B R O (stepOf f) (no-join f k is h)

@@ -1,103 +1,60 @@
--- The tests of a plan's line, by arrays: B bound, R picked, O the operators of the picked, F the shapes of operators, G the classes of globals.
+-- The tests of a plan's step, by arrays: M marks of variables (B bound, R picked, O operators of the picked), F shapes of operators, G classes of
+-- globals.
 use Prim.Native.Nat.{ℕ, _+_}
 use mathlib.Core.Path.{_≡_}
 use mathlib.Core.Bool.{Bool, true, false, not}
-use mathlib.Core.List.{List, []}
-use lib.ListN.{getD}
-use lib.Dec.{eqb, ltb}
+use mathlib.Core.List.{List}
+use lib.ListN.{length, getD}
+use lib.Dec.{eqb}
 use Rattle.base.specs.Choose.{pick}
-use Rattle.base.specs.Table.{all}
-use Rattle.model.specs.Atoms.{local, global, Lookup, ByOp, ByChildPos, ByRepr, ByContains, Step, Join, ExtractChild, CheckChildEq, CheckEq, CheckEqGlobal, BindGlobal, CopyBinding, Expand, ExtractLitVal, CheckLit, CheckPred, unset, Table}
-use Rattle.model.specs.Bound.{Bound, has, hasAll}
-use Rattle.model.specs.Reading.{lookupReads, isRepr}
-use Rattle.model.specs.Refusing.{countOps, joinOp, opAt}
-use Rattle.plans.specs.StepFrames.{lookupAt, itemsAt}
-use Rattle.running.specs.Turning.{lookupGlobals, allGiven}
-use Rattle.turning.specs.declared.steps.Simple.{Simple}
-use Rattle.turning.specs.declared.steps.Simple.the-variants.{Extract, ChildLocal, ChildGlobal, Equal, EqualGlobal, Bind, Copy, ReadLit, NotRun}
-use Rattle.turning.specs.Shapes.{fitsShape, Shaped}
+use Rattle.model.specs.Atoms.{local, global, wild, Step, Join, ExtractChild, CheckChildEq, CheckEq, CheckEqGlobal, BindGlobal, CopyBinding, Expand, ExtractLitVal, CheckLit, CheckPred, Row, Node, Literal, Table, rows}
+use Rattle.model.specs.Bound.{Bound, has}
+use Rattle.model.specs.Refusing.{joinOp, opAt, allRows}
+use Rattle.plans.specs.StepFrames.{stepOf}
+use Rattle.running.specs.Validation.{stepFault}
+use Rattle.join_tests.specs.Arrays.{boundIn, pickedIn, opsIn, fitsShape, reachFits, reachOf, given}
+use Rattle.join_tests.specs.Lookups.{lookupsOf}
+use Rattle.join_tests.specs.declared.joins.Tested.{Tested}
+use Rattle.step_tests.specs.declared.simple.Simple.{Simple}
+use Rattle.step_tests.specs.declared.simple.Simple.the-variants.{Extract, ChildLocal, ChildGlobal, Equal, EqualGlobal, Bind, Copy, ReadLit, NotRun}
+
+-- ---- the arrays of a table
+
+-- a frame 31, or a frame 30 by its children; 0 is the shape of no row
+abbrev pub shapeOf : Row → ℕ
+shapeOf (Node c o ds) = 2 + length ds
+shapeOf (Literal c o x) = 1
+
+-- F says of each operator what all its rows say, of any test that goes by the shape
+pub record Shaped (F : List ℕ) (rows : List Row) : Type 0 where
+  pub size : length F ≡ 256
+  pub is : (P : Row → Bool) (g : ℕ → Bool) → ((r : Row) → P r ≡ g (shapeOf r)) → (o : ℕ) → allRows P o rows ≡ fitsShape g (getD F o 0)
 
 -- the arrays F and G speak of the table tb
 pub record Described (tb : Table) (F G : List ℕ) : Type 0 where
-  pub shaped : Shaped F (tb .rows)
+  pub shaped : Shaped F (rows tb)
   pub globals : G ≡ tb .globals
 
--- ---- one operator, one global
+-- ---- one row
 
--- every row of operator o has a child at position i: 2 and the number of children is the shape
+-- every row of operator o has a child at position i
 abbrev pub childFits : List ℕ → ℕ → ℕ → Bool
-childFits F o i = fitsShape (ltb (i + 2)) (getD F o 0)
+childFits F o i = reachFits F o (reachOf i)
 
 -- every row of operator o is a literal
 abbrev pub literalFits : List ℕ → ℕ → Bool
 literalFits F o = fitsShape (eqb 1) (getD F o 0)
 
--- the global g has a frame 32
-abbrev pub given : List ℕ → ℕ → Bool
-given G g = not (eqb (getD G g unset) unset)
+-- ---- the steps but Joins
 
--- ---- a Join's lookups: "40 Join target atom n lookups"
-
-abbrev pub lookupsOf : List ℕ → List Lookup
-lookupsOf f = itemsAt lookupAt 4 f 4 (getD f 3 0)
-
--- a table that is asked for its globals only
-abbrev pub onlyGlobals : List ℕ → Table
-onlyGlobals G = record { rows = []; globals = G }
-
--- 1 for a ByOp
-abbrev pub opCount : Lookup → ℕ
-opCount (ByOp o) = 1
-opCount (ByChildPos c i) = 0
-opCount (ByRepr v) = 0
-opCount (ByContains c) = 0
-
--- all that one reads is bound
-unfoldable pub readBy : Bound → Lookup → Bool
-readBy B l = hasAll B (lookupReads l)
-
--- its global has a class
-unfoldable pub givenBy : List ℕ → Lookup → Bool
-givenBy G l = allGiven (onlyGlobals G) (lookupGlobals l)
-
--- its position is one of all rows of operator o
-unfoldable pub fitsBy : List ℕ → ℕ → Lookup → Bool
-fitsBy F o (ByOp p) = true
-fitsBy F o (ByChildPos c i) = childFits F o i
-fitsBy F o (ByRepr v) = true
-fitsBy F o (ByContains c) = true
-
--- it does not name v by ByRepr
-unfoldable pub otherThan : ℕ → Lookup → Bool
-otherThan v l = not (isRepr v l)
-
--- the target is unbound, "save a Join naming its own target by ByRepr"
-abbrev pub targetFree : Bound → ℕ → List Lookup → Bool
-targetFree B v ls = pick (all (otherThan v) ls) (not (has B v)) true
-
--- 10, 9, 11 and 5 of a Join
-abbrev pub joinFault : List ℕ → List ℕ → Bound → ℕ → List Lookup → ℕ
-joinFault F G B v ls =
-    pick (eqb (countOps ls) 1)
-    (pick (all (readBy B) ls)
-    (pick (targetFree B v ls)
-    (pick (all (fitsBy F (joinOp ls)) ls)
-    (pick (all (givenBy G) ls)
-    0
-    5)
-    11)
-    9)
-    9)
-    10
-
--- ---- the other steps
-
--- what the tests ask of a step other than a Join; NotRun: "steps 47, 48, 49, 4c"
+-- what the tests ask of a step other than a Join; NotRun: "steps 47, 48, 49, 4c"; a wildcard, which
+-- no frame has, asks for the parent alone
 abbrev pub simple : Step → Simple
 simple (Join v k ls) = NotRun
 simple (ExtractChild v p i) = Extract v p i
 simple (CheckChildEq p i (local v)) = ChildLocal p i v
 simple (CheckChildEq p i (global g)) = ChildGlobal p i g
+simple (CheckChildEq p i wild) = ChildLocal p i p
 simple (CheckEq a b) = Equal a b
 simple (CheckEqGlobal a g) = EqualGlobal a g
 simple (BindGlobal v g) = Bind v g
@@ -160,3 +117,10 @@ simpleFault F G B R O (Bind v g) = bindFault G B v g
 simpleFault F G B R O (Copy v o) = copyFault B v o
 simpleFault F G B R O (ReadLit n) = readLitFault F B R O n
 simpleFault F G B R O NotRun = 10
+
+-- ---- a step
+
+-- the frame f: its fault over any table that F and G speak of, and a Join's operator
+pub record StepTested (F G M f : List ℕ) (r : Tested) : Type 0 where
+  pub is : (tb : Table) → Described tb F G → r .fault ≡ stepFault tb (boundIn M) (pickedIn M) (opsIn M) (stepOf f)
+  pub op : getD f 0 0 ≡ 0x40 → r .op ≡ joinOp (lookupsOf f)

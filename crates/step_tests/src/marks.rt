@@ -1,14 +1,10 @@
-// What a step leaves: the variables that are bound, those that a Join picked, and the operators of their rows.
+// What a step leaves: the marks of the variables that it binds, and of the one that a Join picks.
 ghost use mathlib.Core.Path.{_≡_};
-ghost use Prim.Native.Nat.{_<_};
-ghost use lib.ListN.{length};
-ghost use Rattle.hex.specs.Digits.{bytesOf};
-ghost use Rattle.model.specs.Bound.{put};
-ghost use Rattle.turning.specs.Plans.{bindsTarget, Markable, Stepped};
-use super::lookups::join_op;
+ghost use Prim.Native.Nat.{_+_, _<_};
+ghost use lib.ListN.{length, getD, set};
+ghost use Rattle.step_tests.specs.Marks.{bindsTarget, boundMark, Markable, Stepped};
 use fields::field::wide;
-use hex::line::byte_at;
-use lowering::sets::set_bound;
+use hex::byte_at;
 
 fn binds(kind: u8) -> bool
     ensures { λ r. ⌜ r ≡ bindsTarget kind ⌝ }
@@ -22,28 +18,36 @@ fn binds(kind: u8) -> bool
     kind == 0x46
 }
 
-fn set_op(ops: &mut [u8], v: u8, op: u8)
-    requires { ⌜ v < length (now ops) ⌝ }
-    ensures { λ r. ⌜ now (ops .exit) ≡ put 0 (now (ops .entry)) v op ⌝ }
+// The mark of a variable that a Join picks.
+fn picked_mark(op: u8) -> u16
+    ensures { λ r. ⌜ r ≡ 2 + op ⌝ }
 {
-    ops[wide(v)] = op;
+    2 + op as u16
 }
 
-// Marks what the step of a line binds and picks.
-pub fn step_marks(line: &[u8], bound: &mut [bool], picked: &mut [bool], ops: &mut [u8])
-    requires { ⌜ Markable (bytesOf (now line)) (now bound) (now picked) (now ops) ⌝ }
-    ensures { λ r. ⌜ Stepped (bytesOf (now (line .entry))) (now (bound .entry)) (now (picked .entry)) (now (ops .entry)) (now (bound .exit)) (now (picked .exit)) (now (ops .exit)) ⌝ }
+// The mark of a variable that is bound, by its mark before.
+fn bound_mark(mark: u16) -> u16
+    ensures { λ r. ⌜ r ≡ boundMark mark ⌝ }
 {
-    let kind = byte_at(line, 0);
-    let v = byte_at(line, 1);
+    if mark == 0 {
+        return 1;
+    }
+    mark
+}
+
+// Marks what the step of a frame binds and picks; op is a Join's operator.
+pub fn step_marks(frame: &[u8], op: u8, marks: &mut [u16])
+    requires { ⌜ Markable (now frame) op (now marks) ⌝ }
+    ensures { λ r. ⌜ Stepped (now (frame .entry)) (now (marks .entry)) (now (marks .exit)) ⌝ }
+{
+    let kind = byte_at(frame, 0);
+    let v = wide(byte_at(frame, 1));
     if kind == 0x40 {
-        set_bound(bound, v);
-        set_bound(picked, v);
-        set_op(ops, v, join_op(line));
+        marks[v] = picked_mark(op);
         return;
     }
     if !binds(kind) {
         return;
     }
-    set_bound(bound, v);
+    marks[v] = bound_mark(marks[v]);
 }

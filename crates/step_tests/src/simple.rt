@@ -1,23 +1,15 @@
-// The tests of one line of the plan: 10, 9, 11 and the missing global.
+// The tests of a step other than a Join: 10, 9, 11 and the missing global.
 ghost use mathlib.Core.Path.{_≡_};
 ghost use lib.ListN.{getD};
-ghost use Rattle.hex.specs.Digits.{bytesOf};
 ghost use Rattle.plans.specs.StepFrames.{stepOf};
-ghost use Rattle.model.specs.Atoms.{Table};
-ghost use Rattle.running.specs.Turning.{stepFault};
-ghost use Rattle.turning.specs.Steps.{Described, lookupsOf, targetFree, joinFault, simple, extractFault, localFault, childGlobalFault, equalFault, equalGlobalFault, bindFault, copyFault, readLitFault, simpleFault};
-use super::arrays::child_fault;
-use super::arrays::global_fault;
-use super::arrays::literal_fault;
-use super::arrays::row_read;
-use super::lookups::count_ops;
-use super::lookups::join_op;
-use super::lookups::lookups_fit;
-use super::lookups::lookups_given;
-use super::lookups::lookups_read;
-use super::lookups::none_names;
-use hex::line::byte_at;
-use lowering::sets::is_set;
+ghost use Rattle.join_tests.specs.Arrays.{boundIn, pickedIn, opsIn};
+ghost use Rattle.step_tests.specs.Steps.{simple, extractFault, localFault, childGlobalFault, equalFault, equalGlobalFault, bindFault, copyFault, readLitFault, simpleFault};
+use super::rows::child_fault;
+use super::rows::global_fault;
+use super::rows::literal_fault;
+use super::rows::row_read;
+use hex::byte_at;
+use join_tests::arrays::is_bound;
 
 // A step other than a Join, as far as the tests ask.
 pub enum Simple {
@@ -40,64 +32,32 @@ pub enum Simple {
     NotRun,
 }
 
-// Whether the target of a Join is free, or named by ByRepr.
-fn target_free(line: &[u8], v: u8, bound: &[bool]) -> bool
-    ensures { λ r. ⌜ r ≡ targetFree (now (bound .entry)) v (lookupsOf (bytesOf (now (line .entry)))) ⌝ }
-{
-    if none_names(line, v) {
-        return !is_set(bound, v);
-    }
-    true
-}
-
-// The fault of a Join's line.
-fn join_fault(line: &[u8], bound: &[bool], shapes: &[usize], globals: &[u16]) -> u8
-    ensures { λ r. ⌜ r ≡ joinFault (now (shapes .entry)) (now (globals .entry)) (now (bound .entry)) (getD (bytesOf (now (line .entry))) 1 0) (lookupsOf (bytesOf (now (line .entry)))) ⌝ }
-{
-    if count_ops(line) != 1 {
-        return 10;
-    }
-    if !lookups_read(line, bound) {
-        return 9;
-    }
-    if !target_free(line, byte_at(line, 1), bound) {
-        return 9;
-    }
-    if !lookups_fit(line, join_op(line), shapes) {
-        return 11;
-    }
-    if !lookups_given(line, globals) {
-        return 5;
-    }
-    0
-}
-
 // A CheckChildEq, by its operand's tag.
-fn child_step(line: &[u8]) -> Simple
-    requires { ⌜ getD (bytesOf (now line)) 0 0 ≡ 0x42 ⌝ }
-    ensures { λ r. ⌜ r ≡ simple (stepOf (bytesOf (now (line .entry)))) ⌝ }
+fn child_step(frame: &[u8]) -> Simple
+    requires { ⌜ getD (now frame) 0 0 ≡ 0x42 ⌝ }
+    ensures { λ r. ⌜ r ≡ simple (stepOf (now (frame .entry))) ⌝ }
 {
-    let parent = byte_at(line, 1);
-    let position = byte_at(line, 2);
-    let index = byte_at(line, 4);
-    if byte_at(line, 3) == 0 {
+    let parent = byte_at(frame, 1);
+    let position = byte_at(frame, 2);
+    let index = byte_at(frame, 4);
+    if byte_at(frame, 3) == 0 {
         return Simple::ChildLocal(parent, position, index);
     }
     Simple::ChildGlobal(parent, position, index)
 }
 
 // A step of two fields or three, by its kind.
-fn simple_step(line: &[u8]) -> Simple
-    ensures { λ r. ⌜ r ≡ simple (stepOf (bytesOf (now (line .entry)))) ⌝ }
+pub fn simple_step(frame: &[u8]) -> Simple
+    ensures { λ r. ⌜ r ≡ simple (stepOf (now (frame .entry))) ⌝ }
 {
-    let kind = byte_at(line, 0);
-    let a = byte_at(line, 1);
-    let b = byte_at(line, 2);
+    let kind = byte_at(frame, 0);
+    let a = byte_at(frame, 1);
+    let b = byte_at(frame, 2);
     if kind == 0x41 {
-        return Simple::Extract(a, b, byte_at(line, 3));
+        return Simple::Extract(a, b, byte_at(frame, 3));
     }
     if kind == 0x42 {
-        return child_step(line);
+        return child_step(frame);
     }
     if kind == 0x43 {
         return Simple::Equal(a, b);
@@ -121,171 +81,113 @@ fn simple_step(line: &[u8]) -> Simple
 }
 
 // The fault of an ExtractChild.
-fn extract_fault(
-    v: u8,
-    p: u8,
-    i: u8,
-    bound: &[bool],
-    picked: &[bool],
-    ops: &[u8],
-    shapes: &[usize],
-) -> u8
-    ensures { λ r. ⌜ r ≡ extractFault (now (shapes .entry)) (now (bound .entry)) (now (picked .entry)) (now (ops .entry)) v p i ⌝ }
+fn extract_fault(v: u8, p: u8, i: u8, marks: &[u16], shapes: &[usize]) -> u8
+    ensures { λ r. ⌜ r ≡ extractFault (now (shapes .entry)) (boundIn (now (marks .entry))) (pickedIn (now (marks .entry))) (opsIn (now (marks .entry))) v p i ⌝ }
 {
-    if !row_read(p, bound, picked) {
+    if !row_read(p, marks) {
         return 9;
     }
-    if is_set(bound, v) {
+    if is_bound(marks, v) {
         return 9;
     }
-    child_fault(p, i, ops, shapes)
+    child_fault(p, i, marks, shapes)
 }
 
 // The fault of a CheckChildEq with a local.
-fn local_fault(
-    p: u8,
-    i: u8,
-    v: u8,
-    bound: &[bool],
-    picked: &[bool],
-    ops: &[u8],
-    shapes: &[usize],
-) -> u8
-    ensures { λ r. ⌜ r ≡ localFault (now (shapes .entry)) (now (bound .entry)) (now (picked .entry)) (now (ops .entry)) p i v ⌝ }
+fn local_fault(p: u8, i: u8, v: u8, marks: &[u16], shapes: &[usize]) -> u8
+    ensures { λ r. ⌜ r ≡ localFault (now (shapes .entry)) (boundIn (now (marks .entry))) (pickedIn (now (marks .entry))) (opsIn (now (marks .entry))) p i v ⌝ }
 {
-    if !row_read(p, bound, picked) {
+    if !row_read(p, marks) {
         return 9;
     }
-    if !is_set(bound, v) {
+    if !is_bound(marks, v) {
         return 9;
     }
-    child_fault(p, i, ops, shapes)
+    child_fault(p, i, marks, shapes)
 }
 
 // The fault of a CheckChildEq with a global.
-fn child_global_fault(
-    p: u8,
-    i: u8,
-    g: u8,
-    bound: &[bool],
-    picked: &[bool],
-    ops: &[u8],
-    shapes: &[usize],
-    globals: &[u16],
-) -> u8
-    ensures { λ r. ⌜ r ≡ childGlobalFault (now (shapes .entry)) (now (globals .entry)) (now (bound .entry)) (now (picked .entry)) (now (ops .entry)) p i g ⌝ }
+fn child_global_fault(p: u8, i: u8, g: u8, marks: &[u16], shapes: &[usize], globals: &[u16]) -> u8
+    ensures { λ r. ⌜ r ≡ childGlobalFault (now (shapes .entry)) (now (globals .entry)) (boundIn (now (marks .entry))) (pickedIn (now (marks .entry))) (opsIn (now (marks .entry))) p i g ⌝ }
 {
-    if !row_read(p, bound, picked) {
+    if !row_read(p, marks) {
         return 9;
     }
-    if child_fault(p, i, ops, shapes) != 0 {
+    if child_fault(p, i, marks, shapes) != 0 {
         return 11;
     }
     global_fault(g, globals)
 }
 
 // The fault of a CheckEq.
-fn equal_fault(a: u8, b: u8, bound: &[bool]) -> u8
-    ensures { λ r. ⌜ r ≡ equalFault (now (bound .entry)) a b ⌝ }
+fn equal_fault(a: u8, b: u8, marks: &[u16]) -> u8
+    ensures { λ r. ⌜ r ≡ equalFault (boundIn (now (marks .entry))) a b ⌝ }
 {
-    if !is_set(bound, a) {
+    if !is_bound(marks, a) {
         return 9;
     }
-    if !is_set(bound, b) {
+    if !is_bound(marks, b) {
         return 9;
     }
     0
 }
 
 // The fault of a CheckEqGlobal.
-fn equal_global_fault(a: u8, g: u8, bound: &[bool], globals: &[u16]) -> u8
-    ensures { λ r. ⌜ r ≡ equalGlobalFault (now (globals .entry)) (now (bound .entry)) a g ⌝ }
+fn equal_global_fault(a: u8, g: u8, marks: &[u16], globals: &[u16]) -> u8
+    ensures { λ r. ⌜ r ≡ equalGlobalFault (now (globals .entry)) (boundIn (now (marks .entry))) a g ⌝ }
 {
-    if !is_set(bound, a) {
+    if !is_bound(marks, a) {
         return 9;
     }
     global_fault(g, globals)
 }
 
 // The fault of a BindGlobal.
-fn bind_fault(v: u8, g: u8, bound: &[bool], globals: &[u16]) -> u8
-    ensures { λ r. ⌜ r ≡ bindFault (now (globals .entry)) (now (bound .entry)) v g ⌝ }
+fn bind_fault(v: u8, g: u8, marks: &[u16], globals: &[u16]) -> u8
+    ensures { λ r. ⌜ r ≡ bindFault (now (globals .entry)) (boundIn (now (marks .entry))) v g ⌝ }
 {
-    if is_set(bound, v) {
+    if is_bound(marks, v) {
         return 9;
     }
     global_fault(g, globals)
 }
 
 // The fault of a CopyBinding.
-fn copy_fault(v: u8, o: u8, bound: &[bool]) -> u8
-    ensures { λ r. ⌜ r ≡ copyFault (now (bound .entry)) v o ⌝ }
+fn copy_fault(v: u8, o: u8, marks: &[u16]) -> u8
+    ensures { λ r. ⌜ r ≡ copyFault (boundIn (now (marks .entry))) v o ⌝ }
 {
-    if !is_set(bound, o) {
+    if !is_bound(marks, o) {
         return 9;
     }
-    if is_set(bound, v) {
+    if is_bound(marks, v) {
         return 9;
     }
     0
 }
 
 // The fault of an ExtractLitVal or a CheckLit.
-fn read_lit_fault(n: u8, bound: &[bool], picked: &[bool], ops: &[u8], shapes: &[usize]) -> u8
-    ensures { λ r. ⌜ r ≡ readLitFault (now (shapes .entry)) (now (bound .entry)) (now (picked .entry)) (now (ops .entry)) n ⌝ }
+fn read_lit_fault(n: u8, marks: &[u16], shapes: &[usize]) -> u8
+    ensures { λ r. ⌜ r ≡ readLitFault (now (shapes .entry)) (boundIn (now (marks .entry))) (pickedIn (now (marks .entry))) (opsIn (now (marks .entry))) n ⌝ }
 {
-    if !row_read(n, bound, picked) {
+    if !row_read(n, marks) {
         return 9;
     }
-    literal_fault(n, ops, shapes)
+    literal_fault(n, marks, shapes)
 }
 
 // The fault of a step other than a Join.
-fn simple_fault(
-    s: Simple,
-    bound: &[bool],
-    picked: &[bool],
-    ops: &[u8],
-    shapes: &[usize],
-    globals: &[u16],
-) -> u8
-    ensures { λ r. ⌜ r ≡ simpleFault (now (shapes .entry)) (now (globals .entry)) (now (bound .entry)) (now (picked .entry)) (now (ops .entry)) s ⌝ }
+pub fn simple_fault(s: Simple, marks: &[u16], shapes: &[usize], globals: &[u16]) -> u8
+    ensures { λ r. ⌜ r ≡ simpleFault (now (shapes .entry)) (now (globals .entry)) (boundIn (now (marks .entry))) (pickedIn (now (marks .entry))) (opsIn (now (marks .entry))) s ⌝ }
 {
     match s {
-        Simple::Extract(v, p, i) => extract_fault(v, p, i, bound, picked, ops, shapes),
-        Simple::ChildLocal(p, i, v) => local_fault(p, i, v, bound, picked, ops, shapes),
-        Simple::ChildGlobal(p, i, g) => child_global_fault(
-            p,
-            i,
-            g,
-            bound,
-            picked,
-            ops,
-            shapes,
-            globals,
-        ),
-        Simple::Equal(a, b) => equal_fault(a, b, bound),
-        Simple::EqualGlobal(a, g) => equal_global_fault(a, g, bound, globals),
-        Simple::Bind(v, g) => bind_fault(v, g, bound, globals),
-        Simple::Copy(v, o) => copy_fault(v, o, bound),
-        Simple::ReadLit(n) => read_lit_fault(n, bound, picked, ops, shapes),
+        Simple::Extract(v, p, i) => extract_fault(v, p, i, marks, shapes),
+        Simple::ChildLocal(p, i, v) => local_fault(p, i, v, marks, shapes),
+        Simple::ChildGlobal(p, i, g) => child_global_fault(p, i, g, marks, shapes, globals),
+        Simple::Equal(a, b) => equal_fault(a, b, marks),
+        Simple::EqualGlobal(a, g) => equal_global_fault(a, g, marks, globals),
+        Simple::Bind(v, g) => bind_fault(v, g, marks, globals),
+        Simple::Copy(v, o) => copy_fault(v, o, marks),
+        Simple::ReadLit(n) => read_lit_fault(n, marks, shapes),
         Simple::NotRun => 10,
     }
-}
-
-// The fault of a line: the number of the first test that it fails, or 0.
-pub fn step_fault(
-    line: &[u8],
-    bound: &[bool],
-    picked: &[bool],
-    ops: &[u8],
-    shapes: &[usize],
-    globals: &[u16],
-) -> u8
-    ensures { λ r. ⌜ ((tb : Table) → Described tb (now (shapes .entry)) (now (globals .entry)) → r ≡ stepFault tb (now (bound .entry)) (now (picked .entry)) (now (ops .entry)) (stepOf (bytesOf (now (line .entry))))) ⌝ }
-{
-    if byte_at(line, 0) == 0x40 {
-        return join_fault(line, bound, shapes, globals);
-    }
-    simple_fault(simple_step(line), bound, picked, ops, shapes, globals)
 }

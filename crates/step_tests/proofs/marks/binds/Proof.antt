@@ -1,7 +1,7 @@
--- `turning::marks::binds` meets its contract: by the kind.
+-- `step_tests::marks::binds` meets its contract: by the kind.
 use Rattle.base.specs.Choose.{tests}
-use Rattle.turning.proofs.marks.binds.Statement.{statement}
-use Rattle.turning.proofs.marks.binds.Tie as tie
+use Rattle.step_tests.proofs.marks.binds.Statement.{statement}
+use Rattle.step_tests.proofs.marks.binds.Tie as tie
 
 returns : tie.Need-returns
 returns c = search tests

@@ -1,8 +1,8 @@
--- `turning::arrays::global_fault` meets its contract: given or not.
-use Rattle.turning.proofs.ArrayLaws.{global-passes, global-fails}
+-- `step_tests::rows::global_fault` meets its contract: given or not.
+use Rattle.step_tests.proofs.RowLaws.{global-passes, global-fails}
 use borrow.Author.Needs.{needs}
-use Rattle.turning.proofs.arrays.global_fault.Statement.{statement}
-use Rattle.turning.proofs.arrays.global_fault.Tie as tie
+use Rattle.step_tests.proofs.rows.global_fault.Statement.{statement}
+use Rattle.step_tests.proofs.rows.global_fault.Tie as tie
 
 is-given-requires : tie.Need-is-given-requires
 is-given-requires c κs = search needs

@@ -1,8 +1,8 @@
--- `turning::steps::child_step` meets its contract: by the operand's tag.
-use Rattle.turning.proofs.StepLaws.{is-child-local, is-child-global}
+-- `step_tests::simple::child_step` meets its contract: by the operand's tag.
+use Rattle.step_tests.proofs.StepLaws.{is-child-local, is-child-global}
 use borrow.Author.Needs.{needs}
-use Rattle.turning.proofs.steps.child_step.Statement.{statement}
-use Rattle.turning.proofs.steps.child_step.Tie as tie
+use Rattle.step_tests.proofs.simple.child_step.Statement.{statement}
+use Rattle.step_tests.proofs.simple.child_step.Tie as tie
 
 byte-at-requires : tie.Need-byte-at-requires
 byte-at-requires c κs = search needs

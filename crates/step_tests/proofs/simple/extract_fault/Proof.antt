@@ -1,8 +1,8 @@
--- `turning::steps::extract_fault` meets its contract: the first test that fails.
-use Rattle.turning.proofs.StepLaws.{choices}
+-- `step_tests::simple::extract_fault` meets its contract: the first test that fails.
+use Rattle.step_tests.proofs.StepLaws.{choices}
 use borrow.Author.Needs.{needs}
-use Rattle.turning.proofs.steps.extract_fault.Statement.{statement}
-use Rattle.turning.proofs.steps.extract_fault.Tie as tie
+use Rattle.step_tests.proofs.simple.extract_fault.Statement.{statement}
+use Rattle.step_tests.proofs.simple.extract_fault.Tie as tie
 
 row-read-requires : tie.Need-row-read-requires
 row-read-requires c κs = search needs
@@ -10,8 +10,8 @@ row-read-requires c κs = search needs
 returns : tie.Need-returns
 returns c = search choices
 
-is-set-requires : tie.Need-is-set-requires
-is-set-requires c κs = search needs
+is-bound-requires : tie.Need-is-bound-requires
+is-bound-requires c κs = search needs
 
 returns-2 : tie.Need-returns-2
 returns-2 c = search choices
@@ -25,4 +25,4 @@ returns-3 c = search choices
 pub extract-fault-spec : {M : Type 1} → statement M
 extract-fault-spec =
     tie.close
-    (tie.spec row-read-requires returns is-set-requires returns-2 child-fault-requires returns-3)
+    (tie.spec row-read-requires returns is-bound-requires returns-2 child-fault-requires returns-3)

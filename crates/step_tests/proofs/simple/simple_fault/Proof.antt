@@ -1,8 +1,8 @@
--- `turning::steps::simple_fault` meets its contract: by the step.
-use Rattle.turning.proofs.StepLaws.{arm}
+-- `step_tests::simple::simple_fault` meets its contract: by the step.
+use Rattle.step_tests.proofs.StepLaws.{arm}
 use borrow.Author.Needs.{needs}
-use Rattle.turning.proofs.steps.simple_fault.Statement.{statement}
-use Rattle.turning.proofs.steps.simple_fault.Tie as tie
+use Rattle.step_tests.proofs.simple.simple_fault.Statement.{statement}
+use Rattle.step_tests.proofs.simple.simple_fault.Tie as tie
 
 enum-known-s : tie.Need-enum-known-s
 enum-known-s c = search needs

@@ -1,8 +1,8 @@
--- `turning::steps::simple_step` meets its contract: by the kind.
-use Rattle.turning.proofs.StepLaws.{is-extract, is-equal, is-equal-global, is-bind, is-copy, is-extract-lit, is-check-lit, is-not-run}
+-- `step_tests::simple::simple_step` meets its contract: by the kind.
+use Rattle.step_tests.proofs.StepLaws.{is-extract, is-equal, is-equal-global, is-bind, is-copy, is-extract-lit, is-check-lit, is-not-run}
 use borrow.Author.Needs.{needs}
-use Rattle.turning.proofs.steps.simple_step.Statement.{statement}
-use Rattle.turning.proofs.steps.simple_step.Tie as tie
+use Rattle.step_tests.proofs.simple.simple_step.Statement.{statement}
+use Rattle.step_tests.proofs.simple.simple_step.Tie as tie
 
 byte-at-requires : tie.Need-byte-at-requires
 byte-at-requires c κs = search needs

@@ -1,0 +1,4 @@
+pub mod RowLaws
+pub mod StepLaws
+pub mod JoinLaws
+pub mod MarkLaws
