@@ -21,18 +21,24 @@ use Rattle.step_tests.specs.Marks.{bindsTarget, boundMark, Markable, Ste
 
 -- ---- one mark
 
+pub mark-new : (m : ℕ) → m ≡ 0 → 1 ≡ boundMark m
+mark-new m h = rw (eq-eqb m 0 h)
+
+pub mark-kept : (m : ℕ) → (m ≡ 0 → ⊥) → m ≡ boundMark m
+mark-kept m h = rw (ne-eqb m 0 h)
+
 -- what the marks say, where one is set
 map-put : {A : Type 0} (d : A) (f : ℕ → A) (M : List ℕ) (v x : ℕ) → v < length M → map f (set M v x) ≡ put d (map f M) v (f x)
 unfolding put
 map-put d f [] v x h = absurd (omega arith)
 map-put d f (m ∷ M) zero x h = refl
-map-put d f (m ∷ M) (suc v) x h = ap (λ (l : List A). f m ∷ l) (map-put d f M v x (omega arith))
+map-put {A} d f (m ∷ M) (suc v) x h = ap (λ (l : List A). f m ∷ l) (map-put d f M v x (omega arith))
 
 -- what they say stays, where the mark says the same
 map-same : {A : Type 0} (f : ℕ → A) (M : List ℕ) (v x : ℕ) → f x ≡ f (getD M v 0) → map f (set M v x) ≡ map f M
 map-same f [] v x h = refl
-map-same f (m ∷ M) zero x h = ap (λ (y : A). y ∷ map f M) h
-map-same f (m ∷ M) (suc v) x h = ap (λ (l : List A). f m ∷ l) (map-same f M v x h)
+map-same {A} f (m ∷ M) zero x h = ap (λ (y : A). y ∷ map f M) h
+map-same {A} f (m ∷ M) (suc v) x h = ap (λ (l : List A). f m ∷ l) (map-same f M v x h)
 
 -- a mark that is bound says as before who was picked
 kept : {A : Type 0} (f : ℕ → A) (m : ℕ) → f 1 ≡ f 0 → f (boundMark m) ≡ f m
