@@ -9,8 +9,8 @@ use lib.Seq.{getD-set-same, getD-set-other, ext-getD}
 use Rattle.frames.specs.Sheet.{framesIn}
 use Rattle.indexing.specs.Keys.{find}
 use Rattle.model.specs.Tabulate.{tabulate, tabulate-at, tabulate-length}
-use Rattle.running.specs.Tables.{classFrom, globalIn, tableOf}
-use Rattle.turning.specs.Plans.{GlobalsRead}
+use Rattle.running.specs.Tables.{classFrom, globalIn, tableIn}
+use Rattle.validation.specs.Plans.{GlobalsRead}
 
 pub class-found : (l : List ℕ) (fs : List (List ℕ)) (g r : ℕ) → l ≡ find (0x32 ∷ g ∷ []) fs → r ≡ classFrom l → r ≡ globalIn fs g
 class-found l fs g r p q = rw p at q
@@ -38,5 +38,5 @@ module _ (x G : List ℕ) (g : ℕ) (s : Given x G g) where
       (λ k l. s .is k (omega (arith, s .size)) ∙ sym (tabulate-at 16 (globalIn (framesIn x)) k 0 (omega (arith, s .size))))
 
   pub given-all : 16 ≤ g → GlobalsRead x G
-  unfolding tableOf
-  given-all h = record { is = λ t y. rw (← y .frames) (all-given h) }
+  unfolding tableIn
+  given-all h = record { is = all-given h }

@@ -1,4 +1,4 @@
--- The plan's lines in turn. Proved from the walk over a text's frames, and from what the reading says of each.
+-- The plan's steps in turn. Proved from the walk over a sheet's frames, and from what the reading says of each.
 use Prim.Native.Nat.{ℕ, zero, suc, _+_, _-_, _<_, _≤_}
 use mathlib.Core.Path.{_≡_, refl, sym, _∙_, ap}
 use mathlib.Core.Bool.{Bool, true, false}
@@ -6,34 +6,35 @@ use mathlib.Core.List.{List, [], _∷_, map}
 use native.Mathlib.Omega.{arith}
 use native.Mathlib.Numerals.{add-one}
 use lib.Dec.{ltb}
-use lib.ListN.{length, getD, drop}
+use lib.ListN.{length, getD, drop, replicate}
 use borrow.Author.Tests.{ltb-true}
 use Rattle.base.specs.Choose.{pick, both-hold}
-use Rattle.hex.specs.Digits.{bytesOf}
-use Rattle.hex.specs.Lines.{lineAt}
-use Rattle.hex.specs.Cuts.{Line}
 use Rattle.fields.specs.Limits.{variablesMost}
 use Rattle.kinds.specs.Kinds.{kinds, kindAt, plan}
 use Rattle.fields.specs.Fields.{fieldPasses, fieldIn}
 use Rattle.frames.specs.Frames.{passAll, framePasses}
+use Rattle.frames.specs.Sheet.{frameAt, framesIn}
+use Rattle.frames.proofs.SheetLaws.{frames-end, frame-some, frame-within, frames-step}
 use Rattle.first_reading.specs.First.{framesOf}
 use Rattle.fields.specs.declared.field.Counts.{Counts}
 use Rattle.fields.specs.declared.field.Test.the-variants.{Range}
 use Rattle.frame_tests.specs.declared.tests.Text.the-variants.{Plan}
 use Rattle.reading.specs.Second.{countsOf}
-use Rattle.reading.specs.Walk.{taken-none, taken-line, taken-step, frames-end}
 use Rattle.reading_facts.specs.Whole.{Whole, accepted, Headed, headed}
 use Rattle.model.specs.Atoms.{Table}
 use Rattle.model.specs.Bound.{Bound, blank}
 use Rattle.model.specs.Reading.{boundBy, pickedBy, ready}
 use Rattle.model.specs.Refusing.{runnable, fits, opsBy}
 use Rattle.plans.specs.StepFrames.{stepOf}
-use Rattle.running.specs.Tables.{planSteps}
-use Rattle.running.specs.Turning.{ofFault, globalsOf, allGiven, stepFault, stepsFrom, stepsPass}
-use Rattle.turning.specs.declared.shapes.Turned.the-variants.{Passed as NoFault, TurnedBack as Fault}
-use Rattle.turning.specs.Steps.{Described}
-use Rattle.turning.specs.Plans.{Targeted, Sized, Markable, Stepped, Starting, StepsTested}
-use Rattle.turning.proofs.ShapeLaws.{fault-stops}
+use Rattle.running.specs.Tables.{stepsIn}
+use Rattle.running.specs.Validation.{ofFault, globalsOf, allGiven, stepFault, stepsFrom, stepsPass}
+use Rattle.join_tests.specs.Arrays.{boundIn, pickedIn, opsIn}
+use Rattle.join_tests.specs.declared.joins.Tested.{Tested}
+use Rattle.step_tests.specs.Steps.{Described, StepTested}
+use Rattle.step_tests.specs.Marks.{Targeted, Markable, Stepped}
+use Rattle.validation.specs.declared.shapes.Verdict.the-variants.{Passed as NoFault, Invalid as Fault}
+use Rattle.validation.specs.Plans.{PlanSheet, PlanReady, StepsTested}
+use Rattle.validation.proofs.ShapeLaws.{fault-stops}
 
 -- ---- a target is below 64
 
@@ -69,53 +70,58 @@ module _ (n : Counts) where
   targeted : n .variables ≤ variablesMost → (f : List ℕ) → framePasses (fieldPasses Range n) f ≡ true → Targeted f
   targeted h f q = record { below = λ l m. let b = ltb-true (getD f 1 0) (n .variables) (variable-first (getD f 0 0) l m f refl q) in omega arith }
 
--- ---- the lines in turn
+-- ---- the frames in turn
 
--- n lines stand before `at`, and the steps from there on say the rest
-pub record Walking (p F G : List ℕ) (B₀ R₀ : Bound) (O₀ : List ℕ) (B R : Bound) (O : List ℕ) (at n : ℕ) : Type 0 where
-  pub began : Sized B₀ R₀ O₀
+-- n frames stand before `at`, and the steps from there on say the rest
+pub record Walking (x F G M : List ℕ) (at n : ℕ) : Type 0 where
   pub few : n ≤ at
-  pub within : at ≤ length p
-  pub sized : Sized B R O
-  pub each : (i : ℕ) → i < length (framesOf (drop at p)) → Targeted (getD (framesOf (drop at p)) i [])
-  pub is : (tb : Table) → Described tb F G → stepsPass tb (planSteps p) ≡ stepsFrom tb B R O n (map stepOf (framesOf (drop at p)))
+  pub within : at ≤ length x
+  pub size : length M ≡ variablesMost
+  pub each : (i : ℕ) → i < length (framesIn (drop at x)) → Targeted (getD (framesIn (drop at x)) i [])
+  pub is : (tb : Table) → Described tb F G → stepsPass tb (stepsIn (framesIn x)) ≡ stepsFrom tb (boundIn M) (pickedIn M) (opsIn M) n (map stepOf (framesIn (drop at x)))
 
-module _ (p F G : List ℕ) (B R : Bound) (O : List ℕ) (s : Starting p B R O F G) (l : List ℕ) (q : l ≡ lineAt p 0) where
-  whole : Whole Plan p (s .lines) (s .counted)
-  whole = accepted Plan p (s .lines) (s .counted) (s .accepted)
+module _ (x : List ℕ) (s : PlanSheet x) (l : List ℕ) (q : l ≡ frameAt x 0) where
+  whole : Whole Plan (s .p) (s .lines) (s .counted)
+  whole = accepted Plan (s .p) (s .lines) (s .counted) (s .accepted)
 
-  head : Headed Plan p (s .lines) (s .counted)
-  head = headed Plan p (s .lines) (s .counted) (λ x. let z : _≡_ {A = ℕ} 0 1 = cc in omega arith) (s .accepted)
+  head : Headed Plan (s .p) (s .lines) (s .counted)
+  head = headed Plan (s .p) (s .lines) (s .counted) (λ z. let y : _≡_ {A = ℕ} 0 1 = cc in omega arith) (s .accepted)
+
+  lines : s .lines ≡ length (framesIn x)
+  lines = rw (s .sheet .frames) (whole .lines)
+
+  -- an accepted plan has a frame
+  some : 0 < length x
+  some = by (length x) refl
+    where
+      by : (n : ℕ) → length x ≡ n → 0 < n
+      by zero e = absurd (omega (arith, head .some, lines, ap length (frames-end x 0 (omega arith))))
+      by (suc n) e = omega arith
 
   from-0 : 0 + length l ≡ length l
   from-0 = omega arith
 
-  -- an accepted plan has a line
-  more : 0 + length l ≡ length p → ⊥
-  more z = omega (arith, head .some, whole .lines, ap length (taken-none p l 0 (omega arith) q z))
+  behind : framesIn x ≡ l ∷ framesIn (drop (length l) x)
+  behind = rw from-0 at (frames-step x 0 some l q)
 
-  header : Line p 0 (length l)
-  header = rw from-0 at (taken-line p l 0 (omega arith) q more)
+  pub header-within : length l ≤ length x
+  header-within = rw from-0 at (frame-within x 0 some l q)
 
-  behind : framesOf p ≡ bytesOf l ∷ framesOf (drop (length l + 1) p)
-  behind = rw from-0 at (taken-step p l 0 (omega arith) q more)
-
-  sized-blank : Sized B R O
-  unfolding blank
-  sized-blank = record { bound = ap length (s .bound); picked = ap length (s .picked); ops = ap length (s .ops) }
-
-  pub walking-none : Walking p F G B R O B R O (length l + 1) 1
-  unfolding planSteps
-  walking-none = record {
-    began = sized-blank;
-    few = omega arith;
-    within = omega (arith, header .within);
-    sized = sized-blank;
+  pub walking-none : (F G : List ℕ) → Walking x F G (replicate 64 0) (length l) 1
+  unfolding stepsIn blank boundIn pickedIn opsIn
+  walking-none F G = record {
+    few = frame-some x 0 some l q;
+    within = header-within;
+    size = refl;
     each = λ i h.
-        let m : suc i < s .lines = omega (arith, whole .lines, ap length behind) in
-        rw behind at (targeted (countsOf Plan p (s .counted)) (head .header .variables) (getD (framesOf p) (suc i) []) (whole .named (suc i) m .range));
-    is = λ tb d. rw (behind, s .bound, s .picked, s .ops);
+        let m : suc i < s .lines = omega (arith, lines, ap length behind) in
+        let t : Targeted (getD (framesIn x) (suc i) []) = rw (s .sheet .frames) (targeted (countsOf Plan (s .p) (s .counted)) (head .header .variables) (getD (framesOf (s .p)) (suc i) []) (whole .named (suc i) m .range)) in
+        rw behind at t;
+    is = λ tb d. rw behind;
   }
+
+pub walking-start : (x F G l : List ℕ) → PlanReady x F G → l ≡ frameAt x 0 → Walking x F G (replicate 64 0) (length l) 1
+walking-start x F G l r q = walking-none x (r .plan) l q F G
 
 runs : (tb : Table) (B R : Bound) (O f : List ℕ) → 0 ≡ stepFault tb B R O (stepOf f) → runnable (stepOf f) ≡ true
 runs tb B R O f h = by (runnable (stepOf f)) h
@@ -124,53 +130,37 @@ runs tb B R O f h = by (runnable (stepOf f)) h
     by true h = refl
     by false h = absurd (omega arith)
 
-module _ (p F G : List ℕ) (B₀ R₀ : Bound) (O₀ : List ℕ) (B R : Bound) (O : List ℕ) (at n : ℕ) (s : Walking p F G B₀ R₀ O₀ B R O at n) where
-  ended : framesOf (drop at p) ≡ [] → StepsTested p F G NoFault
+module _ (x F G M : List ℕ) (at n : ℕ) (s : Walking x F G M at n) where
+  pub steps-end : length x ≤ at → StepsTested x F G NoFault
   unfolding stepsFrom
-  ended e = record { is = λ tb d. sym (s .is tb d ∙ rw e) }
+  steps-end h = record { is = λ tb d. sym (s .is tb d ∙ rw (frames-end x at h)) }
 
-  pub steps-end : length p ≤ at → StepsTested p F G NoFault
-  steps-end h = ended (frames-end p at h)
+  module _ (frame : List ℕ) (q : frame ≡ frameAt x at) (h : at < length x) where
+    next : framesIn (drop at x) ≡ frame ∷ framesIn (drop (at + length frame) x)
+    next = frames-step x at h frame q
 
-  module _ (l : List ℕ) (q : l ≡ lineAt p at) where
-    abbrev e : ℕ
-    e = at + length l
+    module _ (t : Tested) (w : StepTested F G M frame t) where
+      says : (tb : Table) → Described tb F G → stepsPass tb (stepsIn (framesIn x)) ≡ ofFault plan (t .fault) n (stepsFrom tb (boundBy (stepOf frame) (boundIn M)) (pickedBy (stepOf frame) (pickedIn M)) (opsBy (stepOf frame) (opsIn M)) (suc n) (map stepOf (framesIn (drop (at + length frame) x))))
+      unfolding stepsFrom
+      says tb d = s .is tb d ∙ rw (next, ← w .is tb d)
 
-    pub steps-none : at + length l ≡ length p → StepsTested p F G NoFault
-    steps-none h = ended (taken-none p l at (s .within) q h)
+      pub steps-refused : (t .fault ≡ 0 → ⊥) → StepsTested x F G (Fault (t .fault) 1 (n + 1))
+      steps-refused z = record { is = λ tb d. sym (says tb d ∙ fault-stops plan (t .fault) n _ z ∙ rw (add-one n)) }
 
-    module _ (h : at + length l ≡ length p → ⊥) where
-      line : Line p at e
-      line = taken-line p l at (s .within) q h
+      module _ (z : t .fault ≡ 0) where
+        pub step-markable : PlanReady x F G → Markable frame (t .op) M
+        step-markable r = record {
+          runs = runs (r .table) (boundIn M) (pickedIn M) (opsIn M) frame (sym z ∙ w .is (r .table) (r .described));
+          op = w .op;
+          target = rw next at (s .each 0 (omega (arith, ap length next)));
+          size = s .size;
+        }
 
-      abbrev frame : List ℕ
-      frame = bytesOf l
-
-      next : framesOf (drop at p) ≡ frame ∷ framesOf (drop (e + 1) p)
-      next = taken-step p l at (s .within) q h
-
-      module _ (v : ℕ) (w : (tb : Table) → Described tb F G → v ≡ stepFault tb B R O (stepOf (bytesOf l))) where
-        says : (tb : Table) → Described tb F G → stepsPass tb (planSteps p) ≡ ofFault plan v n (stepsFrom tb (boundBy (stepOf frame) B) (pickedBy (stepOf frame) R) (opsBy (stepOf frame) O) (suc n) (map stepOf (framesOf (drop (e + 1) p))))
-        unfolding stepsFrom
-        says tb d = s .is tb d ∙ rw (next, ← w tb d)
-
-        pub steps-refused : (v ≡ 0 → ⊥) → StepsTested p F G (Fault v 1 (n + 1))
-        steps-refused z = record { is = λ tb d. sym (says tb d ∙ fault-stops plan v n _ z ∙ rw (add-one n)) }
-
-        module _ (z : v ≡ 0) where
-          pub step-markable : (tb : Table) → Described tb F G → Markable (bytesOf l) B R O
-          step-markable tb d = record {
-            runs = runs tb B R O frame (sym z ∙ w tb d);
-            target = rw next at (s .each 0 (omega (arith, ap length next)));
-            sized = s .sized;
-          }
-
-          pub walking-again : (C S : Bound) (Q : List ℕ) → Stepped (bytesOf l) B R O C S Q → Walking p F G B₀ R₀ O₀ C S Q (at + length l + 1) (n + 1)
-          walking-again C S Q m = record {
-            began = s .began;
-            few = omega (arith, s .few, line .from);
-            within = omega (arith, line .within);
-            sized = m .sized;
-            each = λ i j. rw next at (s .each (suc i) (omega (arith, ap length next)));
-            is = λ tb d. says tb d ∙ rw (z, add-one n, m .bound, m .picked, m .ops);
-          }
+        pub walking-again : (N : List ℕ) → Stepped frame M N → Walking x F G N (at + length frame) (n + 1)
+        walking-again N m = record {
+          few = omega (arith, s .few, frame-some x at h frame q);
+          within = frame-within x at h frame q;
+          size = m .size;
+          each = λ i j. rw next at (s .each (suc i) (omega (arith, ap length next)));
+          is = λ tb d. says tb d ∙ rw (z, add-one n, m .bound, m .picked, m .ops);
+        }

@@ -1,5 +1,5 @@
--- The shapes of the table's operators, row by row. Proved from the walk over a text's frames.
-use Prim.Native.Nat.{ℕ, zero, suc, _+_, _*_, _<_, _≤_}
+-- The shapes of the table's operators, row by row. Proved from the walk over a sheet's frames.
+use Prim.Native.Nat.{ℕ, zero, suc, _+_, _-_, _*_, _<_, _≤_}
 use mathlib.Core.Path.{_≡_, refl, sym, _∙_}
 use mathlib.Core.Bool.{Bool, true, false, not, _&&_, _||_, and-true, and-self, and-assoc}
 use mathlib.Core.List.{List, [], _∷_, _++_, append-assoc, append-nil}
@@ -12,22 +12,21 @@ use lib.Seq.{getD-set-same, getD-set-other}
 use borrow.Author.Tests.{eq-eqb, ne-eqb, not-true, not-false, eqb-true}
 use Rattle.base.specs.Choose.{pick}
 use Rattle.base.specs.Lists.{blank-at}
-use Rattle.hex.specs.Digits.{bytesOf, shortAt}
-use Rattle.hex.specs.Bytes.{byte-at, digits-bytes}
-use Rattle.hex.specs.Lines.{lineAt}
-use Rattle.hex.specs.Cuts.{Line}
+use Rattle.hex.specs.Digits.{shortAt}
 use Rattle.kinds.specs.Kinds.{table}
 use Rattle.frame_tests.specs.Faults.{isRow}
-use Rattle.first_reading.specs.First.{framesOf}
-use Rattle.reading.specs.Walk.{taken-none, taken-line, taken-step, frames-end}
+use Rattle.frames.specs.Sheet.{frameAt, framesIn}
+use Rattle.frames.proofs.SheetLaws.{frames-end, frame-some, frame-within, frames-step}
 use Rattle.model.specs.Atoms.{Row, Node, Literal, opOf}
 use Rattle.model.specs.Refusing.{allRows}
 use Rattle.plans.specs.StepFrames.{itemsAt}
 use Rattle.plans.specs.Items.{items-count}
 use Rattle.running.specs.Tables.{rowOf, rowsIn}
-use Rattle.running.specs.Turning.{Verdict, TurnedBack, ofFault, sameShape, rowFault, withRow, shapesFrom}
-use Rattle.turning.specs.declared.shapes.Turned.the-variants.{Passed as NoFault, TurnedBack as Fault}
-use Rattle.turning.specs.Shapes.{shapeOf, fitsShape, likeFirst, shapeFault, withShape, RowNoted, Shaped, TableNoted}
+use Rattle.running.specs.Validation.{Verdict, Invalid, ofFault, sameShape, rowFault, withRow, shapesFrom}
+use Rattle.join_tests.specs.Arrays.{fitsShape}
+use Rattle.step_tests.specs.Steps.{shapeOf, Shaped}
+use Rattle.validation.specs.declared.shapes.Verdict.the-variants.{Passed as NoFault, Invalid as Fault}
+use Rattle.validation.specs.Shapes.{likeFirst, shapeFault, withShape, RowNoted, TableNoted}
 
 -- ---- one row
 
@@ -105,13 +104,16 @@ module _ (F : List ℕ) (rows : List Row) (s : Shaped F rows) where
       by true false e q = absurd (omega arith)
       by false l e q = s
 
--- ---- the fault of one line
+-- ---- the fault of one frame
 
-module _ (f F : List ℕ) (k : ℕ) (a : Bool) (e : k ≡ getD f 0 0) (p : a ≡ isRow k) where
+module _ (f F : List ℕ) (k b o : ℕ) (a : Bool) (g : b ≡ getD f 3 0) (w : o ≡ b) (small : o < 256) (e : k ≡ getD f 0 0) (p : a ≡ isRow k) where
+  byte : getD f 3 0 < 256
+  byte = rw (← g, ← w) small
+
   pub no-row : not a ≡ true → RowNoted f F 0 F
-  no-row h = let r : isRow (getD f 0 0) ≡ false = rw (← e, ← p) (not-true a h) in record { fault = rw r; shapes = rw r; size = refl }
+  no-row h = let r : isRow (getD f 0 0) ≡ false = rw (← e, ← p) (not-true a h) in record { fault = rw r; shapes = rw r; size = refl; byte = byte }
 
-  module _ (h : not a ≡ false) (b o s : ℕ) (l : Bool) (g : b ≡ getD f 3 0) (w : o ≡ b) (q : s ≡ shapeOf (rowOf f)) (v : l ≡ fitsShape (eqb s) (getD F o 0)) where
+  module _ (h : not a ≡ false) (s : ℕ) (l : Bool) (q : s ≡ shapeOf (rowOf f)) (v : l ≡ fitsShape (eqb s) (getD F o 0)) where
     row : isRow (getD f 0 0) ≡ true
     row = rw (← e, ← p) (not-false a h)
 
@@ -119,82 +121,72 @@ module _ (f F : List ℕ) (k : ℕ) (a : Bool) (e : k ≡ getD f 0 0) (p : a ≡
     like = rw (← g, ← w, ← q) (sym v)
 
     pub row-unlike : not l ≡ true → RowNoted f F 11 F
-    row-unlike z = record { fault = rw (row, like, not-true l z); shapes = rw (row, like, not-true l z); size = refl }
+    row-unlike z = record { fault = rw (row, like, not-true l z); shapes = rw (row, like, not-true l z); size = refl; byte = byte }
 
     pub row-noted : not l ≡ false → RowNoted f F 0 (set F o s)
-    row-noted z = record { fault = rw (row, like, not-false l z); shapes = rw (row, like, not-false l z, ← g, ← w, ← q); size = length-set F o s }
+    row-noted z = record { fault = rw (row, like, not-false l z); shapes = rw (row, like, not-false l z, ← g, ← w, ← q); size = length-set F o s; byte = byte }
 
--- ---- the lines in turn
+-- ---- the frames in turn
 
--- n lines stand before `at`, with the earlier rows, whose shapes are F
+pub frame-less : (x : List ℕ) (at : ℕ) (f : List ℕ) → at < length x → f ≡ frameAt x at → length x - (at + length f) < length x - at
+frame-less x at f h q = omega (arith, frame-some x at h f q)
+
+-- n frames stand before `at`, with the earlier rows, whose shapes are F
 pub record Noting (t F₀ F : List ℕ) (at n : ℕ) : Type 0 where
   pub earlier : List Row
   pub size : length F ≡ length F₀
   pub few : n ≤ at
   pub within : at ≤ length t
   pub shaped : Shaped F earlier
-  pub rows : rowsIn (framesOf t) ≡ earlier ++ rowsIn (framesOf (drop at t))
-  pub is : shapesFrom [] 0 (framesOf t) ≡ shapesFrom earlier n (framesOf (drop at t))
+  pub rows : rowsIn (framesIn t) ≡ earlier ++ rowsIn (framesIn (drop at t))
+  pub is : shapesFrom [] 0 (framesIn t) ≡ shapesFrom earlier n (framesIn (drop at t))
 
 pub noting-none : (t F : List ℕ) → F ≡ replicate 256 0 → Noting t F F 0 0
 unfolding allRows
 noting-none t F e = record { earlier = []; size = refl; few = omega arith; within = omega arith; shaped = rw e (record { size = refl; is = λ P g same o. rw (blank-at {A = ℕ} 256 0 o) }); rows = refl; is = refl }
 
-pub fault-stops : (x k n : ℕ) (v : Verdict) → (k ≡ 0 → ⊥) → ofFault x k n v ≡ TurnedBack k x (suc n)
+pub fault-stops : (x k n : ℕ) (v : Verdict) → (k ≡ 0 → ⊥) → ofFault x k n v ≡ Invalid k x (suc n)
 fault-stops x zero n v h = absurd (h refl)
 fault-stops x (suc k) n v h = refl
 
 module _ (t F₀ F : List ℕ) (at n : ℕ) (s : Noting t F₀ F at n) where
-  ended : framesOf (drop at t) ≡ [] → TableNoted t NoFault F
-  unfolding shapesFrom rowsIn
-  ended e = record { is = sym (s .is ∙ rw e); shaped = λ _. rw (s .rows, e, append-nil (s .earlier)) (s .shaped) }
-
   pub noted-end : length t ≤ at → TableNoted t NoFault F
-  noted-end h = ended (frames-end t at h)
+  unfolding shapesFrom rowsIn
+  noted-end h = let e = frames-end t at h in record { is = sym (s .is ∙ rw e); shaped = λ _. rw (s .rows, e, append-nil (s .earlier)) (s .shaped) }
 
-  module _ (l : List ℕ) (p : l ≡ lineAt t at) where
+  module _ (frame : List ℕ) (p : frame ≡ frameAt t at) (h : at < length t) where
     abbrev e : ℕ
-    e = at + length l
+    e = at + length frame
 
-    pub noted-none : at + length l ≡ length t → TableNoted t NoFault F
-    noted-none h = ended (taken-none t l at (s .within) p h)
+    next : framesIn (drop at t) ≡ frame ∷ framesIn (drop e t)
+    next = frames-step t at h frame p
 
-    module _ (h : at + length l ≡ length t → ⊥) where
-      line : Line t at e
-      line = taken-line t l at (s .within) p h
+    module _ (v : ℕ) (G : List ℕ) (w : RowNoted frame F v G) where
+      same-fault : v ≡ rowFault (s .earlier) frame
+      same-fault = w .fault ∙ fault-same F (s .earlier) (s .shaped) frame
 
-      abbrev frame : List ℕ
-      frame = bytesOf l
+      says : shapesFrom [] 0 (framesIn t) ≡ ofFault table v n (shapesFrom (withRow (s .earlier) frame) (suc n) (framesIn (drop e t)))
+      unfolding shapesFrom
+      says = s .is ∙ rw (next, ← same-fault)
 
-      next : framesOf (drop at t) ≡ frame ∷ framesOf (drop (e + 1) t)
-      next = taken-step t l at (s .within) p h
+      rows-more : rowsIn (framesIn t) ≡ withRow (s .earlier) frame ++ rowsIn (framesIn (drop e t))
+      unfolding rowsIn
+      rows-more = s .rows ∙ rw next (by (isRow (getD frame 0 0)))
+        where
+          by : (b : Bool) → s .earlier ++ pick b (rowOf frame ∷ rowsIn (framesIn (drop e t))) (rowsIn (framesIn (drop e t))) ≡ pick b (s .earlier ++ rowOf frame ∷ []) (s .earlier) ++ rowsIn (framesIn (drop e t))
+          by true = sym (append-assoc (s .earlier) (rowOf frame ∷ []) (rowsIn (framesIn (drop e t))))
+          by false = refl
 
-      module _ (v : ℕ) (G : List ℕ) (w : RowNoted (bytesOf l) F v G) where
-        same-fault : v ≡ rowFault (s .earlier) frame
-        same-fault = w .fault ∙ fault-same F (s .earlier) (s .shaped) frame
+      pub noting-again : v ≡ 0 → Noting t F₀ G (at + length frame) (n + 1)
+      noting-again z = record {
+        earlier = withRow (s .earlier) frame;
+        size = w .size ∙ s .size;
+        few = omega (arith, s .few, frame-some t at h frame p);
+        within = frame-within t at h frame p;
+        shaped = rw (w .shapes) (noted-same F (s .earlier) (s .shaped) frame (w .byte) (sym (w .fault) ∙ z));
+        rows = rows-more;
+        is = says ∙ rw (z, add-one n);
+      }
 
-        says : shapesFrom [] 0 (framesOf t) ≡ ofFault table v n (shapesFrom (withRow (s .earlier) frame) (suc n) (framesOf (drop (e + 1) t)))
-        unfolding shapesFrom
-        says = s .is ∙ rw (next, ← same-fault)
-
-        rows-more : rowsIn (framesOf t) ≡ withRow (s .earlier) frame ++ rowsIn (framesOf (drop (e + 1) t))
-        unfolding rowsIn
-        rows-more = s .rows ∙ rw next (by (isRow (getD frame 0 0)))
-          where
-            by : (b : Bool) → s .earlier ++ pick b (rowOf frame ∷ rowsIn (framesOf (drop (e + 1) t))) (rowsIn (framesOf (drop (e + 1) t))) ≡ pick b (s .earlier ++ rowOf frame ∷ []) (s .earlier) ++ rowsIn (framesOf (drop (e + 1) t))
-            by true = sym (append-assoc (s .earlier) (rowOf frame ∷ []) (rowsIn (framesOf (drop (e + 1) t))))
-            by false = refl
-
-        pub noting-again : v ≡ 0 → Noting t F₀ G (at + length l + 1) (n + 1)
-        noting-again z = record {
-          earlier = withRow (s .earlier) frame;
-          size = w .size ∙ s .size;
-          few = omega (arith, s .few, line .from);
-          within = omega (arith, line .within);
-          shaped = rw (w .shapes) (noted-same F (s .earlier) (s .shaped) frame (byte-at frame (digits-bytes l) 3) (sym (w .fault) ∙ z));
-          rows = rows-more;
-          is = says ∙ rw (z, add-one n);
-        }
-
-        pub noted-refused : (v ≡ 0 → ⊥) → TableNoted t (Fault v 2 (n + 1)) G
-        noted-refused z = record { is = sym (says ∙ fault-stops table v n _ z ∙ rw (add-one n)); shaped = λ q. let y : _≡_ {A = ℕ} 0 1 = cc in absurd (omega arith) }
+      pub noted-refused : (v ≡ 0 → ⊥) → TableNoted t (Fault v 2 (n + 1)) G
+      noted-refused z = record { is = sym (says ∙ fault-stops table v n _ z ∙ rw (add-one n)); shaped = λ q. let y : _≡_ {A = ℕ} 0 1 = cc in absurd (omega arith) }

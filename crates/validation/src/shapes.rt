@@ -3,19 +3,20 @@ ghost use mathlib.Core.Path.{_≡_};
 ghost use Prim.Native.Nat.{_+_, _<_};
 ghost use lib.Dec.{eqb};
 ghost use lib.ListN.{length, replicate};
-ghost use Rattle.hex.specs.Digits.{bytesOf};
 ghost use Rattle.frame_tests.specs.Faults.{isRow};
 ghost use Rattle.running.specs.Tables.{rowOf};
-ghost use Rattle.turning.specs.Shapes.{shapeOf, fitsShape, RowNoted, TableNoted};
+ghost use Rattle.join_tests.specs.Arrays.{fitsShape};
+ghost use Rattle.step_tests.specs.Steps.{shapeOf};
+ghost use Rattle.validation.specs.Shapes.{RowNoted, TableNoted};
 use fields::field::wide;
-use hex::line::byte_at;
-use hex::reader::line_from;
+use frames::frame::frame_at;
+use hex::byte_at;
 
 // What the tests find.
-pub enum Turned {
+pub enum Verdict {
     Passed,
     // number, text and line
-    TurnedBack(u8, u8, usize),
+    Invalid(u8, u8, usize),
 }
 
 fn is_row(kind: u8) -> bool
@@ -24,14 +25,14 @@ fn is_row(kind: u8) -> bool
     if kind == 0x30 { true } else { kind == 0x31 }
 }
 
-// The shape of a row's line: 1 for a literal, 2 and its number of children for a node.
-fn row_shape(line: &[u8]) -> usize
-    ensures { λ r. ⌜ r ≡ shapeOf (rowOf (bytesOf (now (line .entry)))) ⌝ }
+// The shape of a row's frame: 1 for a literal, 2 and its number of children for a node.
+fn row_shape(frame: &[u8]) -> usize
+    ensures { λ r. ⌜ r ≡ shapeOf (rowOf (now (frame .entry))) ⌝ }
 {
-    if byte_at(line, 0) != 0x30 {
+    if byte_at(frame, 0) != 0x30 {
         return 1;
     }
-    2 + wide(byte_at(line, 4))
+    2 + wide(byte_at(frame, 4))
 }
 
 // Whether a row of that shape may follow: no row of its operator came before, or the first has the same shape.
@@ -44,16 +45,16 @@ fn like_first(first: usize, shape: usize) -> bool
     shape == first
 }
 
-// The fault of one line of the table; the shape of a row that has none is noted.
-fn row_fault(line: &[u8], shapes: &mut [usize]) -> u8
+// The fault of one frame of the table; the shape of a row that has none is noted.
+fn row_fault(frame: &[u8], shapes: &mut [usize]) -> u8
     requires { ⌜ length (now shapes) ≡ 256 ⌝ }
-    ensures { λ r. ⌜ RowNoted (bytesOf (now (line .entry))) (now (shapes .entry)) r (now (shapes .exit)) ⌝ }
+    ensures { λ r. ⌜ RowNoted (now (frame .entry)) (now (shapes .entry)) r (now (shapes .exit)) ⌝ }
 {
-    if !is_row(byte_at(line, 0)) {
+    let op = wide(byte_at(frame, 3));
+    if !is_row(byte_at(frame, 0)) {
         return 0;
     }
-    let op = wide(byte_at(line, 3));
-    let shape = row_shape(line);
+    let shape = row_shape(frame);
     if !like_first(shapes[op], shape) {
         return 11;
     }
@@ -61,25 +62,21 @@ fn row_fault(line: &[u8], shapes: &mut [usize]) -> u8
     0
 }
 
-// The table's lines in turn: the first row unlike an earlier one of its operator. No shape is noted before.
-pub fn shapes_fault(table: &[u8], shapes: &mut [usize]) -> Turned
+// The table's frames in turn: the first row unlike an earlier one of its operator. No shape is noted before.
+pub fn shapes_fault(table: &[u8], shapes: &mut [usize]) -> Verdict
     requires { ⌜ now shapes ≡ replicate 256 0 ⌝ }
     ensures { λ r. ⌜ TableNoted (now (table .entry)) r (now (shapes .exit)) ⌝ }
 {
     let mut at: usize = 0;
     let mut n: usize = 0;
     while at < table.len() {
-        let line = line_from(table, at);
-        let e = at + line.len();
-        if e == table.len() {
-            return Turned::Passed;
-        }
-        let fault = row_fault(line, shapes);
+        let frame = frame_at(table, at);
+        let fault = row_fault(frame, shapes);
         n += 1;
         if fault != 0 {
-            return Turned::TurnedBack(fault, 2, n);
+            return Verdict::Invalid(fault, 2, n);
         }
-        at = e + 1;
+        at += frame.len();
     }
-    Turned::Passed
+    Verdict::Passed
 }

@@ -1,4 +1,4 @@
--- `turning::globals::class_from` meets its contract: no frame, or what its first byte tells.
+-- `validation::globals::class_from` meets its contract: no frame, or what its first byte tells.
 use denote.Ref.{now}
 use mathlib.Core.Path.{refl, _∙_}
 use mathlib.Core.List.{List}
@@ -7,8 +7,8 @@ use Rattle.hex.specs.Digits.{shortAt}
 use Rattle.running.specs.Tables.{classFrom}
 use Rattle.query.proofs.FrameViews.{no-frame, a-frame}
 use borrow.Author.Needs.{needs}
-use Rattle.turning.proofs.globals.class_from.Statement.{statement}
-use Rattle.turning.proofs.globals.class_from.Tie as tie
+use Rattle.validation.proofs.globals.class_from.Statement.{statement}
+use Rattle.validation.proofs.globals.class_from.Tie as tie
 
 returns : tie.Need-returns
 returns c = no-frame classFrom (now (c .before .before .args .frame)) (c .if1 .taken)

@@ -1,11 +1,11 @@
--- `turning::globals::global_class` meets its contract: what is found by the key of a frame 32.
+-- `validation::globals::global_class` meets its contract: what is found by the key of a frame 32.
 use mathlib.Core.Path.{refl}
 use Rattle.kinds.specs.Kinds.{kindAt}
 use Rattle.query.proofs.LookupLaws.{proper}
-use Rattle.turning.proofs.GlobalLaws.{class-found}
+use Rattle.validation.proofs.GlobalLaws.{class-found}
 use borrow.Author.Needs.{needs}
-use Rattle.turning.proofs.globals.global_class.Statement.{statement}
-use Rattle.turning.proofs.globals.global_class.Tie as tie
+use Rattle.validation.proofs.globals.global_class.Statement.{statement}
+use Rattle.validation.proofs.globals.global_class.Tie as tie
 
 slice-aggregate-find-by : tie.Need-slice-aggregate-find-by
 slice-aggregate-find-by c = search needs

@@ -1,87 +1,75 @@
--- `turning::plan::steps_fault` meets its contract: the lines left give what all lines give.
 use borrow.Author.Needs.{needs}
+use Rattle.validation.proofs.ShapeLaws.{frame-less}
+use Rattle.validation.proofs.PlanLaws.{Walking, walking-start, steps-refused, step-markable, walking-again, steps-end}
+use Rattle.frames.proofs.SheetLaws.{frame-within}
 use Prim.Native.Nat.{_-_}
-use native.Mathlib.Omega.{arith}
 use lib.ListN.{length}
-use Rattle.reading.specs.Walk.{taken-within, taken-less}
-use Rattle.turning.proofs.PlanLaws.{Walking, walking-none, steps-none, steps-refused, step-markable, walking-again, steps-end}
-use Rattle.turning.proofs.plan.steps_fault.Statement.{statement}
-use Rattle.turning.proofs.plan.steps_fault.Tie as tie
+use native.Mathlib.Omega.{arith}
+use Rattle.validation.proofs.plan.steps_fault.Statement.{statement}
+use Rattle.validation.proofs.plan.steps_fault.Tie as tie
+use Rattle.validation.proofs.plan.steps_fault.Reads as reads
+use Rattle.validation.proofs.plan.steps_fault.Lts as lts
+use Rattle.frames.proofs.frame.frame_at.Reads as frame-at-reads
+use Rattle.step_tests.proofs.marks.step_marks.Reads as step-marks-reads
+use Rattle.step_tests.proofs.steps.step_fault.Reads as step-fault-reads
 
 abbrev Inv-loop : tie.InvT-loop
-Inv-loop plan bound₀ picked₀ ops₀ shapes globals at₀ n₀ bound picked ops at n = Walking plan shapes globals bound₀ picked₀ ops₀ bound picked ops at n
+Inv-loop plan shapes globals marks₀ at₀ n₀ marks at n = Walking plan shapes globals marks at n
 
 abbrev μ-loop : tie.MeasureT-loop
-μ-loop plan bound₀ picked₀ ops₀ shapes globals at₀ n₀ bound picked ops at n = length plan - at
+μ-loop plan shapes globals marks₀ at₀ n₀ marks at n = length plan - at
 
-line-from-requires : tie.Need-line-from-requires Inv-loop μ-loop
-line-from-requires c κs = search needs
+-- src/plan.rt:14:9
+frame-at-requires : tie.Need-frame-at-requires Inv-loop μ-loop
+frame-at-requires c κs = search needs
 
-add-at : tie.Need-add-at Inv-loop μ-loop
-add-at c = omega (arith, taken-within (c .before .before .before .before .before .before .before .args .plan .now) _ 0 (omega arith) (c .line-from .ensures), c .before .before .before .before .before .before .before .good)
-
+-- src/plan.rt:17:5
 loop-holds : tie.Need-loop-holds Inv-loop μ-loop
-loop-holds c = search walking-none
+loop-holds c = search walking-start
 
-line-from-requires-2 : tie.Need-line-from-requires-2 Inv-loop μ-loop
-line-from-requires-2 c κs = search needs
+-- src/plan.rt:18:13
+frame-at-requires-2 : tie.Need-frame-at-requires-2 Inv-loop μ-loop
+frame-at-requires-2 c κs = search needs
 
-add-e : tie.Need-add-e Inv-loop μ-loop
-add-e c = omega (arith, taken-within _ _ _ (c .before .before .loop .inv .within) (c .line-from2 .ensures), c .before .before .before .before .before .before .before .before .before .before .good)
+-- src/plan.rt:19:35
+slice-aggregate-step-fault : tie.Need-slice-aggregate-step-fault Inv-loop μ-loop
+slice-aggregate-step-fault c = search needs
 
-same-length : tie.Need-same-length Inv-loop μ-loop
-same-length c = search needs
-
-same-length-2 : tie.Need-same-length-2 Inv-loop μ-loop
-same-length-2 c = search needs
-
-same-length-3 : tie.Need-same-length-3 Inv-loop μ-loop
-same-length-3 c = search needs
-
-returns : tie.Need-returns Inv-loop μ-loop
-returns c = search steps-none
-
+-- src/plan.rt:19:13
 step-fault-requires : tie.Need-step-fault-requires Inv-loop μ-loop
 step-fault-requires c κs = search needs
 
+-- src/plan.rt:20:9
 add-n : tie.Need-add-n Inv-loop μ-loop
 add-n c = search needs
 
-same-length-4 : tie.Need-same-length-4 Inv-loop μ-loop
-same-length-4 c = search needs
+-- src/plan.rt:22:13
+returns : tie.Need-returns Inv-loop μ-loop
+returns c = search steps-refused
 
-same-length-5 : tie.Need-same-length-5 Inv-loop μ-loop
-same-length-5 c = search needs
+-- src/plan.rt:24:33
+slice-aggregate-step-marks : tie.Need-slice-aggregate-step-marks Inv-loop μ-loop
+slice-aggregate-step-marks c = search needs
 
-same-length-6 : tie.Need-same-length-6 Inv-loop μ-loop
-same-length-6 c = search needs
-
-returns-2 : tie.Need-returns-2 Inv-loop μ-loop
-returns-2 c = search steps-refused
-
+-- src/plan.rt:24:9
 step-marks-requires : tie.Need-step-marks-requires Inv-loop μ-loop
 step-marks-requires c κs = search step-markable
 
-add-at-2 : tie.Need-add-at-2 Inv-loop μ-loop
-add-at-2 c = search needs
+-- src/plan.rt:25:9
+add-at : tie.Need-add-at Inv-loop μ-loop
+add-at c = omega (arith, frame-within _ _ (c .before .before .before .before .before .before .before .before .loop-test .taken) _ (c .before .before .before .before .before .before .before .frame-at2 .ensures), c .before .before .before .before .before .before .before .before .before .before .before .before .before .before .good)
 
+-- src/plan.rt:17:5
 loop-less : tie.Need-loop-less Inv-loop μ-loop
-loop-less c = search taken-less
+loop-less c = search frame-less
 
+-- src/plan.rt:17:5
 loop-again : tie.Need-loop-again Inv-loop μ-loop
 loop-again c = search walking-again
 
-same-length-7 : tie.Need-same-length-7 Inv-loop μ-loop
-same-length-7 c = search needs
-
-same-length-8 : tie.Need-same-length-8 Inv-loop μ-loop
-same-length-8 c = search needs
-
-same-length-9 : tie.Need-same-length-9 Inv-loop μ-loop
-same-length-9 c = search needs
-
-returns-3 : tie.Need-returns-3 Inv-loop μ-loop
-returns-3 c = search steps-end
+-- src/plan.rt:9:1
+returns-2 : tie.Need-returns-2 Inv-loop μ-loop
+returns-2 c = search steps-end
 
 pub steps-fault-spec : {M : Type 1} → statement M
 steps-fault-spec =
@@ -89,26 +77,16 @@ steps-fault-spec =
     (tie.spec
     Inv-loop
     μ-loop
-    line-from-requires
-    add-at
+    frame-at-requires
     loop-holds
-    line-from-requires-2
-    add-e
-    same-length
-    same-length-2
-    same-length-3
-    returns
+    frame-at-requires-2
+    slice-aggregate-step-fault
     step-fault-requires
     add-n
-    same-length-4
-    same-length-5
-    same-length-6
-    returns-2
+    returns
+    slice-aggregate-step-marks
     step-marks-requires
-    add-at-2
+    add-at
     loop-less
     loop-again
-    same-length-7
-    same-length-8
-    same-length-9
-    returns-3)
+    returns-2)

@@ -1,12 +1,15 @@
--- `turning::shapes::shapes_fault` meets its contract: the lines left, after the earlier rows, give what all lines give.
 use borrow.Author.Needs.{needs}
+use Rattle.validation.proofs.ShapeLaws.{Noting, noting-none, noted-refused, noting-again, noted-end, frame-less}
+use Rattle.frames.proofs.SheetLaws.{frame-within}
 use Prim.Native.Nat.{_-_}
-use native.Mathlib.Omega.{arith}
 use lib.ListN.{length}
-use Rattle.reading.specs.Walk.{taken-within, taken-less}
-use Rattle.turning.proofs.ShapeLaws.{Noting, noting-none, noted-none, noted-refused, noting-again, noted-end}
-use Rattle.turning.proofs.shapes.shapes_fault.Statement.{statement}
-use Rattle.turning.proofs.shapes.shapes_fault.Tie as tie
+use native.Mathlib.Omega.{arith}
+use Rattle.validation.proofs.shapes.shapes_fault.Statement.{statement}
+use Rattle.validation.proofs.shapes.shapes_fault.Tie as tie
+use Rattle.validation.proofs.shapes.shapes_fault.Reads as reads
+use Rattle.validation.proofs.shapes.shapes_fault.Lts as lts
+use Rattle.frames.proofs.frame.frame_at.Reads as frame-at-reads
+use Rattle.validation.proofs.shapes.row_fault.Reads as row-fault-reads
 
 abbrev Inv-loop : tie.InvT-loop
 Inv-loop table shapes₀ at₀ n₀ shapes at n = Noting table shapes₀ shapes at n
@@ -14,47 +17,49 @@ Inv-loop table shapes₀ at₀ n₀ shapes at n = Noting table shapes₀ shapes 
 abbrev μ-loop : tie.MeasureT-loop
 μ-loop table shapes₀ at₀ n₀ shapes at n = length table - at
 
+-- src/shapes.rt:72:5
 loop-holds : tie.Need-loop-holds Inv-loop μ-loop
 loop-holds c = search noting-none
 
-line-from-requires : tie.Need-line-from-requires Inv-loop μ-loop
-line-from-requires c κs = search needs
+-- src/shapes.rt:73:13
+frame-at-requires : tie.Need-frame-at-requires Inv-loop μ-loop
+frame-at-requires c κs = search needs
 
-add-e : tie.Need-add-e Inv-loop μ-loop
-add-e c = omega (arith, taken-within _ _ _ (c .before .before .loop .inv .within) (c .line-from .ensures), c .before .before .before .before .before .good)
-
-same-length : tie.Need-same-length Inv-loop μ-loop
-same-length c = search needs
-
-returns : tie.Need-returns Inv-loop μ-loop
-returns c = search noted-none
-
+-- src/shapes.rt:74:13
 row-fault-requires : tie.Need-row-fault-requires Inv-loop μ-loop
 row-fault-requires c κs = search needs
 
+-- src/shapes.rt:75:9
 add-n : tie.Need-add-n Inv-loop μ-loop
 add-n c = search needs
 
-same-length-2 : tie.Need-same-length-2 Inv-loop μ-loop
-same-length-2 c = search needs
+-- src/shapes.rt:77:13
+same-length : tie.Need-same-length Inv-loop μ-loop
+same-length c = search needs
 
-returns-2 : tie.Need-returns-2 Inv-loop μ-loop
-returns-2 c = search noted-refused
+-- src/shapes.rt:77:13
+returns : tie.Need-returns Inv-loop μ-loop
+returns c = search noted-refused
 
+-- src/shapes.rt:79:9
 add-at : tie.Need-add-at Inv-loop μ-loop
-add-at c = search needs
+add-at c = omega (arith, frame-within _ _ (c .before .before .before .before .before .before .loop-test .taken) _ (c .before .before .before .before .before .frame-at .ensures), c .before .before .before .before .before .before .before .before .before .before .good)
 
+-- src/shapes.rt:72:5
 loop-less : tie.Need-loop-less Inv-loop μ-loop
-loop-less c = search taken-less
+loop-less c = search frame-less
 
+-- src/shapes.rt:72:5
 loop-again : tie.Need-loop-again Inv-loop μ-loop
 loop-again c = search noting-again
 
-same-length-3 : tie.Need-same-length-3 Inv-loop μ-loop
-same-length-3 c = search needs
+-- src/shapes.rt:66:1
+same-length-2 : tie.Need-same-length-2 Inv-loop μ-loop
+same-length-2 c = search needs
 
-returns-3 : tie.Need-returns-3 Inv-loop μ-loop
-returns-3 c = search noted-end
+-- src/shapes.rt:66:1
+returns-2 : tie.Need-returns-2 Inv-loop μ-loop
+returns-2 c = search noted-end
 
 pub shapes-fault-spec : {M : Type 1} → statement M
 shapes-fault-spec =
@@ -63,16 +68,13 @@ shapes-fault-spec =
     Inv-loop
     μ-loop
     loop-holds
-    line-from-requires
-    add-e
-    same-length
-    returns
+    frame-at-requires
     row-fault-requires
     add-n
-    same-length-2
-    returns-2
+    same-length
+    returns
     add-at
     loop-less
     loop-again
-    same-length-3
-    returns-3)
+    same-length-2
+    returns-2)
