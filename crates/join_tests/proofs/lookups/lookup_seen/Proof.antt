@@ -1,76 +1,54 @@
+-- `join_tests::lookups::lookup_seen` meets its contract: by the tag.
 use Rattle.join_tests.proofs.LookupLaws.{by-op, by-repr, by-child, by-contains}
 use borrow.Author.Needs.{needs}
 use Rattle.join_tests.proofs.lookups.lookup_seen.Statement.{statement}
 use Rattle.join_tests.proofs.lookups.lookup_seen.Tie as tie
-use Rattle.join_tests.proofs.lookups.lookup_seen.Reads as reads
-use Rattle.join_tests.proofs.lookups.lookup_seen.Lts as lts
-use Rattle.hex.proofs.byte_at.Reads as byte-at-reads
-use Rattle.join_tests.proofs.lookups.op_seen.Reads as op-seen-reads
-use Rattle.join_tests.proofs.lookups.operand_seen.Reads as operand-seen-reads
-use Rattle.join_tests.proofs.lookups.position_seen.Reads as position-seen-reads
-use Rattle.join_tests.proofs.lookups.repr_seen.Reads as repr-seen-reads
 
--- src/lookups.rt:92:9
 byte-at-requires : tie.Need-byte-at-requires
 byte-at-requires c κs = search needs
 
--- src/lookups.rt:94:42
 add-byte-at : tie.Need-add-byte-at
 add-byte-at c = search needs
 
--- src/lookups.rt:94:27
 byte-at-requires-2 : tie.Need-byte-at-requires-2
 byte-at-requires-2 c κs = search needs
 
--- src/lookups.rt:94:9
 op-seen-requires : tie.Need-op-seen-requires
 op-seen-requires c κs = search needs
 
--- src/lookups.rt:94:9
 returns : tie.Need-returns
 returns c = search by-op
 
--- src/lookups.rt:97:44
 add-byte-at-2 : tie.Need-add-byte-at-2
 add-byte-at-2 c = search needs
 
--- src/lookups.rt:97:29
 byte-at-requires-3 : tie.Need-byte-at-requires-3
 byte-at-requires-3 c κs = search needs
 
--- src/lookups.rt:97:9
 repr-seen-requires : tie.Need-repr-seen-requires
 repr-seen-requires c κs = search needs
 
--- src/lookups.rt:97:9
 returns-2 : tie.Need-returns-2
 returns-2 c = search by-repr
 
--- src/lookups.rt:99:36
 add-operand-seen : tie.Need-add-operand-seen
 add-operand-seen c = search needs
 
--- src/lookups.rt:99:9
 operand-seen-requires : tie.Need-operand-seen-requires
 operand-seen-requires c κs = search needs
 
--- src/lookups.rt:101:48
 add-byte-at-3 : tie.Need-add-byte-at-3
 add-byte-at-3 c = search needs
 
--- src/lookups.rt:101:33
 byte-at-requires-4 : tie.Need-byte-at-requires-4
 byte-at-requires-4 c κs = search needs
 
--- src/lookups.rt:101:9
 position-seen-requires : tie.Need-position-seen-requires
 position-seen-requires c κs = search needs
 
--- src/lookups.rt:101:9
 returns-3 : tie.Need-returns-3
 returns-3 c = search by-child
 
--- src/lookups.rt:87:1
 returns-4 : tie.Need-returns-4
 returns-4 c = search by-contains
 

@@ -1,3 +1,4 @@
+-- `validation::plan::steps_fault` meets its contract: the frames left give what all give.
 use borrow.Author.Needs.{needs}
 use Rattle.validation.proofs.ShapeLaws.{frame-less}
 use Rattle.validation.proofs.PlanLaws.{Walking, walking-start, steps-refused, step-markable, walking-again, steps-end}
@@ -7,11 +8,6 @@ use lib.ListN.{length}
 use native.Mathlib.Omega.{arith}
 use Rattle.validation.proofs.plan.steps_fault.Statement.{statement}
 use Rattle.validation.proofs.plan.steps_fault.Tie as tie
-use Rattle.validation.proofs.plan.steps_fault.Reads as reads
-use Rattle.validation.proofs.plan.steps_fault.Lts as lts
-use Rattle.frames.proofs.frame.frame_at.Reads as frame-at-reads
-use Rattle.step_tests.proofs.marks.step_marks.Reads as step-marks-reads
-use Rattle.step_tests.proofs.steps.step_fault.Reads as step-fault-reads
 
 abbrev Inv-loop : tie.InvT-loop
 Inv-loop plan shapes globals marks₀ at₀ n₀ marks at n = Walking plan shapes globals marks at n
@@ -19,55 +15,42 @@ Inv-loop plan shapes globals marks₀ at₀ n₀ marks at n = Walking plan shape
 abbrev μ-loop : tie.MeasureT-loop
 μ-loop plan shapes globals marks₀ at₀ n₀ marks at n = length plan - at
 
--- src/plan.rt:14:9
 frame-at-requires : tie.Need-frame-at-requires Inv-loop μ-loop
 frame-at-requires c κs = search needs
 
--- src/plan.rt:17:5
 loop-holds : tie.Need-loop-holds Inv-loop μ-loop
 loop-holds c = search walking-start
 
--- src/plan.rt:18:13
 frame-at-requires-2 : tie.Need-frame-at-requires-2 Inv-loop μ-loop
 frame-at-requires-2 c κs = search needs
 
--- src/plan.rt:19:35
 slice-aggregate-step-fault : tie.Need-slice-aggregate-step-fault Inv-loop μ-loop
 slice-aggregate-step-fault c = search needs
 
--- src/plan.rt:19:13
 step-fault-requires : tie.Need-step-fault-requires Inv-loop μ-loop
 step-fault-requires c κs = search needs
 
--- src/plan.rt:20:9
 add-n : tie.Need-add-n Inv-loop μ-loop
 add-n c = search needs
 
--- src/plan.rt:22:13
 returns : tie.Need-returns Inv-loop μ-loop
 returns c = search steps-refused
 
--- src/plan.rt:24:33
 slice-aggregate-step-marks : tie.Need-slice-aggregate-step-marks Inv-loop μ-loop
 slice-aggregate-step-marks c = search needs
 
--- src/plan.rt:24:9
 step-marks-requires : tie.Need-step-marks-requires Inv-loop μ-loop
 step-marks-requires c κs = search step-markable
 
--- src/plan.rt:25:9
 add-at : tie.Need-add-at Inv-loop μ-loop
 add-at c = omega (arith, frame-within _ _ (c .before .before .before .before .before .before .before .before .loop-test .taken) _ (c .before .before .before .before .before .before .before .frame-at2 .ensures), c .before .before .before .before .before .before .before .before .before .before .before .before .before .before .good)
 
--- src/plan.rt:17:5
 loop-less : tie.Need-loop-less Inv-loop μ-loop
 loop-less c = search frame-less
 
--- src/plan.rt:17:5
 loop-again : tie.Need-loop-again Inv-loop μ-loop
 loop-again c = search walking-again
 
--- src/plan.rt:9:1
 returns-2 : tie.Need-returns-2 Inv-loop μ-loop
 returns-2 c = search steps-end
 

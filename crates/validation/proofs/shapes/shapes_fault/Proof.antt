@@ -1,3 +1,4 @@
+-- `validation::shapes::shapes_fault` meets its contract: the frames left, after the earlier rows, give what all give.
 use borrow.Author.Needs.{needs}
 use Rattle.validation.proofs.ShapeLaws.{Noting, noting-none, noted-refused, noting-again, noted-end, frame-less}
 use Rattle.frames.proofs.SheetLaws.{frame-within}
@@ -6,10 +7,6 @@ use lib.ListN.{length}
 use native.Mathlib.Omega.{arith}
 use Rattle.validation.proofs.shapes.shapes_fault.Statement.{statement}
 use Rattle.validation.proofs.shapes.shapes_fault.Tie as tie
-use Rattle.validation.proofs.shapes.shapes_fault.Reads as reads
-use Rattle.validation.proofs.shapes.shapes_fault.Lts as lts
-use Rattle.frames.proofs.frame.frame_at.Reads as frame-at-reads
-use Rattle.validation.proofs.shapes.row_fault.Reads as row-fault-reads
 
 abbrev Inv-loop : tie.InvT-loop
 Inv-loop table shapes₀ at₀ n₀ shapes at n = Noting table shapes₀ shapes at n
@@ -17,47 +14,36 @@ Inv-loop table shapes₀ at₀ n₀ shapes at n = Noting table shapes₀ shapes 
 abbrev μ-loop : tie.MeasureT-loop
 μ-loop table shapes₀ at₀ n₀ shapes at n = length table - at
 
--- src/shapes.rt:72:5
 loop-holds : tie.Need-loop-holds Inv-loop μ-loop
 loop-holds c = search noting-none
 
--- src/shapes.rt:73:13
 frame-at-requires : tie.Need-frame-at-requires Inv-loop μ-loop
 frame-at-requires c κs = search needs
 
--- src/shapes.rt:74:13
 row-fault-requires : tie.Need-row-fault-requires Inv-loop μ-loop
 row-fault-requires c κs = search needs
 
--- src/shapes.rt:75:9
 add-n : tie.Need-add-n Inv-loop μ-loop
 add-n c = search needs
 
--- src/shapes.rt:77:13
 same-length : tie.Need-same-length Inv-loop μ-loop
 same-length c = search needs
 
--- src/shapes.rt:77:13
 returns : tie.Need-returns Inv-loop μ-loop
 returns c = search noted-refused
 
--- src/shapes.rt:79:9
 add-at : tie.Need-add-at Inv-loop μ-loop
 add-at c = omega (arith, frame-within _ _ (c .before .before .before .before .before .before .loop-test .taken) _ (c .before .before .before .before .before .frame-at .ensures), c .before .before .before .before .before .before .before .before .before .before .good)
 
--- src/shapes.rt:72:5
 loop-less : tie.Need-loop-less Inv-loop μ-loop
 loop-less c = search frame-less
 
--- src/shapes.rt:72:5
 loop-again : tie.Need-loop-again Inv-loop μ-loop
 loop-again c = search noting-again
 
--- src/shapes.rt:66:1
 same-length-2 : tie.Need-same-length-2 Inv-loop μ-loop
 same-length-2 c = search needs
 
--- src/shapes.rt:66:1
 returns-2 : tie.Need-returns-2 Inv-loop μ-loop
 returns-2 c = search noted-end
 
