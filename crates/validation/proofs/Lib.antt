@@ -1,4 +1,2 @@
-pub mod ShapeLaws
-pub mod GlobalLaws
 pub mod PlanLaws
 pub mod ValidateLaws

@@ -32,9 +32,9 @@ use Rattle.join_tests.specs.Arrays.{boundIn, pickedIn, opsIn}
 use Rattle.join_tests.specs.declared.joins.Tested.{Tested}
 use Rattle.step_tests.specs.Steps.{Described, StepTested}
 use Rattle.step_tests.specs.Marks.{Targeted, Markable, Stepped}
-use Rattle.validation.specs.declared.shapes.Verdict.the-variants.{Passed as NoFault, Invalid as Fault}
+use Rattle.table_tests.specs.declared.shapes.Verdict.the-variants.{Passed as NoFault, Invalid as Fault}
 use Rattle.validation.specs.Plans.{PlanSheet, PlanReady, StepsTested}
-use Rattle.validation.proofs.ShapeLaws.{fault-stops}
+use Rattle.table_tests.proofs.ShapeLaws.{fault-stops}
 
 -- ---- a target is below 64
 

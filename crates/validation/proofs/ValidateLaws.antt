@@ -6,10 +6,11 @@ use native.Mathlib.Omega.{arith}
 use Rattle.frames.specs.Sheet.{framesIn}
 use Rattle.running.specs.Tables.{rowsIn, tableIn}
 use Rattle.step_tests.specs.Steps.{Described}
-use Rattle.validation.specs.declared.shapes.Verdict.{Verdict as Answer}
-use Rattle.validation.specs.declared.shapes.Verdict.the-variants.{Passed as NoFault, Invalid as Fault}
-use Rattle.validation.specs.Shapes.{TableNoted}
-use Rattle.validation.specs.Plans.{PlanSheet, PlanReady, StepsTested, GlobalsRead, Validated}
+use Rattle.table_tests.specs.declared.shapes.Verdict.{Verdict as Answer}
+use Rattle.table_tests.specs.declared.shapes.Verdict.the-variants.{Passed as NoFault, Invalid as Fault}
+use Rattle.table_tests.specs.Shapes.{TableNoted}
+use Rattle.table_tests.specs.Globals.{GlobalsRead}
+use Rattle.validation.specs.Plans.{PlanSheet, PlanReady, StepsTested, Validated}
 
 module _ (x y : List ℕ) (v : Answer) (F : List ℕ) (s : TableNoted y v F) where
   pub shapes-refuse : (k t l : ℕ) (G : List ℕ) → v ≡ Fault k t l → Validated x y (Fault k t l) G

@@ -11,9 +11,9 @@ use Rattle.model.specs.Atoms.{Table}
 use Rattle.running.specs.Tables.{tableIn, stepsIn}
 use Rattle.running.specs.Validation.{stepsPass, testsIn}
 use Rattle.step_tests.specs.Steps.{Described}
-use Rattle.validation.specs.declared.shapes.Verdict.{Verdict as Answer}
-use Rattle.validation.specs.declared.shapes.Verdict.the-variants.{Passed as NoFault}
-use Rattle.validation.specs.Shapes.{verdict}
+use Rattle.table_tests.specs.declared.shapes.Verdict.{Verdict as Answer}
+use Rattle.table_tests.specs.declared.shapes.Verdict.the-variants.{Passed as NoFault}
+use Rattle.table_tests.specs.Shapes.{verdict}
 
 -- x is the sheet of an accepted plan text
 pub record PlanSheet (x : List ℕ) : Type 0 where
@@ -32,10 +32,6 @@ pub record PlanReady (x F G : List ℕ) : Type 0 where
 -- the verdict on the steps of x, over any table that F and G speak of
 pub record StepsTested (x F G : List ℕ) (r : Answer) : Type 0 where
   pub is : (tb : Table) → Described tb F G → verdict r ≡ stepsPass tb (stepsIn (framesIn x))
-
--- G has the classes of the globals
-pub record GlobalsRead (y G : List ℕ) : Type 0 where
-  pub is : G ≡ tableIn (framesIn y) .globals
 
 -- the whole: the verdict, and where it passes the classes of the globals
 pub record Validated (x y : List ℕ) (r : Answer) (G : List ℕ) : Type 0 where

@@ -1,5 +1,3 @@
-// The runner's tests of a plan and a table, on their sheets; the classes of globals are read off the table's sheet.
-pub mod globals;
+// The runner's tests of a plan and a table, on their sheets, behind the reading of both texts.
 pub mod plan;
-pub mod shapes;
 pub mod validate;

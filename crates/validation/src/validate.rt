@@ -3,10 +3,10 @@ ghost use mathlib.Core.Path.{_≡_};
 ghost use lib.ListN.{length};
 ghost use Rattle.indexing.specs.Index.{Indexed};
 ghost use Rattle.validation.specs.Plans.{PlanSheet, Validated};
-use super::globals::global_classes;
 use super::plan::steps_fault;
-use super::shapes::Verdict;
-use super::shapes::shapes_fault;
+use table_tests::globals::global_classes;
+use table_tests::shapes::Verdict;
+use table_tests::shapes::shapes_fault;
 
 // The tests behind the reading of both texts, on their sheets; `index` is the table's. Where they pass, the globals have their classes.
 pub fn validate(plan: &[u8], table: &[u8], index: &[u16], globals: &mut [u16]) -> Verdict

@@ -1,6 +1,6 @@
 -- `validation::plan::steps_fault` meets its contract: the frames left give what all give.
 use borrow.Author.Needs.{needs}
-use Rattle.validation.proofs.ShapeLaws.{frame-less}
+use Rattle.table_tests.proofs.ShapeLaws.{frame-less}
 use Rattle.validation.proofs.PlanLaws.{Walking, walking-start, steps-refused, step-markable, walking-again, steps-end}
 use Rattle.frames.proofs.SheetLaws.{frame-within}
 use Prim.Native.Nat.{_-_}

@@ -1,16 +1,32 @@
 -- The globals' classes, one after another. Assumes nothing.
 use Prim.Native.Nat.{ℕ, _+_, _<_, _≤_}
-use mathlib.Core.Path.{_≡_, sym, _∙_}
+use mathlib.Core.Path.{_≡_, refl, sym, _∙_}
 use mathlib.Core.List.{List, [], _∷_}
 use native.Mathlib.Omega.{arith}
 use native.Mathlib.Decide.{ℕ-discrete}
 use lib.ListN.{length, getD, set, length-set}
 use lib.Seq.{getD-set-same, getD-set-other, ext-getD}
 use Rattle.frames.specs.Sheet.{framesIn}
+use Rattle.hex.specs.Digits.{shortAt}
+use Rattle.kinds.specs.Kinds.{kindAt}
+use Rattle.indexing.specs.Index.{Proper}
 use Rattle.indexing.specs.Keys.{find}
 use Rattle.model.specs.Tabulate.{tabulate, tabulate-at, tabulate-length}
 use Rattle.running.specs.Tables.{classFrom, globalIn, tableIn}
-use Rattle.validation.specs.Plans.{GlobalsRead}
+use Rattle.table_tests.specs.Globals.{GlobalsRead}
+
+-- no frame, or the class that it gives
+pub class-none : (l : List ℕ) → length l ≡ 0 → 0xffff ≡ classFrom l
+class-none [] h = refl
+class-none (b ∷ l) h = absurd (omega arith)
+
+pub class-read : (l : List ℕ) (r : ℕ) → (length l ≡ 0 → ⊥) → r ≡ shortAt l 2 → r ≡ classFrom l
+class-read [] r h e = absurd (h refl)
+class-read (b ∷ l) r h e = e
+
+pub global-proper : (g : ℕ) → Proper (0x32 ∷ g ∷ [])
+unfolding kindAt
+global-proper g = record { keyed = omega arith; whole = omega arith }
 
 pub class-found : (l : List ℕ) (fs : List (List ℕ)) (g r : ℕ) → l ≡ find (0x32 ∷ g ∷ []) fs → r ≡ classFrom l → r ≡ globalIn fs g
 class-found l fs g r p q = rw p at q

@@ -1,12 +1,12 @@
--- `validation::shapes::shapes_fault` meets its contract: the frames left, after the earlier rows, give what all give.
+-- `table_tests::shapes::shapes_fault` meets its contract: the frames left, after the earlier rows, give what all give.
 use borrow.Author.Needs.{needs}
-use Rattle.validation.proofs.ShapeLaws.{Noting, noting-none, noted-refused, noting-again, noted-end, frame-less}
+use Rattle.table_tests.proofs.ShapeLaws.{Noting, noting-none, noted-refused, noting-again, noted-end, frame-less}
 use Rattle.frames.proofs.SheetLaws.{frame-within}
 use Prim.Native.Nat.{_-_}
 use lib.ListN.{length}
 use native.Mathlib.Omega.{arith}
-use Rattle.validation.proofs.shapes.shapes_fault.Statement.{statement}
-use Rattle.validation.proofs.shapes.shapes_fault.Tie as tie
+use Rattle.table_tests.proofs.shapes.shapes_fault.Statement.{statement}
+use Rattle.table_tests.proofs.shapes.shapes_fault.Tie as tie
 
 abbrev Inv-loop : tie.InvT-loop
 Inv-loop table shapes₀ at₀ n₀ shapes at n = Noting table shapes₀ shapes at n

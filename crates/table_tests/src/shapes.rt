@@ -7,7 +7,7 @@ ghost use Rattle.frame_tests.specs.Faults.{isRow};
 ghost use Rattle.running.specs.Tables.{rowOf};
 ghost use Rattle.join_tests.specs.Arrays.{fitsShape};
 ghost use Rattle.step_tests.specs.Steps.{shapeOf};
-ghost use Rattle.validation.specs.Shapes.{RowNoted, TableNoted};
+ghost use Rattle.table_tests.specs.Shapes.{RowNoted, TableNoted};
 use fields::field::wide;
 use frames::frame::frame_at;
 use hex::byte_at;

@@ -4,7 +4,7 @@ ghost use lib.ListN.{length};
 ghost use Rattle.frames.specs.Sheet.{framesIn};
 ghost use Rattle.indexing.specs.Index.{Indexed};
 ghost use Rattle.running.specs.Tables.{classFrom, globalIn};
-ghost use Rattle.validation.specs.Plans.{GlobalsRead};
+ghost use Rattle.table_tests.specs.Globals.{GlobalsRead};
 use hex::short_at;
 use indexing::index::find_by;
 

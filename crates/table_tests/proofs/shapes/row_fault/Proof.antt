@@ -1,8 +1,8 @@
--- `validation::shapes::row_fault` meets its contract: no row, unlike the first of its operator, or noted.
-use Rattle.validation.proofs.ShapeLaws.{no-row, row-unlike, row-noted}
+-- `table_tests::shapes::row_fault` meets its contract: no row, unlike the first of its operator, or noted.
+use Rattle.table_tests.proofs.ShapeLaws.{no-row, row-unlike, row-noted}
 use borrow.Author.Needs.{needs}
-use Rattle.validation.proofs.shapes.row_fault.Statement.{statement}
-use Rattle.validation.proofs.shapes.row_fault.Tie as tie
+use Rattle.table_tests.proofs.shapes.row_fault.Statement.{statement}
+use Rattle.table_tests.proofs.shapes.row_fault.Tie as tie
 
 byte-at-requires : tie.Need-byte-at-requires
 byte-at-requires c κs = search needs

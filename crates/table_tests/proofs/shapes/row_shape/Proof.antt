@@ -1,8 +1,8 @@
--- `validation::shapes::row_shape` meets its contract: by the kind.
-use Rattle.validation.proofs.ShapeLaws.{literal-shape, node-shape}
+-- `table_tests::shapes::row_shape` meets its contract: by the kind.
+use Rattle.table_tests.proofs.ShapeLaws.{literal-shape, node-shape}
 use borrow.Author.Needs.{needs}
-use Rattle.validation.proofs.shapes.row_shape.Statement.{statement}
-use Rattle.validation.proofs.shapes.row_shape.Tie as tie
+use Rattle.table_tests.proofs.shapes.row_shape.Statement.{statement}
+use Rattle.table_tests.proofs.shapes.row_shape.Tie as tie
 
 byte-at-requires : tie.Need-byte-at-requires
 byte-at-requires c κs = search needs

@@ -1,7 +1,7 @@
--- `validation::shapes::is_row` meets its contract: by the kind.
+-- `table_tests::shapes::is_row` meets its contract: by the kind.
 use Rattle.base.specs.Choose.{tests}
-use Rattle.validation.proofs.shapes.is_row.Statement.{statement}
-use Rattle.validation.proofs.shapes.is_row.Tie as tie
+use Rattle.table_tests.proofs.shapes.is_row.Statement.{statement}
+use Rattle.table_tests.proofs.shapes.is_row.Tie as tie
 
 returns : tie.Need-returns
 returns c = search tests

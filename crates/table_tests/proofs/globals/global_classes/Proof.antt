@@ -1,9 +1,9 @@
--- `validation::globals::global_classes` meets its contract: the classes given are those of the first globals.
+-- `table_tests::globals::global_classes` meets its contract: the classes given are those of the first globals.
 use borrow.Author.Needs.{needs}
 use Prim.Native.Nat.{_-_}
-use Rattle.validation.proofs.GlobalLaws.{Given, given-none, given-again, given-all}
-use Rattle.validation.proofs.globals.global_classes.Statement.{statement}
-use Rattle.validation.proofs.globals.global_classes.Tie as tie
+use Rattle.table_tests.proofs.GlobalLaws.{Given, given-none, given-again, given-all}
+use Rattle.table_tests.proofs.globals.global_classes.Statement.{statement}
+use Rattle.table_tests.proofs.globals.global_classes.Tie as tie
 
 abbrev Inv-loop : tie.InvT-loop
 Inv-loop sheet index globals₀ g₀ globals g = Given sheet globals g

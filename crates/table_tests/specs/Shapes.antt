@@ -12,8 +12,8 @@ use Rattle.running.specs.Tables.{rowOf, rowsIn}
 use Rattle.running.specs.Validation.{Verdict, Passed, Invalid, shapesFrom}
 use Rattle.join_tests.specs.Arrays.{fitsShape}
 use Rattle.step_tests.specs.Steps.{shapeOf, Shaped}
-use Rattle.validation.specs.declared.shapes.Verdict.{Verdict as Answer}
-use Rattle.validation.specs.declared.shapes.Verdict.the-variants.{Passed as NoFault, Invalid as Fault}
+use Rattle.table_tests.specs.declared.shapes.Verdict.{Verdict as Answer}
+use Rattle.table_tests.specs.declared.shapes.Verdict.the-variants.{Passed as NoFault, Invalid as Fault}
 
 -- what the code answers, in document 01's numbers
 abbrev pub verdict : Answer → Verdict

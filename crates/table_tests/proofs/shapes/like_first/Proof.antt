@@ -1,7 +1,7 @@
--- `validation::shapes::like_first` meets its contract: no row came before, or one did.
+-- `table_tests::shapes::like_first` meets its contract: no row came before, or one did.
 use Rattle.base.specs.Choose.{tests}
-use Rattle.validation.proofs.shapes.like_first.Statement.{statement}
-use Rattle.validation.proofs.shapes.like_first.Tie as tie
+use Rattle.table_tests.proofs.shapes.like_first.Statement.{statement}
+use Rattle.table_tests.proofs.shapes.like_first.Tie as tie
 
 returns : tie.Need-returns
 returns c = search tests
