@@ -1,4 +1,2 @@
 pub mod RowLaws
 pub mod StepLaws
-pub mod JoinLaws
-pub mod MarkLaws

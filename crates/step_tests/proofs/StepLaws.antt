@@ -14,10 +14,10 @@ use Rattle.model.specs.Bound.{Bound, has, hasAll, hasNone}
 use Rattle.model.specs.Refusing.{allRows, isLiteral, hasChild, opAt}
 use Rattle.plans.specs.StepFrames.{stepOf}
 use Rattle.running.specs.Validation.{allGiven, stepFault}
-use Rattle.join_tests.specs.Arrays.{given, reachOf}
+use Rattle.join_tests.specs.Arrays.{shapeOf, given, reachOf}
 use Rattle.step_tests.specs.declared.simple.Simple.{Simple}
 use Rattle.step_tests.specs.declared.simple.Simple.the-variants.{Extract, ChildLocal, ChildGlobal, Equal, EqualGlobal, Bind, Copy, ReadLit, NotRun}
-use Rattle.step_tests.specs.Steps.{shapeOf, Described, childFits, literalFits, simple, childFault, literalFault, simpleFault}
+use Rattle.step_tests.specs.Steps.{Described, childFits, literalFits, simple, childFault, literalFault, simpleFault}
 
 -- ---- choices
 

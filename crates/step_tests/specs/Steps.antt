@@ -1,34 +1,19 @@
--- The tests of a plan's step, by arrays: M marks of variables (B bound, R picked, O operators of the picked), F shapes of operators, G classes of
--- globals.
-use Prim.Native.Nat.{ℕ, _+_}
+-- The tests of a step other than a Join, by arrays: B bound, R picked, O the operators of the picked, F shapes of operators, G classes of globals.
+use Prim.Native.Nat.{ℕ}
 use mathlib.Core.Path.{_≡_}
 use mathlib.Core.Bool.{Bool, true, false, not}
 use mathlib.Core.List.{List}
-use lib.ListN.{length, getD}
+use lib.ListN.{getD}
 use lib.Dec.{eqb}
 use Rattle.base.specs.Choose.{pick}
-use Rattle.model.specs.Atoms.{local, global, wild, Step, Join, ExtractChild, CheckChildEq, CheckEq, CheckEqGlobal, BindGlobal, CopyBinding, Expand, ExtractLitVal, CheckLit, CheckPred, Row, Node, Literal, Table, rows}
+use Rattle.model.specs.Atoms.{local, global, wild, Step, Join, ExtractChild, CheckChildEq, CheckEq, CheckEqGlobal, BindGlobal, CopyBinding, Expand, ExtractLitVal, CheckLit, CheckPred, Table, rows}
 use Rattle.model.specs.Bound.{Bound, has}
-use Rattle.model.specs.Refusing.{joinOp, opAt, allRows}
-use Rattle.plans.specs.StepFrames.{stepOf}
-use Rattle.running.specs.Validation.{stepFault}
-use Rattle.join_tests.specs.Arrays.{boundIn, pickedIn, opsIn, fitsShape, reachFits, reachOf, given}
-use Rattle.join_tests.specs.Lookups.{lookupsOf}
-use Rattle.join_tests.specs.declared.joins.Tested.{Tested}
+use Rattle.model.specs.Refusing.{opAt}
+use Rattle.join_tests.specs.Arrays.{fitsShape, Shaped, reachFits, reachOf, given}
 use Rattle.step_tests.specs.declared.simple.Simple.{Simple}
 use Rattle.step_tests.specs.declared.simple.Simple.the-variants.{Extract, ChildLocal, ChildGlobal, Equal, EqualGlobal, Bind, Copy, ReadLit, NotRun}
 
 -- ---- the arrays of a table
-
--- a frame 31, or a frame 30 by its children; 0 is the shape of no row
-abbrev pub shapeOf : Row → ℕ
-shapeOf (Node c o ds) = 2 + length ds
-shapeOf (Literal c o x) = 1
-
--- F says of each operator what all its rows say, of any test that goes by the shape
-pub record Shaped (F : List ℕ) (rows : List Row) : Type 0 where
-  pub size : length F ≡ 256
-  pub is : (P : Row → Bool) (g : ℕ → Bool) → ((r : Row) → P r ≡ g (shapeOf r)) → (o : ℕ) → allRows P o rows ≡ fitsShape g (getD F o 0)
 
 -- the arrays F and G speak of the table tb
 pub record Described (tb : Table) (F G : List ℕ) : Type 0 where
@@ -45,7 +30,7 @@ childFits F o i = reachFits F o (reachOf i)
 abbrev pub literalFits : List ℕ → ℕ → Bool
 literalFits F o = fitsShape (eqb 1) (getD F o 0)
 
--- ---- the steps but Joins
+-- ---- the steps
 
 -- what the tests ask of a step other than a Join; NotRun: "steps 47, 48, 49, 4c"; a wildcard, which
 -- no frame has, asks for the parent alone
@@ -117,10 +102,3 @@ simpleFault F G B R O (Bind v g) = bindFault G B v g
 simpleFault F G B R O (Copy v o) = copyFault B v o
 simpleFault F G B R O (ReadLit n) = readLitFault F B R O n
 simpleFault F G B R O NotRun = 10
-
--- ---- a step
-
--- the frame f: its fault over any table that F and G speak of, and a Join's operator
-pub record StepTested (F G M f : List ℕ) (r : Tested) : Type 0 where
-  pub is : (tb : Table) → Described tb F G → r .fault ≡ stepFault tb (boundIn M) (pickedIn M) (opsIn M) (stepOf f)
-  pub op : getD f 0 0 ≡ 0x40 → r .op ≡ joinOp (lookupsOf f)

@@ -1,5 +1,3 @@
-// The tests of a plan's step, and what a step leaves.
-pub mod marks;
+// The tests of a plan's step other than a Join.
 pub mod rows;
 pub mod simple;
-pub mod steps;

@@ -23,8 +23,7 @@ use Rattle.plans.specs.StepFrames.{itemsAt}
 use Rattle.plans.specs.Items.{items-count}
 use Rattle.running.specs.Tables.{rowOf, rowsIn}
 use Rattle.running.specs.Validation.{Verdict, Invalid, ofFault, sameShape, rowFault, withRow, shapesFrom}
-use Rattle.join_tests.specs.Arrays.{fitsShape}
-use Rattle.step_tests.specs.Steps.{shapeOf, Shaped}
+use Rattle.join_tests.specs.Arrays.{shapeOf, fitsShape, Shaped}
 use Rattle.table_tests.specs.declared.shapes.Verdict.the-variants.{Passed as NoFault, Invalid as Fault}
 use Rattle.table_tests.specs.Shapes.{likeFirst, shapeFault, withShape, RowNoted, TableNoted}
 

@@ -10,8 +10,7 @@ use Rattle.frames.specs.Sheet.{framesIn}
 use Rattle.frame_tests.specs.Faults.{isRow}
 use Rattle.running.specs.Tables.{rowOf, rowsIn}
 use Rattle.running.specs.Validation.{Verdict, Passed, Invalid, shapesFrom}
-use Rattle.join_tests.specs.Arrays.{fitsShape}
-use Rattle.step_tests.specs.Steps.{shapeOf, Shaped}
+use Rattle.join_tests.specs.Arrays.{shapeOf, fitsShape, Shaped}
 use Rattle.table_tests.specs.declared.shapes.Verdict.{Verdict as Answer}
 use Rattle.table_tests.specs.declared.shapes.Verdict.the-variants.{Passed as NoFault, Invalid as Fault}
 

@@ -30,8 +30,9 @@ use Rattle.running.specs.Tables.{stepsIn}
 use Rattle.running.specs.Validation.{ofFault, globalsOf, allGiven, stepFault, stepsFrom, stepsPass}
 use Rattle.join_tests.specs.Arrays.{boundIn, pickedIn, opsIn}
 use Rattle.join_tests.specs.declared.joins.Tested.{Tested}
-use Rattle.step_tests.specs.Steps.{Described, StepTested}
-use Rattle.step_tests.specs.Marks.{Targeted, Markable, Stepped}
+use Rattle.step_tests.specs.Steps.{Described}
+use Rattle.validation.specs.Steps.{StepTested}
+use Rattle.validation.specs.Marks.{Targeted, Markable, Stepped}
 use Rattle.table_tests.specs.declared.shapes.Verdict.the-variants.{Passed as NoFault, Invalid as Fault}
 use Rattle.validation.specs.Plans.{PlanSheet, PlanReady, StepsTested}
 use Rattle.table_tests.proofs.ShapeLaws.{fault-stops}

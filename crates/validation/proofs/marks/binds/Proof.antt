@@ -1,7 +1,7 @@
--- `step_tests::marks::binds` meets its contract: by the kind.
+-- `validation::marks::binds` meets its contract: by the kind.
 use Rattle.base.specs.Choose.{tests}
-use Rattle.step_tests.proofs.marks.binds.Statement.{statement}
-use Rattle.step_tests.proofs.marks.binds.Tie as tie
+use Rattle.validation.proofs.marks.binds.Statement.{statement}
+use Rattle.validation.proofs.marks.binds.Tie as tie
 
 returns : tie.Need-returns
 returns c = search tests

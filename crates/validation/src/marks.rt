@@ -2,7 +2,7 @@
 ghost use mathlib.Core.Path.{_≡_};
 ghost use Prim.Native.Nat.{_+_, _<_};
 ghost use lib.ListN.{length, getD, set};
-ghost use Rattle.step_tests.specs.Marks.{bindsTarget, boundMark, Markable, Stepped};
+ghost use Rattle.validation.specs.Marks.{bindsTarget, boundMark, Markable, Stepped};
 use fields::field::wide;
 use hex::byte_at;
 

@@ -20,9 +20,10 @@ use Rattle.join_tests.specs.Lookups.{lookupsOf, operandSeen, lookupSeen, noneSe
 use Rattle.join_tests.specs.declared.lookups.Seen.{Seen}
 use Rattle.join_tests.specs.declared.joins.Tested.{Tested}
 use Rattle.join_tests.proofs.SeenLaws.{seen-all, seen-read, seen-named, seen-ops, seen-op, seen-reach, fitsIn}
 use Rattle.step_tests.specs.declared.simple.Simple.{Simple}
-use Rattle.step_tests.specs.Steps.{Described, simple, simpleFault, StepTested}
+use Rattle.step_tests.specs.Steps.{Described, simple, simpleFault}
+use Rattle.validation.specs.Steps.{StepTested}
 use Rattle.step_tests.proofs.StepLaws.{child-same, given-same, simple-same}
 
 module _ (tb : Table) (F G : List ℕ) (d : Described tb F G) where
   -- ---- a Join's lookups

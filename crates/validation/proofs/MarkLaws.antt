@@ -17,7 +17,7 @@ use Rattle.plans.specs.StepFrames.{stepOf}
 use Rattle.plans.specs.StepsRead.{no-join}
 use Rattle.join_tests.specs.Arrays.{isBound, isPicked, boundIn, pickedIn, opsIn}
 use Rattle.join_tests.specs.Lookups.{lookupsOf}
-use Rattle.step_tests.specs.Marks.{bindsTarget, boundMark, Markable, Stepped}
+use Rattle.validation.specs.Marks.{bindsTarget, boundMark, Markable, Stepped}
 
 -- ---- one mark
 

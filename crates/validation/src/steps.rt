@@ -1,11 +1,11 @@
 // The tests of one frame of the plan: a Join, or another step.
 ghost use mathlib.Core.Path.{_≡_};
-ghost use Rattle.step_tests.specs.Steps.{StepTested};
-use super::simple::simple_fault;
-use super::simple::simple_step;
+ghost use Rattle.validation.specs.Steps.{StepTested};
 use hex::byte_at;
 use join_tests::joins::Tested;
 use join_tests::joins::join_fault;
+use step_tests::simple::simple_fault;
+use step_tests::simple::simple_step;
 
 // The number of the first test that a step fails, or 0; and the operator of a Join.
 pub fn step_fault(frame: &[u8], marks: &[u16], shapes: &[usize], globals: &[u16]) -> Tested

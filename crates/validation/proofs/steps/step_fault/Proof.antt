@@ -1,8 +1,8 @@
--- `step_tests::steps::step_fault` meets its contract: a Join, or another step.
-use Rattle.step_tests.proofs.JoinLaws.{join-frame, simple-frame}
+-- `validation::steps::step_fault` meets its contract: a Join, or another step.
+use Rattle.validation.proofs.JoinLaws.{join-frame, simple-frame}
 use borrow.Author.Needs.{needs}
-use Rattle.step_tests.proofs.steps.step_fault.Statement.{statement}
-use Rattle.step_tests.proofs.steps.step_fault.Tie as tie
+use Rattle.validation.proofs.steps.step_fault.Statement.{statement}
+use Rattle.validation.proofs.steps.step_fault.Tie as tie
 
 byte-at-requires : tie.Need-byte-at-requires
 byte-at-requires c κs = search needs

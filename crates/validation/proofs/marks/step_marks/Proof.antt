@@ -1,8 +1,8 @@
--- `step_tests::marks::step_marks` meets its contract: a Join, a step that binds, or another.
-use Rattle.step_tests.proofs.MarkLaws.{join-below, join-marked, none-marked, bind-below, bind-marked}
+-- `validation::marks::step_marks` meets its contract: a Join, a step that binds, or another.
+use Rattle.validation.proofs.MarkLaws.{join-below, join-marked, none-marked, bind-below, bind-marked}
 use borrow.Author.Needs.{needs}
-use Rattle.step_tests.proofs.marks.step_marks.Statement.{statement}
-use Rattle.step_tests.proofs.marks.step_marks.Tie as tie
+use Rattle.validation.proofs.marks.step_marks.Statement.{statement}
+use Rattle.validation.proofs.marks.step_marks.Tie as tie
 
 byte-at-requires : tie.Need-byte-at-requires
 byte-at-requires c κs = search needs
