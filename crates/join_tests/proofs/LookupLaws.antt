@@ -12,34 +12,34 @@ use Rattle.model.specs.Atoms.{Operand, local, global, wild, Lookup, ByOp, ByChi
 use Rattle.model.specs.Bound.{Bound, has}
 use Rattle.plans.specs.StepFrames.{operandAt, lookupAt, itemsAt}
 use Rattle.join_tests.specs.Arrays.{given, reachFits, reachOf}
-use Rattle.join_tests.specs.Lookups.{lookupsOf, opSeen, reprSeen, localSeen, globalSeen, operandSeen, larger, positionSeen, lookupSeen, noneSeen, seenFrom, seenIn, targetFree, seenFault, joinTested}
+use Rattle.join_tests.specs.Lookups.{lookupsOf, opSeen, reprSeen, localSeen, globalSeen, operandSeen, larger, positionSeen, lookupSeen, noneSeen, seenFrom, seenIn, seenFault, joinTested}
 use Rattle.join_tests.specs.declared.lookups.Seen.{Seen}
 use Rattle.join_tests.specs.declared.joins.Tested.{Tested}
 
 -- ---- one lookup more
 
-pub op-first : (s : Seen) (o : ℕ) → s .ops ≡ 0 → _≡_ {A = Seen} (record { ops = s .ops + 1; op = o; read = s .read; given = s .given; named = s .named; reach = s .reach }) (opSeen s o)
+pub op-first : (s : Seen) (o : ℕ) → s .ops ≡ 0 → _≡_ {A = Seen} (record { ops = s .ops + 1; op = o; read = s .read; given = s .given; free = s .free; reach = s .reach }) (opSeen s o)
 op-first s o h = rw (eq-eqb (s .ops) 0 h)
 
-pub op-later : (s : Seen) (o : ℕ) → (s .ops ≡ 0 → ⊥) → _≡_ {A = Seen} (record { ops = s .ops + 1; op = s .op; read = s .read; given = s .given; named = s .named; reach = s .reach }) (opSeen s o)
+pub op-later : (s : Seen) (o : ℕ) → (s .ops ≡ 0 → ⊥) → _≡_ {A = Seen} (record { ops = s .ops + 1; op = s .op; read = s .read; given = s .given; free = s .free; reach = s .reach }) (opSeen s o)
 op-later s o h = rw (ne-eqb (s .ops) 0 h)
 
-module _ (B : Bound) (v : ℕ) (s : Seen) (u : ℕ) (b r : Bool) (e : b ≡ has B u) (p : r ≡ s .read && b) where
-  pub repr-named : u ≡ v → _≡_ {A = Seen} (record { ops = s .ops; op = s .op; read = r; given = s .given; named = true; reach = s .reach }) (reprSeen B v s u)
-  repr-named h = rw (p, e, eq-eqb u v h, or-true (s .named))
+module _ (B : Bound) (v : ℕ) (s : Seen) (u : ℕ) (b : Bool) (e : b ≡ has B u) where
+  pub repr-target : u ≡ v → _≡_ {A = Seen} (record { ops = s .ops; op = s .op; read = s .read && b; given = s .given; free = true; reach = s .reach }) (reprSeen B v s u)
+  repr-target h = rw (e, eq-eqb u v h, or-true (s .free))
 
-  pub repr-other : (u ≡ v → ⊥) → _≡_ {A = Seen} (record { ops = s .ops; op = s .op; read = r; given = s .given; named = s .named; reach = s .reach }) (reprSeen B v s u)
-  repr-other h = rw (p, e, ne-eqb u v h, or-false (s .named))
+  pub repr-other : (u ≡ v → ⊥) → _≡_ {A = Seen} (record { ops = s .ops; op = s .op; read = s .read && b; given = s .given; free = s .free; reach = s .reach }) (reprSeen B v s u)
+  repr-other h = rw (e, ne-eqb u v h, or-false (s .free))
 
-module _ (B : Bound) (G : List ℕ) (s : Seen) (f : List ℕ) (i t u : ℕ) (is : t ≡ getD f i 0) (eu : u ≡ getD f (i + 1) 0) (b r : Bool) where
-  pub operand-local : t ≡ 0 → b ≡ has B u → r ≡ s .read && b → _≡_ {A = Seen} (record { ops = s .ops; op = s .op; read = r; given = s .given; named = s .named; reach = s .reach }) (operandSeen B G s (operandAt f i))
-  operand-local h e p = rw (← is, h, ← eu, p, e)
+module _ (B : Bound) (G : List ℕ) (s : Seen) (f : List ℕ) (i t u : ℕ) (is : t ≡ getD f i 0) (eu : u ≡ getD f (i + 1) 0) (b : Bool) where
+  pub operand-local : t ≡ 0 → b ≡ has B u → _≡_ {A = Seen} (record { ops = s .ops; op = s .op; read = s .read && b; given = s .given; free = s .free; reach = s .reach }) (operandSeen B G s (operandAt f i))
+  operand-local h e = rw (← is, h, ← eu, e)
 
-  pub operand-global : (t ≡ 0 → ⊥) → b ≡ given G u → r ≡ s .given && b → _≡_ {A = Seen} (record { ops = s .ops; op = s .op; read = s .read; given = r; named = s .named; reach = s .reach }) (operandSeen B G s (operandAt f i))
-  operand-global h e p = rw (← is, ne-eqb t 0 h, ← eu, p, e)
+  pub operand-global : (t ≡ 0 → ⊥) → b ≡ given G u → _≡_ {A = Seen} (record { ops = s .ops; op = s .op; read = s .read; given = s .given && b; free = s .free; reach = s .reach }) (operandSeen B G s (operandAt f i))
+  operand-global h e = rw (← is, ne-eqb t 0 h, ← eu, e)
 
 module _ (s : Seen) (i w : ℕ) (e : w ≡ i) where
-  pub reaches : s .reach < w + 3 → _≡_ {A = Seen} (record { ops = s .ops; op = s .op; read = s .read; given = s .given; named = s .named; reach = w + 3 }) (positionSeen s i)
+  pub reaches : s .reach < w + 3 → _≡_ {A = Seen} (record { ops = s .ops; op = s .op; read = s .read; given = s .given; free = s .free; reach = w + 3 }) (positionSeen s i)
   reaches h = rw (← e, lt-ltb (s .reach) (w + 3) h)
 
   pub reached : w + 3 ≤ s .reach → s ≡ positionSeen s i
@@ -90,8 +90,8 @@ pub record Seeing (B : Bound) (G f : List ℕ) (v n k : ℕ) (s : Seen) : Type 0
   pub low : s .ops ≤ k
   pub is : seenIn B G (getD f 1 0) (lookupsOf f) ≡ seenFrom B G v s (left f n k)
 
-pub seeing-none : (B : Bound) (G f : List ℕ) (v n d : ℕ) → v ≡ getD f 1 0 → n ≡ d → d ≡ getD f 3 0 → Seeing B G f v n 0 noneSeen
-seeing-none B G f v n d w h e = record { few = omega arith; low = omega arith; is = rw (lookups-all f n d h e, w) }
+pub seeing-none : (B : Bound) (G f : List ℕ) (v n d : ℕ) → v ≡ getD f 1 0 → n ≡ d → d ≡ getD f 3 0 → (s : Seen) → s ≡ noneSeen B v → Seeing B G f v n 0 s
+seeing-none B G f v n d w h e s q = record { few = omega arith; low = rw q (omega arith); is = rw (lookups-all f n d h e, q, w) }
 
 operand-ops : (B : Bound) (G : List ℕ) (s : Seen) (c : Operand) → operandSeen B G s c .ops ≡ s .ops
 operand-ops B G s (local u) = refl
@@ -119,35 +119,31 @@ module _ (B : Bound) (G f : List ℕ) (v n k : ℕ) (s : Seen) (y : Seeing B G f
 
 -- ---- the tests
 
-module _ (B : Bound) (v : ℕ) (n : Bool) where
-  pub named : n ≡ true → true ≡ targetFree B v n
-  named h = rw h
-
-  pub unnamed : (b : Bool) → n ≡ false → b ≡ has B v → not b ≡ targetFree B v n
-  unnamed b h e = rw (h, e)
-
-module _ (F : List ℕ) (B : Bound) (v : ℕ) (s : Seen) where
-  pub fault-10 : (s .ops ≡ 1 → ⊥) → 10 ≡ seenFault F B v s
+module _ (F : List ℕ) (s : Seen) where
+  pub fault-10 : (s .ops ≡ 1 → ⊥) → 10 ≡ seenFault F s
   fault-10 h = rw (ne-eqb (s .ops) 1 h)
 
   module _ (h : s .ops ≡ 1) where
-    pub fault-9 : not (s .read) ≡ true → 9 ≡ seenFault F B v s
+    pub fault-9 : not (s .read) ≡ true → 9 ≡ seenFault F s
     fault-9 g = rw (h, not-true (s .read) g)
 
-    module _ (g : not (s .read) ≡ false) (t : Bool) (e : t ≡ targetFree B v (s .named)) where
-      pub fault-9-target : not t ≡ true → 9 ≡ seenFault F B v s
-      fault-9-target k = rw (h, not-false (s .read) g, ← e, not-true t k)
+    module _ (g : not (s .read) ≡ false) where
+      pub fault-9-target : not (s .free) ≡ true → 9 ≡ seenFault F s
+      fault-9-target k = rw (h, not-false (s .read) g, not-true (s .free) k)
 
-      module _ (k : not t ≡ false) (o : ℕ) (d : o ≡ s .op) (u : Bool) (p : u ≡ reachFits F o (s .reach)) where
-        pub fault-11 : not u ≡ true → 11 ≡ seenFault F B v s
-        fault-11 q = rw (h, not-false (s .read) g, ← e, not-false t k, ← d, ← p, not-true u q)
+      module _ (k : not (s .free) ≡ false) (o : ℕ) (d : o ≡ s .op) (u : Bool) (p : u ≡ reachFits F o (s .reach)) where
+        pub fault-11 : not u ≡ true → 11 ≡ seenFault F s
+        fault-11 q = rw (h, not-false (s .read) g, not-false (s .free) k, ← d, ← p, not-true u q)
 
         module _ (q : not u ≡ false) where
-          pub fault-5 : not (s .given) ≡ true → 5 ≡ seenFault F B v s
-          fault-5 x = rw (h, not-false (s .read) g, ← e, not-false t k, ← d, ← p, not-false u q, not-true (s .given) x)
+          pub fault-5 : not (s .given) ≡ true → 5 ≡ seenFault F s
+          fault-5 x = rw (h, not-false (s .read) g, not-false (s .free) k, ← d, ← p, not-false u q, not-true (s .given) x)
 
-          pub fault-0 : not (s .given) ≡ false → 0 ≡ seenFault F B v s
-          fault-0 x = rw (h, not-false (s .read) g, ← e, not-false t k, ← d, ← p, not-false u q, not-false (s .given) x)
+          pub fault-0 : not (s .given) ≡ false → 0 ≡ seenFault F s
+          fault-0 x = rw (h, not-false (s .read) g, not-false (s .free) k, ← d, ← p, not-false u q, not-false (s .given) x)
 
-pub tested : (F : List ℕ) (B : Bound) (G f : List ℕ) (s : Seen) (v k : ℕ) → s ≡ seenIn B G (getD f 1 0) (lookupsOf f) → v ≡ getD f 1 0 → k ≡ seenFault F B v s → _≡_ {A = Tested} (record { fault = k; op = s .op }) (joinTested F B G f)
-tested F B G f s v k e w h = rw (h, w, e)
+pub tested : (F : List ℕ) (B : Bound) (G f : List ℕ) (s : Seen) (k : ℕ) → s ≡ seenIn B G (getD f 1 0) (lookupsOf f) → k ≡ seenFault F s → _≡_ {A = Tested} (record { fault = k; op = s .op }) (joinTested F B G f)
+tested F B G f s k e h = rw (h, e)
+
+pub none-seen : (B : Bound) (v : ℕ) (b : Bool) → b ≡ has B v → _≡_ {A = Seen} (record { ops = 0; op = 0; read = true; given = true; free = not b; reach = 0 }) (noneSeen B v)
+none-seen B v b e = rw e

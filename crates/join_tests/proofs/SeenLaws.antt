@@ -82,28 +82,28 @@ module _ (B : Bound) (G : List ℕ) (v : ℕ) where
 
   pub seen-read : (ls : List Lookup) → seenIn B G v ls .read ≡ hasAll B (flatMap lookupReads ls)
   unfolding hasAll flatMap
-  seen-read = seen-all (λ s. s .read) (λ l. hasAll B (lookupReads l)) (λ ls. hasAll B (flatMap lookupReads ls)) refl (λ l ls. has-both (lookupReads l) (flatMap lookupReads ls)) lookup-reads noneSeen
+  seen-read = seen-all (λ s. s .read) (λ l. hasAll B (lookupReads l)) (λ ls. hasAll B (flatMap lookupReads ls)) refl (λ l ls. has-both (lookupReads l) (flatMap lookupReads ls)) lookup-reads (noneSeen B v)
 
-  -- ---- whether the target is named
+  -- ---- whether the target is free or named
 
-  operand-names : (s : Seen) (c : Operand) → operandSeen B G s c .named ≡ s .named
-  operand-names s (local u) = refl
-  operand-names s (global g) = refl
-  operand-names s wild = refl
+  operand-free : (s : Seen) (c : Operand) → operandSeen B G s c .free ≡ s .free
+  operand-free s (local u) = refl
+  operand-free s (global g) = refl
+  operand-free s wild = refl
 
-  lookup-names : (s : Seen) (l : Lookup) → lookupSeen B G v s l .named ≡ s .named || isRepr v l
-  lookup-names s (ByOp o) = sym (or-false (s .named))
-  lookup-names s (ByChildPos c i) = operand-names s c ∙ sym (or-false (s .named))
-  lookup-names s (ByRepr u) = refl
-  lookup-names s (ByContains c) = operand-names s c ∙ sym (or-false (s .named))
+  lookup-free : (s : Seen) (l : Lookup) → lookupSeen B G v s l .free ≡ s .free || isRepr v l
+  lookup-free s (ByOp o) = sym (or-false (s .free))
+  lookup-free s (ByChildPos c i) = operand-free s c ∙ sym (or-false (s .free))
+  lookup-free s (ByRepr u) = refl
+  lookup-free s (ByContains c) = operand-free s c ∙ sym (or-false (s .free))
 
-  named-from : (s : Seen) (ls : List Lookup) → seenFrom B G v s ls .named ≡ s .named || namedByRepr v ls
+  free-from : (s : Seen) (ls : List Lookup) → seenFrom B G v s ls .free ≡ s .free || namedByRepr v ls
   unfolding seenFrom namedByRepr
-  named-from s [] = sym (or-false (s .named))
-  named-from s (l ∷ ls) = named-from (lookupSeen B G v s l) ls ∙ rw (lookup-names s l) (or-assoc (s .named) (isRepr v l) (namedByRepr v ls))
+  free-from s [] = sym (or-false (s .free))
+  free-from s (l ∷ ls) = free-from (lookupSeen B G v s l) ls ∙ rw (lookup-free s l) (or-assoc (s .free) (isRepr v l) (namedByRepr v ls))
 
-  pub seen-named : (ls : List Lookup) → seenIn B G v ls .named ≡ namedByRepr v ls
-  seen-named = named-from noneSeen
+  pub seen-free : (ls : List Lookup) → seenIn B G v ls .free ≡ not (has B v) || namedByRepr v ls
+  seen-free = free-from (noneSeen B v)
 
   -- ---- how many ByOp, and the operator of the first
 
@@ -126,7 +126,7 @@ module _ (B : Bound) (G : List ℕ) (v : ℕ) where
   ops-from s (ByContains c ∷ ls) = ops-from (operandSeen B G s c) ls ∙ rw (operand-ops s c)
 
   pub seen-ops : (ls : List Lookup) → seenIn B G v ls .ops ≡ countOps ls
-  seen-ops ls = omega (arith, ops-from noneSeen ls)
+  seen-ops ls = omega (arith, ops-from (noneSeen B v) ls)
 
   -- the first is kept
   op-kept : (s : Seen) (ls : List Lookup) → 0 < s .ops → seenFrom B G v s ls .op ≡ s .op
@@ -146,7 +146,7 @@ module _ (B : Bound) (G : List ℕ) (v : ℕ) where
   op-from s (ByContains c ∷ ls) h e = op-from (operandSeen B G s c) ls (operand-ops s c ∙ h) (operand-op s c ∙ e)
 
   pub seen-op : (ls : List Lookup) → seenIn B G v ls .op ≡ joinOp ls
-  seen-op ls = op-from noneSeen ls refl refl
+  seen-op ls = op-from (noneSeen B v) ls refl refl
 
   -- ---- how far positions reach
 
@@ -170,4 +170,4 @@ module _ (B : Bound) (G : List ℕ) (v : ℕ) where
 
   -- any test of all lookups that goes by each one's position
   pub seen-reach : (x : ℕ) (Q : List Lookup → Bool) → Q [] ≡ true → ((l : Lookup) (ls : List Lookup) → Q (l ∷ ls) ≡ fitsIn x l && Q ls) → (ls : List Lookup) → fitsShape (leb (seenIn B G v ls .reach)) x ≡ Q ls
-  seen-reach x Q n c ls = seen-all (λ s. fitsShape (leb (s .reach)) x) (fitsIn x) Q n c (lookup-reach x) noneSeen ls ∙ rw (nothing-fits x)
+  seen-reach x Q n c ls = seen-all (λ s. fitsShape (leb (s .reach)) x) (fitsIn x) Q n c (lookup-reach x) (noneSeen B v) ls ∙ rw (nothing-fits x)

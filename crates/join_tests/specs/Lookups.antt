@@ -20,16 +20,17 @@ lookupsOf f = itemsAt lookupAt 4 f 4 (getD f 3 0)
 
 -- a ByOp is counted, and the first one's operator kept
 abbrev pub opSeen : Seen → ℕ → Seen
-opSeen s o = record { ops = s .ops + 1; op = pick (eqb (s .ops) 0) o (s .op); read = s .read; given = s .given; named = s .named; reach = s .reach }
+opSeen s o = record { ops = s .ops + 1; op = pick (eqb (s .ops) 0) o (s .op); read = s .read; given = s .given; free = s .free; reach = s .reach }
 
+-- a ByRepr reads; "save a Join naming its own target by ByRepr"
 abbrev pub reprSeen : Bound → ℕ → Seen → ℕ → Seen
-reprSeen B v s u = record { ops = s .ops; op = s .op; read = s .read && has B u; given = s .given; named = s .named || eqb u v; reach = s .reach }
+reprSeen B v s u = record { ops = s .ops; op = s .op; read = s .read && has B u; given = s .given; free = s .free || eqb u v; reach = s .reach }
 
 abbrev pub localSeen : Bound → Seen → ℕ → Seen
-localSeen B s u = record { ops = s .ops; op = s .op; read = s .read && has B u; given = s .given; named = s .named; reach = s .reach }
+localSeen B s u = record { ops = s .ops; op = s .op; read = s .read && has B u; given = s .given; free = s .free; reach = s .reach }
 
 abbrev pub globalSeen : List ℕ → Seen → ℕ → Seen
-globalSeen G s g = record { ops = s .ops; op = s .op; read = s .read; given = s .given && given G g; named = s .named; reach = s .reach }
+globalSeen G s g = record { ops = s .ops; op = s .op; read = s .read; given = s .given && given G g; free = s .free; reach = s .reach }
 
 abbrev pub operandSeen : Bound → List ℕ → Seen → Operand → Seen
 operandSeen B G s (local u) = localSeen B s u
@@ -40,7 +41,7 @@ abbrev pub larger : ℕ → ℕ → ℕ
 larger a b = pick (ltb a b) b a
 
 abbrev pub positionSeen : Seen → ℕ → Seen
-positionSeen s i = record { ops = s .ops; op = s .op; read = s .read; given = s .given; named = s .named; reach = larger (s .reach) (reachOf i) }
+positionSeen s i = record { ops = s .ops; op = s .op; read = s .read; given = s .given; free = s .free; reach = larger (s .reach) (reachOf i) }
 
 abbrev pub lookupSeen : Bound → List ℕ → ℕ → Seen → Lookup → Seen
 lookupSeen B G v s (ByOp o) = opSeen s o
@@ -50,28 +51,25 @@ lookupSeen B G v s (ByContains c) = operandSeen B G s c
 
 -- ---- all
 
-abbrev pub noneSeen : Seen
-noneSeen = record { ops = 0; op = 0; read = true; given = true; named = false; reach = 0 }
+-- before the first: the target is unbound or not
+abbrev pub noneSeen : Bound → ℕ → Seen
+noneSeen B v = record { ops = 0; op = 0; read = true; given = true; free = not (has B v); reach = 0 }
 
 unfoldable pub seenFrom : Bound → List ℕ → ℕ → Seen → List Lookup → Seen
 seenFrom B G v s [] = s
 seenFrom B G v s (l ∷ ls) = seenFrom B G v (lookupSeen B G v s l) ls
 
 abbrev pub seenIn : Bound → List ℕ → ℕ → List Lookup → Seen
-seenIn B G v ls = seenFrom B G v noneSeen ls
+seenIn B G v ls = seenFrom B G v (noneSeen B v) ls
 
 -- ---- the tests
 
--- the target is unbound, "save a Join naming its own target by ByRepr"
-abbrev pub targetFree : Bound → ℕ → Bool → Bool
-targetFree B v named = pick named true (not (has B v))
-
--- 10, 9, 11 and 5 of a Join with target v, by what was seen
-abbrev pub seenFault : List ℕ → Bound → ℕ → Seen → ℕ
-seenFault F B v s =
+-- 10, 9, 11 and 5 of a Join, by what was seen
+abbrev pub seenFault : List ℕ → Seen → ℕ
+seenFault F s =
     pick (eqb (s .ops) 1)
     (pick (s .read)
-    (pick (targetFree B v (s .named))
+    (pick (s .free)
     (pick (reachFits F (s .op) (s .reach))
     (pick (s .given)
     0
@@ -83,4 +81,4 @@ seenFault F B v s =
 
 -- of the frame f of a Join
 abbrev pub joinTested : List ℕ → Bound → List ℕ → List ℕ → Tested
-joinTested F B G f = let s = seenIn B G (getD f 1 0) (lookupsOf f) in record { fault = seenFault F B (getD f 1 0) s; op = s .op }
+joinTested F B G f = let s = seenIn B G (getD f 1 0) (lookupsOf f) in record { fault = seenFault F s; op = s .op }

@@ -1,13 +1,11 @@
 // The tests of a Join: 10, 9, 11 and the missing global.
 ghost use mathlib.Core.Path.{_≡_};
 ghost use Rattle.join_tests.specs.Arrays.{boundIn};
-ghost use Rattle.join_tests.specs.Lookups.{targetFree, seenFault, joinTested};
-use super::arrays::is_bound;
+ghost use Rattle.join_tests.specs.Lookups.{seenFault, joinTested};
 use super::arrays::reach_fits;
 use super::lookups::Seen;
 use super::lookups::lookups_seen;
 use fields::field::wide;
-use hex::byte_at;
 
 // A fault's number, or 0; and the operator of a Join's ByOp.
 pub struct Tested {
@@ -15,19 +13,9 @@ pub struct Tested {
     pub op: u8,
 }
 
-// Whether the target of a Join is free, or named by ByRepr.
-fn target_free(named: bool, v: u8, marks: &[u16]) -> bool
-    ensures { λ r. ⌜ r ≡ targetFree (boundIn (now (marks .entry))) v named ⌝ }
-{
-    if named {
-        return true;
-    }
-    !is_bound(marks, v)
-}
-
 // The fault of a Join by what was seen of its lookups.
-fn seen_fault(s: Seen, v: u8, marks: &[u16], shapes: &[usize]) -> u8
-    ensures { λ r. ⌜ r ≡ seenFault (now (shapes .entry)) (boundIn (now (marks .entry))) v s ⌝ }
+fn seen_fault(s: Seen, shapes: &[usize]) -> u8
+    ensures { λ r. ⌜ r ≡ seenFault (now (shapes .entry)) s ⌝ }
 {
     if s.ops != 1 {
         return 10;
@@ -35,7 +23,7 @@ fn seen_fault(s: Seen, v: u8, marks: &[u16], shapes: &[usize]) -> u8
     if !s.read {
         return 9;
     }
-    if !target_free(s.named, v, marks) {
+    if !s.free {
         return 9;
     }
     if !reach_fits(shapes, wide(s.op), s.reach) {
@@ -52,6 +40,6 @@ pub fn join_fault(frame: &[u8], marks: &[u16], shapes: &[usize], globals: &[u16]
     ensures { λ r. ⌜ r ≡ joinTested (now (shapes .entry)) (boundIn (now (marks .entry))) (now (globals .entry)) (now (frame .entry)) ⌝ }
 {
     let s = lookups_seen(frame, marks, globals);
-    let fault = seen_fault(s, byte_at(frame, 1), marks, shapes);
+    let fault = seen_fault(s, shapes);
     Tested { fault, op: s.op }
 }

@@ -1,11 +1,10 @@
 // The lookups of a Join's frame: four bytes each from byte 4 on, as many as its byte 3 says. One pass collects what the tests ask.
 ghost use mathlib.Core.Path.{_≡_};
-ghost use mathlib.Core.Bool.{_&&_};
 ghost use Prim.Native.Nat.{_<_};
 ghost use lib.ListN.{getD};
 ghost use Rattle.plans.specs.StepFrames.{operandAt, lookupAt};
 ghost use Rattle.join_tests.specs.Arrays.{boundIn};
-ghost use Rattle.join_tests.specs.Lookups.{opSeen, reprSeen, operandSeen, positionSeen, lookupSeen, seenIn, lookupsOf};
+ghost use Rattle.join_tests.specs.Lookups.{opSeen, reprSeen, operandSeen, positionSeen, lookupSeen, noneSeen, seenIn, lookupsOf};
 use super::arrays::is_bound;
 use super::arrays::is_given;
 use fields::field::wide;
@@ -19,19 +18,24 @@ pub struct Seen {
     // whether all that is read is bound, and all globals have classes
     pub read: bool,
     pub given: bool,
-    // whether a ByRepr names the target
-    pub named: bool,
+    // whether the target is unbound, or a ByRepr names it
+    pub free: bool,
     // the largest position of a ByChildPos and 3, or 0
     pub reach: usize,
 }
 
-fn both(a: bool, b: bool) -> bool
-    ensures { λ r. ⌜ r ≡ (a && b) ⌝ }
+// Before the first lookup.
+fn none_seen(target: u8, marks: &[u16]) -> Seen
+    ensures { λ r. ⌜ r ≡ noneSeen (boundIn (now (marks .entry))) target ⌝ }
 {
-    if a {
-        return b;
+    Seen {
+        ops: 0,
+        op: 0,
+        read: true,
+        given: true,
+        free: !is_bound(marks, target),
+        reach: 0,
     }
-    false
 }
 
 fn op_seen(s: Seen, op: u8) -> Seen
@@ -50,9 +54,9 @@ fn repr_seen(s: Seen, u: u8, target: u8, marks: &[u16]) -> Seen
     ensures { λ r. ⌜ r ≡ reprSeen (boundIn (now (marks .entry))) target s u ⌝ }
 {
     let mut t = s;
-    t.read = both(s.read, is_bound(marks, u));
+    t.read = s.read & is_bound(marks, u);
     if u == target {
-        t.named = true;
+        t.free = true;
     }
     t
 }
@@ -65,10 +69,10 @@ fn operand_seen(s: Seen, frame: &[u8], i: usize, marks: &[u16], globals: &[u16])
     let mut t = s;
     let index = byte_at(frame, i + 1);
     if byte_at(frame, i) == 0 {
-        t.read = both(s.read, is_bound(marks, index));
+        t.read = s.read & is_bound(marks, index);
         return t;
     }
-    t.given = both(s.given, is_given(globals, index));
+    t.given = s.given & is_given(globals, index);
     t
 }
 
@@ -109,14 +113,7 @@ pub fn lookups_seen(frame: &[u8], marks: &[u16], globals: &[u16]) -> Seen
 {
     let target = byte_at(frame, 1);
     let n = wide(byte_at(frame, 3));
-    let mut s = Seen {
-        ops: 0,
-        op: 0,
-        read: true,
-        given: true,
-        named: false,
-        reach: 0,
-    };
+    let mut s = none_seen(target, marks);
     let mut k: usize = 0;
     while k < n {
         s = lookup_seen(s, frame, 4 + 4 * k, target, marks, globals);

@@ -1,7 +1,7 @@
 -- The tests of a Join give the fault that the definition gives, and so do those of any step. Proved from what was seen of the lookups.
 use Prim.Native.Nat.{ℕ}
 use mathlib.Core.Path.{_≡_, refl, sym, _∙_, ap}
-use mathlib.Core.Bool.{Bool, true, false, _&&_, not, and-true, and-assoc}
+use mathlib.Core.Bool.{Bool, true, false, _&&_, _||_, not, and-true, and-assoc, or-true, or-false}
 use mathlib.Core.List.{List, [], _∷_, _++_, flatMap}
 use lib.Dec.{eqb}
 use lib.ListN.{getD}
@@ -19,7 +19,7 @@ use Rattle.join_tests.specs.Arrays.{boundIn, pickedIn, opsIn, given, reachFits}
 use Rattle.join_tests.specs.Lookups.{lookupsOf, operandSeen, lookupSeen, noneSeen, seenIn, seenFault, joinTested}
 use Rattle.join_tests.specs.declared.lookups.Seen.{Seen}
 use Rattle.join_tests.specs.declared.joins.Tested.{Tested}
-use Rattle.join_tests.proofs.SeenLaws.{seen-all, seen-read, seen-named, seen-ops, seen-op, seen-reach, fitsIn}
+use Rattle.join_tests.proofs.SeenLaws.{seen-all, seen-read, seen-free, seen-ops, seen-op, seen-reach, fitsIn}
 use Rattle.step_tests.specs.declared.simple.Simple.{Simple}
 use Rattle.step_tests.specs.Steps.{Described, simple, simpleFault}
 use Rattle.validation.specs.Steps.{StepTested}
@@ -49,7 +49,7 @@ module _ (tb : Table) (F G : List ℕ) (d : Described tb F G) where
 
     seen-given : (ls : List Lookup) → seenIn B G v ls .given ≡ allGiven tb (flatMap lookupGlobals ls)
     unfolding allGiven flatMap
-    seen-given = seen-all B G v (λ s. s .given) (λ l. allGiven tb (lookupGlobals l)) (λ ls. allGiven tb (flatMap lookupGlobals ls)) refl (λ l ls. given-both (lookupGlobals l) (flatMap lookupGlobals ls)) lookup-given noneSeen
+    seen-given = seen-all B G v (λ s. s .given) (λ l. allGiven tb (lookupGlobals l)) (λ ls. allGiven tb (flatMap lookupGlobals ls)) refl (λ l ls. given-both (lookupGlobals l) (flatMap lookupGlobals ls)) lookup-given (noneSeen B v)
 
     fits-more : (o : ℕ) (l : Lookup) (ls : List Lookup) → lookupsFit tb o (l ∷ ls) ≡ fitsIn B G v (getD F o 0) l && lookupsFit tb o ls
     unfolding lookupsFit
@@ -62,16 +62,16 @@ module _ (tb : Table) (F G : List ℕ) (d : Described tb F G) where
     unfolding lookupsFit
     seen-fits o = seen-reach B G v (getD F o 0) (lookupsFit tb o) refl (fits-more o)
 
-    pub join-same : (R : Bound) (O : List ℕ) (k : ℕ) (ls : List Lookup) → seenFault F B v (seenIn B G v ls) ≡ stepFault tb B R O (Join v k ls)
+    pub join-same : (R : Bound) (O : List ℕ) (k : ℕ) (ls : List Lookup) → seenFault F (seenIn B G v ls) ≡ stepFault tb B R O (Join v k ls)
     unfolding hasAll hasNone
     join-same R O k ls =
-        rw (seen-ops B G v ls, seen-read B G v ls, seen-named B G v ls, seen-op B G v ls, seen-fits (joinOp ls) ls, seen-given ls)
+        rw (seen-ops B G v ls, seen-read B G v ls, seen-free B G v ls, seen-op B G v ls, seen-fits (joinOp ls) ls, seen-given ls)
         (by (hasAll B (flatMap lookupReads ls)) (namedByRepr v ls) (eqb (countOps ls) 1) (pick (lookupsFit tb (joinOp ls) ls) (pick (allGiven tb (flatMap lookupGlobals ls)) 0 5) 11))
       where
-        by : (r n c : Bool) (x : ℕ) → pick c (pick r (pick (pick n true (not (has B v))) x 9) 9) 10 ≡ pick c (pick (r && (hasNone B (one (not n) v) && true)) x 9) 10
+        by : (r n c : Bool) (x : ℕ) → pick c (pick r (pick (not (has B v) || n) x 9) 9) 10 ≡ pick c (pick (r && (hasNone B (one (not n) v) && true)) x 9) 10
         by false n c x = refl
-        by true false c x = rw (and-true (not (has B v) && true), and-true (not (has B v)))
-        by true true c x = refl
+        by true false c x = rw (or-false (not (has B v)), and-true (not (has B v) && true), and-true (not (has B v)))
+        by true true c x = rw (or-true (not (has B v)))
 
 -- ---- a frame
 
