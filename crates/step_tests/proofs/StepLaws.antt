@@ -9,14 +9,14 @@ use lib.Dec.{eqb, leb, ltb}
 use lib.ListN.{length, getD}
 use borrow.Author.Tests.{ne-eqb, lt-ltb, le-ltb, le-leb, lt-leb, not-true, not-false}
 use Rattle.base.specs.Choose.{pick}
-use Rattle.model.specs.Atoms.{local, global, wild, Step, Join, ExtractChild, CheckChildEq, CheckEq, CheckEqGlobal, BindGlobal, CopyBinding, Expand, ExtractLitVal, CheckLit, CheckPred, Row, Node, Literal, unset, Table, rows, globalClass, isJoin}
+use Rattle.model.specs.Atoms.{local, global, wild, Step, Join, ExtractChild, CheckChildEq, CheckEq, CheckEqGlobal, BindGlobal, CopyBinding, Expand, ExtractLitVal, CheckLit, CheckPred, Row, Node, Literal as LiteralRow, unset, Table, rows, globalClass, isJoin}
 use Rattle.model.specs.Bound.{Bound, has, hasAll, hasNone}
 use Rattle.model.specs.Refusing.{allRows, isLiteral, hasChild, opAt}
 use Rattle.plans.specs.StepFrames.{stepOf}
 use Rattle.running.specs.Validation.{allGiven, stepFault}
 use Rattle.join_tests.specs.Arrays.{shapeOf, given, reachOf}
 use Rattle.step_tests.specs.declared.simple.Simple.{Simple}
-use Rattle.step_tests.specs.declared.simple.Simple.the-variants.{Extract, ChildLocal, ChildGlobal, Equal, EqualGlobal, Bind, Copy, ReadLit, NotRun}
+use Rattle.step_tests.specs.declared.simple.Simple.the-variants.{Child, ChildGlobal, Pair, Global, Literal, NotRun}
 use Rattle.step_tests.specs.Steps.{Described, childFits, literalFits, simple, childFault, literalFault, simpleFault}
 
 -- ---- choices
@@ -46,36 +46,36 @@ pub ruleset choices = (fails, passes, hits, misses, differs, agrees)
 
 module _ (f : List ℕ) (k a : ℕ) (is : k ≡ getD f 0 0) (ea : a ≡ getD f 1 0) where
   module _ (b : ℕ) (eb : b ≡ getD f 2 0) where
-    pub is-extract : (d : ℕ) → k ≡ 0x41 → d ≡ getD f 3 0 → Extract a b d ≡ simple (stepOf f)
+    pub is-extract : (d : ℕ) → k ≡ 0x41 → d ≡ getD f 3 0 → Child b d a false ≡ simple (stepOf f)
     unfolding stepOf
     is-extract d h e = rw (← is, h, ea, eb, e)
 
-    pub is-equal : k ≡ 0x43 → Equal a b ≡ simple (stepOf f)
+    pub is-equal : k ≡ 0x43 → Pair a b true ≡ simple (stepOf f)
     unfolding stepOf
     is-equal h = rw (← is, h, ea, eb)
 
-    pub is-equal-global : k ≡ 0x44 → EqualGlobal a b ≡ simple (stepOf f)
+    pub is-equal-global : k ≡ 0x44 → Global b a true ≡ simple (stepOf f)
     unfolding stepOf
     is-equal-global h = rw (← is, h, ea, eb)
 
-    pub is-bind : k ≡ 0x45 → Bind a b ≡ simple (stepOf f)
+    pub is-bind : k ≡ 0x45 → Global b a false ≡ simple (stepOf f)
     unfolding stepOf
     is-bind h = rw (← is, h, ea, eb)
 
-    pub is-copy : k ≡ 0x46 → Copy a b ≡ simple (stepOf f)
+    pub is-copy : k ≡ 0x46 → Pair b a false ≡ simple (stepOf f)
     unfolding stepOf
     is-copy h = rw (← is, h, ea, eb)
 
-  pub is-extract-lit : k ≡ 0x4a → ReadLit a ≡ simple (stepOf f)
+  pub is-extract-lit : k ≡ 0x4a → Literal a ≡ simple (stepOf f)
   unfolding stepOf
   is-extract-lit h = rw (← is, h, ea)
 
-  pub is-check-lit : k ≡ 0x4b → ReadLit a ≡ simple (stepOf f)
+  pub is-check-lit : k ≡ 0x4b → Literal a ≡ simple (stepOf f)
   unfolding stepOf
   is-check-lit h = rw (← is, h, ea)
 
 module _ (f : List ℕ) (p i t v : ℕ) (k : getD f 0 0 ≡ 0x42) (ep : p ≡ getD f 1 0) (ei : i ≡ getD f 2 0) (et : t ≡ getD f 3 0) (ev : v ≡ getD f 4 0) where
-  pub is-child-local : t ≡ 0 → ChildLocal p i v ≡ simple (stepOf f)
+  pub is-child-local : t ≡ 0 → Child p i v true ≡ simple (stepOf f)
   unfolding stepOf
   is-child-local h = rw (k, ← et, h, ep, ei, ev)
 
@@ -104,11 +104,11 @@ child-by i (Node c o ds) = by (decLt i (length ds))
     by : Dec (i < length ds) → ltb i (length ds) ≡ leb (i + 3) (2 + length ds)
     by (yes h) = rw (lt-ltb i (length ds) h, le-leb (i + 3) (2 + length ds) (omega arith))
     by (no h) = rw (le-ltb i (length ds) (omega arith), lt-leb (i + 3) (2 + length ds) (omega arith))
-child-by i (Literal c o x) = rw (le-ltb i 0 (omega arith), lt-leb (i + 3) 1 (omega arith))
+child-by i (LiteralRow c o x) = rw (le-ltb i 0 (omega arith), lt-leb (i + 3) 1 (omega arith))
 
 literal-by : (r : Row) → isLiteral r ≡ eqb 1 (shapeOf r)
 literal-by (Node c o ds) = sym (ne-eqb 1 (2 + length ds) (λ e. omega arith))
-literal-by (Literal c o x) = refl
+literal-by (LiteralRow c o x) = refl
 
 module _ (tb : Table) (F G : List ℕ) (d : Described tb F G) where
   pub child-same : (i o : ℕ) → allRows (hasChild i) o (rows tb) ≡ childFits F o i
@@ -136,7 +136,7 @@ module _ (tb : Table) (F G : List ℕ) (d : Described tb F G) where
   simple-same B R O (Join v k ls) h = let z : _≡_ {A = ℕ} 0 1 = cc in absurd (omega arith)
   simple-same B R O (ExtractChild v p i) h = rw (child-same tb F G d i (opAt O p)) (by (has B p) (has R p) (has B v))
     where
-      by : (a r b : Bool) → pick (pick a r false) (pick b 9 (childFault F O p i)) 9 ≡ pick ((a && true) && ((not b && true) && (r && true))) (childFault F O p i) 9
+      by : (a r b : Bool) → pick (pick a r false) (pick (not b) (childFault F O p i) 9) 9 ≡ pick ((a && true) && ((not b && true) && (r && true))) (childFault F O p i) 9
       by false r b = refl
       by true true true = refl
       by true true false = refl
@@ -178,13 +178,13 @@ module _ (tb : Table) (F G : List ℕ) (d : Described tb F G) where
       by true false = refl
   simple-same B R O (BindGlobal v g) h = rw (given-same tb F G d g) (by (has B v) (given G g))
     where
-      by : (x y : Bool) → _≡_ {A = ℕ} (pick x 9 (pick y 0 5)) (pick (true && ((not x && true) && true)) (pick (y && true) 0 5) 9)
+      by : (x y : Bool) → _≡_ {A = ℕ} (pick (not x) (pick y 0 5) 9) (pick (true && ((not x && true) && true)) (pick (y && true) 0 5) 9)
       by true y = refl
       by false true = refl
       by false false = refl
   simple-same B R O (CopyBinding v o) h = by (has B o) (has B v)
     where
-      by : (x y : Bool) → _≡_ {A = ℕ} (pick x (pick y 9 0) 9) (pick ((x && true) && ((not y && true) && true)) 0 9)
+      by : (x y : Bool) → _≡_ {A = ℕ} (pick x (pick (not y) 0 9) 9) (pick ((x && true) && ((not y && true) && true)) 0 9)
       by false y = refl
       by true true = refl
       by true false = refl

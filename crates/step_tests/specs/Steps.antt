@@ -11,7 +11,7 @@ use Rattle.model.specs.Bound.{Bound, has}
 use Rattle.model.specs.Refusing.{opAt}
 use Rattle.join_tests.specs.Arrays.{fitsShape, Shaped, reachFits, reachOf, given}
 use Rattle.step_tests.specs.declared.simple.Simple.{Simple}
-use Rattle.step_tests.specs.declared.simple.Simple.the-variants.{Extract, ChildLocal, ChildGlobal, Equal, EqualGlobal, Bind, Copy, ReadLit, NotRun}
+use Rattle.step_tests.specs.declared.simple.Simple.the-variants.{Child, ChildGlobal, Pair, Global, Literal, NotRun}
 
 -- ---- the arrays of a table
 
@@ -32,22 +32,25 @@ literalFits F o = fitsShape (eqb 1) (getD F o 0)
 
 -- ---- the steps
 
--- what the tests ask of a step other than a Join; NotRun: "steps 47, 48, 49, 4c"; a wildcard, which
--- no frame has, asks for the parent alone
+-- what the tests ask of a step other than a Join; NotRun: "steps 47, 48, 49, 4c"; a wildcard, which no frame has, asks for the parent alone
 abbrev pub simple : Step → Simple
 simple (Join v k ls) = NotRun
-simple (ExtractChild v p i) = Extract v p i
-simple (CheckChildEq p i (local v)) = ChildLocal p i v
+simple (ExtractChild v p i) = Child p i v false
+simple (CheckChildEq p i (local v)) = Child p i v true
 simple (CheckChildEq p i (global g)) = ChildGlobal p i g
-simple (CheckChildEq p i wild) = ChildLocal p i p
-simple (CheckEq a b) = Equal a b
-simple (CheckEqGlobal a g) = EqualGlobal a g
-simple (BindGlobal v g) = Bind v g
-simple (CopyBinding v o) = Copy v o
+simple (CheckChildEq p i wild) = Child p i p true
+simple (CheckEq a b) = Pair a b true
+simple (CheckEqGlobal a g) = Global g a true
+simple (BindGlobal v g) = Global g v false
+simple (CopyBinding v o) = Pair o v false
 simple (Expand n cs f) = NotRun
-simple (ExtractLitVal n l) = ReadLit n
-simple (CheckLit n x) = ReadLit n
+simple (ExtractLitVal n l) = Literal n
+simple (CheckLit n x) = Literal n
 simple (CheckPred g) = NotRun
+
+-- v is bound, or unbound, as is asked
+abbrev pub meetsBound : Bound → ℕ → Bool → Bool
+meetsBound B v bound = pick bound (has B v) (not (has B v))
 
 -- the row of p is read: bound, and picked by a Join
 abbrev pub rowRead : Bound → Bound → ℕ → Bool
@@ -67,38 +70,26 @@ globalFault G g = pick (given G g) 0 5
 
 -- 9, 11 and 5 of each of these steps: "step reads an unbound variable, binds a bound one .., or reads the row of a variable not picked by a Join",
 -- "position or literal unlike its rows", "a used global without frame 32"
-abbrev pub extractFault : List ℕ → Bound → Bound → List ℕ → ℕ → ℕ → ℕ → ℕ
-extractFault F B R O v p i = pick (rowRead B R p) (pick (has B v) 9 (childFault F O p i)) 9
-
-abbrev pub localFault : List ℕ → Bound → Bound → List ℕ → ℕ → ℕ → ℕ → ℕ
-localFault F B R O p i v = pick (rowRead B R p) (pick (has B v) (childFault F O p i) 9) 9
+abbrev pub childStepFault : List ℕ → Bound → Bound → List ℕ → ℕ → ℕ → ℕ → Bool → ℕ
+childStepFault F B R O p i v bound = pick (rowRead B R p) (pick (meetsBound B v bound) (childFault F O p i) 9) 9
 
 abbrev pub childGlobalFault : List ℕ → List ℕ → Bound → Bound → List ℕ → ℕ → ℕ → ℕ → ℕ
 childGlobalFault F G B R O p i g = pick (rowRead B R p) (pick (eqb (childFault F O p i) 0) (globalFault G g) 11) 9
 
-abbrev pub equalFault : Bound → ℕ → ℕ → ℕ
-equalFault B a b = pick (has B a) (pick (has B b) 0 9) 9
+abbrev pub pairFault : Bound → ℕ → ℕ → Bool → ℕ
+pairFault B a v bound = pick (has B a) (pick (meetsBound B v bound) 0 9) 9
 
-abbrev pub equalGlobalFault : List ℕ → Bound → ℕ → ℕ → ℕ
-equalGlobalFault G B a g = pick (has B a) (globalFault G g) 9
+abbrev pub globalStepFault : List ℕ → Bound → ℕ → ℕ → Bool → ℕ
+globalStepFault G B g v bound = pick (meetsBound B v bound) (globalFault G g) 9
 
-abbrev pub bindFault : List ℕ → Bound → ℕ → ℕ → ℕ
-bindFault G B v g = pick (has B v) 9 (globalFault G g)
-
-abbrev pub copyFault : Bound → ℕ → ℕ → ℕ
-copyFault B v o = pick (has B o) (pick (has B v) 9 0) 9
-
-abbrev pub readLitFault : List ℕ → Bound → Bound → List ℕ → ℕ → ℕ
-readLitFault F B R O n = pick (rowRead B R n) (literalFault F O n) 9
+abbrev pub literalStepFault : List ℕ → Bound → Bound → List ℕ → ℕ → ℕ
+literalStepFault F B R O n = pick (rowRead B R n) (literalFault F O n) 9
 
 -- "steps 47, 48, 49, 4c" are 10
 abbrev pub simpleFault : List ℕ → List ℕ → Bound → Bound → List ℕ → Simple → ℕ
-simpleFault F G B R O (Extract v p i) = extractFault F B R O v p i
-simpleFault F G B R O (ChildLocal p i v) = localFault F B R O p i v
+simpleFault F G B R O (Child p i v bound) = childStepFault F B R O p i v bound
 simpleFault F G B R O (ChildGlobal p i g) = childGlobalFault F G B R O p i g
-simpleFault F G B R O (Equal a b) = equalFault B a b
-simpleFault F G B R O (EqualGlobal a g) = equalGlobalFault G B a g
-simpleFault F G B R O (Bind v g) = bindFault G B v g
-simpleFault F G B R O (Copy v o) = copyFault B v o
-simpleFault F G B R O (ReadLit n) = readLitFault F B R O n
+simpleFault F G B R O (Pair a v bound) = pairFault B a v bound
+simpleFault F G B R O (Global g v bound) = globalStepFault G B g v bound
+simpleFault F G B R O (Literal n) = literalStepFault F B R O n
 simpleFault F G B R O NotRun = 10

@@ -2,8 +2,9 @@
 ghost use mathlib.Core.Path.{_≡_};
 ghost use Rattle.model.specs.Refusing.{opAt};
 ghost use Rattle.join_tests.specs.Arrays.{boundIn, pickedIn, opsIn};
-ghost use Rattle.step_tests.specs.Steps.{literalFits, rowRead, childFault, literalFault, globalFault};
+ghost use Rattle.step_tests.specs.Steps.{meetsBound, rowRead, childFault, literalFault, globalFault};
 use fields::field::wide;
+use join_tests::arrays::is_bound;
 use join_tests::arrays::is_given;
 use join_tests::arrays::mark_at;
 use join_tests::arrays::reach_fits;
@@ -14,6 +15,16 @@ pub fn row_read(p: u8, marks: &[u16]) -> bool
     ensures { λ r. ⌜ r ≡ rowRead (boundIn (now (marks .entry))) (pickedIn (now (marks .entry))) p ⌝ }
 {
     1 < mark_at(marks, p)
+}
+
+// Whether a variable is bound, or unbound, as is asked.
+pub fn meets(v: u8, bound: bool, marks: &[u16]) -> bool
+    ensures { λ r. ⌜ r ≡ meetsBound (boundIn (now (marks .entry))) v bound ⌝ }
+{
+    if bound {
+        return is_bound(marks, v);
+    }
+    !is_bound(marks, v)
 }
 
 // The operator of a variable's row, 0 where no Join picked it.
@@ -27,17 +38,6 @@ fn op_of(v: u8, marks: &[u16]) -> usize
     (mark - 2) as usize
 }
 
-// Whether every row of an operator is a literal.
-fn literal_fits(shapes: &[usize], op: usize) -> bool
-    ensures { λ r. ⌜ r ≡ literalFits (now (shapes .entry)) op ⌝ }
-{
-    let shape = shape_at(shapes, op);
-    if shape == 0 {
-        return true;
-    }
-    1 == shape
-}
-
 // The fault of a child of a variable's row.
 pub fn child_fault(p: u8, position: u8, marks: &[u16], shapes: &[usize]) -> u8
     ensures { λ r. ⌜ r ≡ childFault (now (shapes .entry)) (opsIn (now (marks .entry))) p position ⌝ }
@@ -48,11 +48,11 @@ pub fn child_fault(p: u8, position: u8, marks: &[u16], shapes: &[usize]) -> u8
     11
 }
 
-// The fault of the literal of a variable's row.
+// The fault of the literal of a variable's row: its operator has no row, or shape 1.
 pub fn literal_fault(n: u8, marks: &[u16], shapes: &[usize]) -> u8
     ensures { λ r. ⌜ r ≡ literalFault (now (shapes .entry)) (opsIn (now (marks .entry))) n ⌝ }
 {
-    if literal_fits(shapes, op_of(n, marks)) {
+    if shape_at(shapes, op_of(n, marks)) < 2 {
         return 0;
     }
     11
