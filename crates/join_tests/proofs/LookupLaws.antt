@@ -1,18 +1,16 @@
 -- The lookups of a Join's frame, one after another. Proved by the lookup's tag, and by induction on how many.
 use Prim.Native.Nat.{ℕ, suc, _+_, _-_, _*_, _<_, _≤_}
 use mathlib.Core.Path.{_≡_, refl, sym, _∙_, ap}
-use mathlib.Core.Bool.{Bool, true, false, _&&_, _||_, not, or-true, or-false}
+use mathlib.Core.Bool.{Bool, true, false, _&&_, not, or-true, or-false}
 use mathlib.Core.List.{List, [], _∷_}
 use native.Mathlib.Omega.{arith}
-use lib.Dec.{eqb, ltb}
 use lib.ListN.{getD}
 use borrow.Author.Tests.{eq-eqb, ne-eqb, lt-ltb, le-ltb, not-true, not-false}
-use Rattle.base.specs.Choose.{pick}
 use Rattle.model.specs.Atoms.{Operand, local, global, wild, Lookup, ByOp, ByChildPos, ByRepr, ByContains}
 use Rattle.model.specs.Bound.{Bound, has}
 use Rattle.plans.specs.StepFrames.{operandAt, lookupAt, itemsAt}
-use Rattle.join_tests.specs.Arrays.{given, reachFits, reachOf}
-use Rattle.join_tests.specs.Lookups.{lookupsOf, opSeen, reprSeen, localSeen, globalSeen, operandSeen, larger, positionSeen, lookupSeen, noneSeen, seenFrom, seenIn, seenFault, joinTested}
+use Rattle.join_tests.specs.Arrays.{given, reachFits}
+use Rattle.join_tests.specs.Lookups.{lookupsOf, opSeen, reprSeen, operandSeen, positionSeen, lookupSeen, noneSeen, seenFrom, seenIn, seenFault, joinTested}
 use Rattle.join_tests.specs.declared.lookups.Seen.{Seen}
 use Rattle.join_tests.specs.declared.joins.Tested.{Tested}
 

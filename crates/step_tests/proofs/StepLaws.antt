@@ -1,8 +1,8 @@
 -- The tests of a step other than a Join give the fault that the definition gives. Proved by the step's kind.
 use Prim.Native.Nat.{ℕ, _+_, _<_}
-use mathlib.Core.Path.{_≡_, refl, sym, _∙_, ap}
+use mathlib.Core.Path.{_≡_, refl, sym}
 use mathlib.Core.Bool.{Bool, true, false, _&&_, not}
-use mathlib.Core.List.{List, [], _∷_}
+use mathlib.Core.List.{List}
 use native.Mathlib.Omega.{arith}
 use native.Mathlib.Decide.{decLt}
 use lib.Dec.{eqb, leb, ltb}
@@ -42,7 +42,7 @@ agrees a d r k x e h g = rw (← e, h) g
 
 pub ruleset choices = (fails, passes, hits, misses, differs, agrees)
 
--- ---- a step by its line
+-- ---- a step by its frame
 
 module _ (f : List ℕ) (k a : ℕ) (is : k ≡ getD f 0 0) (ea : a ≡ getD f 1 0) where
   module _ (b : ℕ) (eb : b ≡ getD f 2 0) where

@@ -4,13 +4,13 @@ use mathlib.Core.Path.{_≡_, refl, sym, _∙_, ap}
 use mathlib.Core.Bool.{Bool, true, false, not}
 use mathlib.Core.List.{List, [], _∷_, map}
 use native.Mathlib.Omega.{arith}
-use lib.Dec.{eqb, ltb}
+use lib.Dec.{eqb}
 use lib.ListN.{length, getD, set, length-set}
 use borrow.Author.Tests.{eq-eqb, ne-eqb, lt-ltb, eqb-true, not-true, not-false}
 use Rattle.base.specs.Choose.{pick}
 use Rattle.model.specs.Atoms.{Step, Join, ExtractChild, CheckChildEq, CheckEq, CheckEqGlobal, BindGlobal, CopyBinding, Expand, ExtractLitVal, CheckLit, CheckPred, isJoin}
 use Rattle.model.specs.Bools.{true-false}
-use Rattle.model.specs.Bound.{Bound, add, put, put-set}
+use Rattle.model.specs.Bound.{Bound, add, put}
 use Rattle.model.specs.Reading.{boundBy, pickedBy}
 use Rattle.model.specs.Refusing.{joinOp, runnable, opsBy}
 use Rattle.plans.specs.StepFrames.{stepOf}
@@ -77,7 +77,7 @@ keeps-ops (ExtractLitVal n l) O h = refl
 keeps-ops (CheckLit n x) O h = refl
 keeps-ops (CheckPred g) O h = refl
 
--- ---- a line
+-- ---- a frame
 
 -- a choice of two steps that bind nothing, where they are run
 binds-none : (B : Bound) (t : Bool) (s u : Step) → (runnable s ≡ true → B ≡ boundBy s B) → (runnable u ≡ true → B ≡ boundBy u B) → runnable (pick t s u) ≡ true → B ≡ boundBy (pick t s u) B

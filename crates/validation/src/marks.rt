@@ -1,7 +1,6 @@
 // What a step leaves: the marks of the variables that it binds, and of the one that a Join picks.
 ghost use mathlib.Core.Path.{_≡_};
-ghost use Prim.Native.Nat.{_+_, _<_};
-ghost use lib.ListN.{length, getD, set};
+ghost use Prim.Native.Nat.{_+_};
 ghost use Rattle.validation.specs.Marks.{bindsTarget, boundMark, Markable, Stepped};
 use fields::field::wide;
 use hex::byte_at;

@@ -1,5 +1,4 @@
 // The tests of one frame of the plan: a Join, or another step.
-ghost use mathlib.Core.Path.{_≡_};
 ghost use Rattle.validation.specs.Steps.{StepTested};
 use hex::byte_at;
 use join_tests::joins::Tested;

@@ -1,41 +1,30 @@
+-- `join_tests::joins::seen_fault` meets its contract: the first test that fails.
 use Rattle.join_tests.proofs.LookupLaws.{fault-10, fault-9, fault-9-target, fault-11, fault-5, fault-0}
 use borrow.Author.Needs.{needs}
 use Rattle.join_tests.proofs.joins.seen_fault.Statement.{statement}
 use Rattle.join_tests.proofs.joins.seen_fault.Tie as tie
-use Rattle.join_tests.proofs.joins.seen_fault.Reads as reads
-use Rattle.join_tests.proofs.joins.seen_fault.Lts as lts
-use Rattle.fields.proofs.field.wide.Reads as wide-reads
-use Rattle.join_tests.proofs.arrays.reach_fits.Reads as reach-fits-reads
 
--- src/joins.rt:21:9
 returns : tie.Need-returns
 returns c = search fault-10
 
--- src/joins.rt:24:9
 returns-2 : tie.Need-returns-2
 returns-2 c = search fault-9
 
--- src/joins.rt:27:9
 returns-3 : tie.Need-returns-3
 returns-3 c = search fault-9-target
 
--- src/joins.rt:29:28
 wide-requires : tie.Need-wide-requires
 wide-requires c κs = search needs
 
--- src/joins.rt:29:9
 reach-fits-requires : tie.Need-reach-fits-requires
 reach-fits-requires c κs = search needs
 
--- src/joins.rt:30:9
 returns-4 : tie.Need-returns-4
 returns-4 c = search fault-11
 
--- src/joins.rt:33:9
 returns-5 : tie.Need-returns-5
 returns-5 c = search fault-5
 
--- src/joins.rt:17:1
 returns-6 : tie.Need-returns-6
 returns-6 c = search fault-0
 

@@ -1,3 +1,4 @@
+-- `join_tests::lookups::lookups_seen` meets its contract: those left give the rest.
 use borrow.Author.Needs.{needs}
 use Rattle.join_tests.proofs.LookupLaws.{Seeing, seeing-none, seeing-again, seeing-all}
 use Rattle.join_tests.specs.Arrays.{boundIn}
@@ -5,12 +6,6 @@ use Prim.Native.Nat.{_-_}
 use native.Mathlib.Omega.{arith}
 use Rattle.join_tests.proofs.lookups.lookups_seen.Statement.{statement}
 use Rattle.join_tests.proofs.lookups.lookups_seen.Tie as tie
-use Rattle.join_tests.proofs.lookups.lookups_seen.Reads as reads
-use Rattle.join_tests.proofs.lookups.lookups_seen.Lts as lts
-use Rattle.fields.proofs.field.wide.Reads as wide-reads
-use Rattle.hex.proofs.byte_at.Reads as byte-at-reads
-use Rattle.join_tests.proofs.lookups.lookup_seen.Reads as lookup-seen-reads
-use Rattle.join_tests.proofs.lookups.none_seen.Reads as none-seen-reads
 
 abbrev Inv-loop : tie.InvT-loop
 Inv-loop frame marks globals target n s₀ k₀ s k = Seeing (boundIn marks) globals frame target n k s
@@ -18,51 +13,39 @@ Inv-loop frame marks globals target n s₀ k₀ s k = Seeing (boundIn marks) glo
 abbrev μ-loop : tie.MeasureT-loop
 μ-loop frame marks globals target n s₀ k₀ s k = n - k
 
--- src/lookups.rt:114:9
 byte-at-requires : tie.Need-byte-at-requires Inv-loop μ-loop
 byte-at-requires c κs = search needs
 
--- src/lookups.rt:115:18
 byte-at-requires-2 : tie.Need-byte-at-requires-2 Inv-loop μ-loop
 byte-at-requires-2 c κs = search needs
 
--- src/lookups.rt:115:9
 wide-requires : tie.Need-wide-requires Inv-loop μ-loop
 wide-requires c κs = search needs
 
--- src/lookups.rt:116:9
 none-seen-requires : tie.Need-none-seen-requires Inv-loop μ-loop
 none-seen-requires c κs = search needs
 
--- src/lookups.rt:118:5
 loop-holds : tie.Need-loop-holds Inv-loop μ-loop
 loop-holds c = search seeing-none
 
--- src/lookups.rt:119:39
 mul-lookup-seen : tie.Need-mul-lookup-seen Inv-loop μ-loop
 mul-lookup-seen c = search needs
 
--- src/lookups.rt:119:35
 add-lookup-seen : tie.Need-add-lookup-seen Inv-loop μ-loop
 add-lookup-seen c = search needs
 
--- src/lookups.rt:119:9
 lookup-seen-requires : tie.Need-lookup-seen-requires Inv-loop μ-loop
 lookup-seen-requires c κs = (omega arith, omega (arith, c .before .loop .inv .low))
 
--- src/lookups.rt:120:9
 add-k : tie.Need-add-k Inv-loop μ-loop
 add-k c = search needs
 
--- src/lookups.rt:118:5
 loop-less : tie.Need-loop-less Inv-loop μ-loop
 loop-less c = search needs
 
--- src/lookups.rt:118:5
 loop-again : tie.Need-loop-again Inv-loop μ-loop
 loop-again c = search seeing-again
 
--- src/lookups.rt:111:1
 returns : tie.Need-returns Inv-loop μ-loop
 returns c = search seeing-all
 

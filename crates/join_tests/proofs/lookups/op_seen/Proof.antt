@@ -1,7 +1,6 @@
 -- `join_tests::lookups::op_seen` meets its contract: the first ByOp or a later one.
 use Rattle.join_tests.proofs.LookupLaws.{op-first, op-later}
 use native.Mathlib.Omega.{arith}
-use borrow.Author.Needs.{needs}
 use Rattle.join_tests.proofs.lookups.op_seen.Statement.{statement}
 use Rattle.join_tests.proofs.lookups.op_seen.Tie as tie
 

@@ -1,20 +1,15 @@
+-- `join_tests::lookups::repr_seen` meets its contract: the target or another variable.
 use Rattle.join_tests.proofs.LookupLaws.{repr-target, repr-other}
 use borrow.Author.Needs.{needs}
 use Rattle.join_tests.proofs.lookups.repr_seen.Statement.{statement}
 use Rattle.join_tests.proofs.lookups.repr_seen.Tie as tie
-use Rattle.join_tests.proofs.lookups.repr_seen.Reads as reads
-use Rattle.join_tests.proofs.lookups.repr_seen.Lts as lts
-use Rattle.join_tests.proofs.arrays.is_bound.Reads as is-bound-reads
 
--- src/lookups.rt:57:23
 is-bound-requires : tie.Need-is-bound-requires
 is-bound-requires c κs = search needs
 
--- src/lookups.rt:53:1
 returns : tie.Need-returns
 returns c = search repr-target
 
--- src/lookups.rt:53:1
 returns-2 : tie.Need-returns-2
 returns-2 c = search repr-other
 

@@ -1,80 +1,57 @@
+-- `step_tests::simple::simple_fault` meets its contract: by the step.
 use Rattle.step_tests.proofs.StepLaws.{arm}
 use borrow.Author.Needs.{needs}
 use Rattle.step_tests.proofs.simple.simple_fault.Statement.{statement}
 use Rattle.step_tests.proofs.simple.simple_fault.Tie as tie
-use Rattle.step_tests.proofs.simple.simple_fault.Reads as reads
-use Rattle.step_tests.proofs.simple.simple_fault.Lts as lts
-use Rattle.step_tests.proofs.simple.child_global_fault.Reads as child-global-fault-reads
-use Rattle.step_tests.proofs.simple.child_step_fault.Reads as child-step-fault-reads
-use Rattle.step_tests.proofs.simple.global_step_fault.Reads as global-step-fault-reads
-use Rattle.step_tests.proofs.simple.literal_step_fault.Reads as literal-step-fault-reads
-use Rattle.step_tests.proofs.simple.pair_fault.Reads as pair-fault-reads
 
--- src/simple.rt:143:23
 enum-known-s : tie.Need-enum-known-s
 enum-known-s c = search needs
 
--- src/simple.rt:143:42
 child-step-fault-requires : tie.Need-child-step-fault-requires
 child-step-fault-requires c κs = search needs
 
--- src/simple.rt:144:29
 enum-known-s-2 : tie.Need-enum-known-s-2
 enum-known-s-2 c = search needs
 
--- src/simple.rt:144:41
 child-global-fault-requires : tie.Need-child-global-fault-requires
 child-global-fault-requires c κs = search needs
 
--- src/simple.rt:145:22
 enum-known-s-3 : tie.Need-enum-known-s-3
 enum-known-s-3 c = search needs
 
--- src/simple.rt:145:38
 pair-fault-requires : tie.Need-pair-fault-requires
 pair-fault-requires c κs = search needs
 
--- src/simple.rt:146:24
 enum-known-s-4 : tie.Need-enum-known-s-4
 enum-known-s-4 c = search needs
 
--- src/simple.rt:146:40
 global-step-fault-requires : tie.Need-global-step-fault-requires
 global-step-fault-requires c κs = search needs
 
--- src/simple.rt:147:25
 enum-known-s-5 : tie.Need-enum-known-s-5
 enum-known-s-5 c = search needs
 
--- src/simple.rt:147:31
 literal-step-fault-requires : tie.Need-literal-step-fault-requires
 literal-step-fault-requires c κs = search needs
 
--- src/simple.rt:148:27
 enum-told : tie.Need-enum-told
 enum-told c = search needs
 
--- src/simple.rt:139:1
 returns : tie.Need-returns
 returns c = arm _ _ _ _ _ _ _ _ (c .before .before .s .given .1) (c .child-step-fault .ensures)
 
--- src/simple.rt:139:1
 returns-2 : tie.Need-returns-2
 returns-2 c = arm _ _ _ _ _ _ _ _ (c .before .before .s2 .given .1) (c .child-global-fault .ensures)
 
--- src/simple.rt:139:1
 returns-3 : tie.Need-returns-3
 returns-3 c = arm _ _ _ _ _ _ _ _ (c .before .before .s3 .given .1) (c .pair-fault .ensures)
 
--- src/simple.rt:139:1
 returns-4 : tie.Need-returns-4
 returns-4 c = arm _ _ _ _ _ _ _ _ (c .before .before .s4 .given .1) (c .global-step-fault .ensures)
 
--- src/simple.rt:139:1
 returns-5 : tie.Need-returns-5
 returns-5 c = arm _ _ _ _ _ _ _ _ (c .before .before .s5 .given .1) (c .literal-step-fault .ensures)
 
--- src/simple.rt:139:1
 returns-6 : tie.Need-returns-6
 returns-6 c = search needs
 
