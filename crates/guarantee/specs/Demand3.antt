@@ -47,7 +47,7 @@ pub demand3 : (x t : List ℕ) (n c : ℕ) → reading Query x ≡ Accepted n c 
 demand3 x t n c ok = finds x (planFor x) t n c ok (planner-fair x n c ok)
 
 -- A query of these kinds all of whose equalities its plan lowers is one that runs: nothing is asked of it that the plan does not show.
-pub lowered-runs : (x p : List ℕ) → FairPlan x p → ((a : Atom) → List·Memᴰ a (atomsOf x) → isRun a ≡ true) → EqualitiesLowered x p → Runs x
+pub lowered-runs : (x p : List ℕ) → ((a : Atom) → List·Memᴰ a (atomsOf x) → isRun a ≡ true) → EqualitiesLowered x p → Runs x
 lowered-runs = equalities-lowered
 
 -- The plan is the cause of no refusal: over a table in shape, with a class for every global that an atom names, the run is refused as the

@@ -12,7 +12,7 @@ use Rattle.model.specs.Scheduled.{mem-at}
 use Rattle.model.specs.Waiting.{isEq, Unbound, unboundEq, DepsBelow}
 use Rattle.model.specs.Unlowered.{never-lowered}
 use Rattle.plan_facts.specs.QueryPlans.{atomsOf}
-use Rattle.guarantee.specs.Terms.{FairPlan, EqualitiesLowered, Runs}
+use Rattle.guarantee.specs.Terms.{EqualitiesLowered, Runs}
 
 no-deps : (a : Atom) → isRun a ≡ true → (d : ℕ) → List·Memᴰ d (depsOf a) → ⊥
 no-deps (Plain n o cs) r d m = List·Memᴰ·not-nil m
@@ -23,8 +23,8 @@ no-deps (EqGlobal a g) r d m = List·Memᴰ·not-nil m
 no-deps (Pred g ds) r d m = subst T (sym r) tt
 no-deps (Variadic n o cs f) r d m = subst T (sym r) tt
 
-pub equalities-lowered : (x p : List ℕ) → FairPlan x p → ((a : Atom) → List·Memᴰ a (atomsOf x) → isRun a ≡ true) → EqualitiesLowered x p → Runs x
-equalities-lowered x p f run e = record {
+pub equalities-lowered : (x p : List ℕ) → ((a : Atom) → List·Memᴰ a (atomsOf x) → isRun a ≡ true) → EqualitiesLowered x p → Runs x
+equalities-lowered x p run e = record {
   kinds = run;
   lowered = λ a m u. let q = mem-at (atomsOf x) a m in
       true-false (e .all (q .place) (q .below) (ap isEq (sym (q .is)) ∙ u .is))

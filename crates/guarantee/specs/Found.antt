@@ -17,10 +17,9 @@ use Rattle.model.specs.Lists.{Pairs, pairs-map, pairs-of-map}
 use Rattle.model.specs.Atoms.{Step}
 use Rattle.model.specs.Bound.{has, blank}
 use Rattle.model.specs.Scheduling.{atomOf, schedule}
-use Rattle.model.specs.Running.{Env, runs, trace, founds, attempts}
+use Rattle.model.specs.Running.{Env, Event, runs, trace, founds, attempts}
 use Rattle.model.specs.Matching.{InShapes, GlobalsSet, Line, Counts, line, Given, Exact}
 use Rattle.model.specs.Limits.{Done, Played}
-use Rattle.model.specs.Traces.{founds-trace}
 use Rattle.model.specs.Limited.{ran}
 use Rattle.model.specs.Carried.{EnvHas, runs-have}
 use Rattle.model.specs.Lines.{number-in}
@@ -64,11 +63,11 @@ module _ (p t : List ℕ) (n : Counts) (ss : List Step) (steps : planSteps p ≡
   events-are = rw steps
 
   lines-are : allLines p t ≡ map (line n) (founds (trace (tableOf t) none ss unbound))
-  lines-are = rw (events-are, counts)
+  lines-are = ap (λ (es : List Event). map (line (lineCounts p)) (founds es)) events-are ∙ ap (λ (c : Counts). map (line c) (founds (trace (tableOf t) none ss unbound))) counts
 
   run-is : validation p t ≡ Passed → (A : ℕ) (o : List ℕ) → run p t A o ≡ result (ran lineText n (tableOf t) none ss unbound A o)
   unfolding run
-  run-is h A o = rw (h, events-are, counts)
+  run-is h A o = rw (h, events-are) (ap (λ (c : Counts). result (ran lineText c (tableOf t) none ss unbound A o)) counts)
 
 -- ---- an accepted query that runs, a plan of it by a fair choice, a table in shape, both not refused
 
@@ -109,11 +108,11 @@ module _ (x p t : List ℕ) (n c : ℕ) (ok : reading Query x ≡ Accepted n c) 
           }
 
   -- no two lines that are found have the same text
-  texts-apart : (ls : List Line) → ls ≡ map (line (lineOf x)) (runs (tableOf t) none (fairSteps f) unbound) → Exact (tableOf t) none (lineOf x) (atomsOf x) ls → Pairs _≢_ (map lineText ls)
-  texts-apart ls e g = pairs-of-map lineText ls (pairs-map ls (λ y z i j ne s. ne (line-one y z (sized y i) (sized z j) (g .sound y i .width ∙ sym (g .sound z j .width)) (g .sound y i .depth ∙ sym (g .sound z j .depth)) s)) (g .once))
+  texts-apart : (ls : List Line) → Exact (tableOf t) none (lineOf x) (atomsOf x) ls → Pairs _≢_ (map lineText ls)
+  texts-apart ls g = pairs-of-map lineText ls (pairs-map ls (λ y z i j ne s. ne (line-one y z (sized y i) (sized z j) (g .sound y i .width ∙ sym (g .sound z j .width)) (g .sound y i .depth ∙ sym (g .sound z j .depth)) s)) (g .once))
     where
       sized : (y : Line) → List·Memᴰ y ls → LineSized y
-      sized y i = found-sized y (subst (List·Memᴰ y) e i)
+      sized y i = found-sized y (lines-exact .complete y (g .sound y i))
 
   pub finds : (A : ℕ) (o : List ℕ) → Enough p t A o → Finds x p t o (run p t A o)
   finds A o e =
@@ -126,7 +125,7 @@ module _ (x p t : List ℕ) (n c : ℕ) (ok : reading Query x ≡ Accepted n c) 
       record {
         lines = g .lines;
         matches-are = g .matches-are;
-        apart = texts-apart (g .lines) (ap (map (line (lineOf x))) (founds-trace (tableOf t) none (fairSteps f) unbound)) (g .matches-are);
+        apart = texts-apart (g .lines) (g .matches-are);
         outcome = rw (is, g .status, g .tried, g .matches, g .written, es);
         output = rw is (g .output);
       }

@@ -123,8 +123,8 @@ module _ (tb : Table) where
   -- the globals to which the atoms of a plan bind or compare a variable have classes, where those that its steps name have
   pub plan-set : {at : ℕ → Atom} {B : Bound} {ss : List Step} {B′ : Bound} {ks : List ℕ} → Lowered at B ss B′ ks → ((k : ℕ) → List·Memᴰ k ks → isRun (at k) ≡ true) → Each StepGiven ss → (k : ℕ) → List·Memᴰ k ks → GlobalsSet tb (at k)
   plan-set done r h k m = absurd (List·Memᴰ·not-nil m)
-  plan-set {at = at} (more {B} j l {ss} e w) r h k m = by (List·Memᴰ·cases-cons m) (plan-set w (λ i n. r i (List·Memᴰ·tail n)) (each-right StepGiven (l .steps) ss h) k)
+  plan-set {at = at} (more {B} j l {ss} {B″} {ks} e w) r h k m = by (List·Memᴰ·cases-cons m) (λ n. plan-set w (λ i n. r i (List·Memᴰ·tail n)) (each-right StepGiven (l .steps) ss h) k n)
     where
-      by : (k ≡ j) ⊎ List·Memᴰ k _ → (List·Memᴰ k _ → GlobalsSet tb (at k)) → GlobalsSet tb (at k)
+      by : (k ≡ j) ⊎ List·Memᴰ k ks → (List·Memᴰ k ks → GlobalsSet tb (at k)) → GlobalsSet tb (at k)
       by (inl q) n = subst (λ (i : ℕ). GlobalsSet tb (at i)) (sym q) (atom-set B j (at j) l e (r j (List·Memᴰ·head refl)) (each-left StepGiven (l .steps) ss h))
       by (inr i) n = n i

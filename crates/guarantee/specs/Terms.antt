@@ -56,7 +56,7 @@ pub record Runs (x : List ℕ) : Type 0 where
   pub kinds : (a : Atom) → List·Memᴰ a (atomsOf x) → isRun a ≡ true
   pub lowered : (a : Atom) → List·Memᴰ a (atomsOf x) → Unbound (atomsOf x) a → ⊥
 
--- every Eq of the query is lowered by its plan: the plan has the steps that it becomes
+-- p is a plan of the query x, and every Eq of x is lowered by it: the plan has the steps that it becomes
 pub record EqualitiesLowered (x p : List ℕ) : Type 1 where
   pub by : FairPlan x p
   pub all : (k : ℕ) → k < length (atomsOf x) → isEq (atomOf (atomsOf x) k) ≡ true → has (schedule (atomsOf x) (by .choose) (by .start) .used) k ≡ true
