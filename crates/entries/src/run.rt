@@ -1,32 +1,43 @@
 // The run of a plan over a table.
 ghost use mathlib.Core.Path.{_≡_};
 ghost use Rattle.running.specs.Run.{run as runOf};
-ghost use Rattle.entries.specs.Outcomes.{resultOf, ranOf};
-use runner::entry::run_passed;
-use runner::run::Tally;
-use turning::shapes::Turned;
-use turning::turn::turn_back;
+ghost use Rattle.entries.specs.Outcomes.{statusBy, resultOf};
+use execution::texts::run_texts;
+
+pub enum Status {
+    Done,
+    Spent,
+    Full,
+}
 
 pub enum Outcome {
     // number, text (1 plan, 2 table) and line
     Refused(u8, u8, usize),
-    // 0 done, 1 spent, 2 full; tries, matches, bytes written
-    Ran(u8, u64, u64, usize),
+    // how the run ended; tries, matches, bytes written
+    Ran(Status, u64, u64, usize),
 }
 
-fn ran(t: Tally) -> Outcome
-    ensures { λ r. ⌜ r ≡ ranOf t ⌝ }
+// A run's status by its number.
+fn status_of(number: u8) -> Status
+    ensures { λ r. ⌜ r ≡ statusBy number ⌝ }
 {
-    Outcome::Ran(t.status, t.tries, t.matches, t.written)
+    if number == 0 {
+        return Status::Done;
+    }
+    if number == 1 {
+        return Status::Spent;
+    }
+    Status::Full
 }
 
 // Runs a plan over a table, with an allowance of tries, into a lent output.
 pub fn run(plan: &[u8], table: &[u8], allowance: u64, out: &mut [u8]) -> Outcome
     ensures { λ r. ⌜ resultOf r (now (out .exit)) ≡ runOf (now (plan .entry)) (now (table .entry)) allowance (now (out .entry)) ⌝ }
 {
-    let mut globals = [0u16; 16];
-    match turn_back(plan, table, &mut globals) {
-        Turned::TurnedBack(number, text, line) => Outcome::Refused(number, text, line),
-        Turned::Passed => ran(run_passed(plan, table, &globals, allowance, out)),
+    let e = run_texts(plan, table, allowance, out);
+    if !e.passed {
+        return Outcome::Refused(e.number, e.text, e.line);
     }
+    let t = e.stand.tally;
+    Outcome::Ran(status_of(t.status), t.tries, t.matches, t.written)
 }
