@@ -5,7 +5,7 @@ ghost use Rattle.first_reading.specs.First.{framesOf};
 ghost use Rattle.reading.specs.IndexedReading.{Lent};
 ghost use Rattle.running.specs.Validation.{validation};
 ghost use Rattle.validation.specs.Plans.{PlanSheet};
-ghost use Rattle.execution.specs.Ends.{haltIn, tableTests, TableLent, Ends};
+ghost use Rattle.execution.specs.Ends.{haltIn, haltOf, tableTests, TableLent, Ends};
 use super::world::Ended;
 use super::world::refused;
 use super::world::run_sheets;
@@ -126,7 +126,7 @@ fn run_plan(
     out: &mut [u8],
 ) -> Ended
     requires { ⌜ Lent (now plan) (now sheet) (now index) ⌝ }
-    ensures { λ r. ⌜ Ends (validation (now (plan .entry)) (now (table .entry))) (haltIn (framesOf (now (plan .entry))) (framesOf (now (table .entry))) allowance (now (out .entry))) (now (out .entry)) (now (out .exit)) r ⌝ }
+    ensures { λ r. ⌜ Ends (validation (now (plan .entry)) (now (table .entry))) (haltOf (now (plan .entry)) (now (table .entry)) allowance (now (out .entry))) (now (out .entry)) (now (out .exit)) r ⌝ }
 {
     match read_indexed(Text::Plan, plan, sheet, index) {
         Reading::Refused(k, line) => refused(k, 1, line),
@@ -139,7 +139,7 @@ fn run_plan(
 
 // The same with a sheet and an index of its own, by the plan's length.
 pub fn run_texts(plan: &[u8], table: &[u8], allowance: u64, out: &mut [u8]) -> Ended
-    ensures { λ r. ⌜ Ends (validation (now (plan .entry)) (now (table .entry))) (haltIn (framesOf (now (plan .entry))) (framesOf (now (table .entry))) allowance (now (out .entry))) (now (out .entry)) (now (out .exit)) r ⌝ }
+    ensures { λ r. ⌜ Ends (validation (now (plan .entry)) (now (table .entry))) (haltOf (now (plan .entry)) (now (table .entry)) allowance (now (out .entry))) (now (out .entry)) (now (out .exit)) r ⌝ }
 {
     if plan.len() <= TINY_TEXT {
         let mut sheet = [0u8; TINY_SHEET];

@@ -1,3 +1,5 @@
+use Rattle.reading.proofs.ReadLaws.{read-within, read-fits, read-sheet}
+use Rattle.execution.proofs.TextLaws.{plan-sheet, plan-refused, plan-run}
 use borrow.Author.Needs.{needs}
 use Rattle.execution.proofs.texts.run_plan.Statement.{statement}
 use Rattle.execution.proofs.texts.run_plan.Tie as tie
@@ -30,15 +32,15 @@ sheet-size-requires c κs = search needs
 
 -- src/texts.rt:135:23
 slice-reshare-prefix-run-sized : tie.Need-slice-reshare-prefix-run-sized
-slice-reshare-prefix-run-sized c = ?
+slice-reshare-prefix-run-sized c = read-within _ _ _ _ _ (c .before .before .before .before .before .before .before .before .read-indexed .ensures) _ _ (c .before .before .lines .given .1) _ (c .sheet-size .ensures)
 
 -- src/texts.rt:135:23
 slice-aggregate-run-sized : tie.Need-slice-aggregate-run-sized
-slice-aggregate-run-sized c = ?
+slice-aggregate-run-sized c = read-fits _ _ _ _ _ (c .before .before .before .before .before .before .before .before .before .read-indexed .ensures) _ _ (c .before .before .before .lines .given .1) _ (c .before .sheet-size .ensures)
 
 -- src/texts.rt:135:13
 run-sized-requires : tie.Need-run-sized-requires
-run-sized-requires c κs = ?
+run-sized-requires c κs = plan-sheet _ _ (c .before .before .before .before .before .before .before .before .before .before .read-indexed .ensures .is) _ _ (c .before .before .before .before .lines .given .1) _ (read-sheet _ _ _ _ _ (c .before .before .before .before .before .before .before .before .before .before .read-indexed .ensures) _ _ (c .before .before .before .before .lines .given .1) _ (c .before .before .sheet-size .ensures))
 
 -- src/texts.rt:120:1
 same-length : tie.Need-same-length
@@ -50,7 +52,7 @@ same-length-2 c = search needs
 
 -- src/texts.rt:120:1
 returns : tie.Need-returns
-returns c = ?
+returns c = plan-refused _ _ (c .before .before .before .before .before .before .before .before .read-indexed .ensures .is) _ _ _ (c .before .before .k .given .1) _ _ _ (c .refused .ensures)
 
 -- src/texts.rt:120:1
 same-length-3 : tie.Need-same-length-3
@@ -66,7 +68,7 @@ same-length-5 c = search needs
 
 -- src/texts.rt:120:1
 returns-2 : tie.Need-returns-2
-returns-2 c = ?
+returns-2 c = plan-run _ _ (c .before .before .before .before .before .before .before .before .before .before .before .before .before .read-indexed .ensures .is) _ _ (c .before .before .before .before .before .before .before .lines .given .1) _ (read-sheet _ _ _ _ _ (c .before .before .before .before .before .before .before .before .before .before .before .before .before .read-indexed .ensures) _ _ (c .before .before .before .before .before .before .before .lines .given .1) _ (c .before .before .before .before .before .sheet-size .ensures)) _ _ _ _ _ (c .before .before .run-sized .ensures)
 
 pub run-plan-spec : {M : Type 1} → statement M
 run-plan-spec =

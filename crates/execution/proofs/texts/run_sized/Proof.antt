@@ -1,3 +1,10 @@
+use Prim.Native.Nat.{_≤_, _*_}
+use mathlib.Core.Path.{refl}
+use native.Mathlib.Omega.{arith}
+use Rattle.fields.specs.Limits.{textMost}
+use Rattle.indexing.specs.Index.{fewSlots, manySlots}
+use Rattle.reading.specs.IndexedReading.{tinyText, shortText, middleText}
+use Rattle.execution.proofs.TextLaws.{table-lent}
 use borrow.Author.Needs.{needs}
 use Rattle.execution.proofs.texts.run_sized.Statement.{statement}
 use Rattle.execution.proofs.texts.run_sized.Tie as tie
@@ -27,7 +34,7 @@ slice-aggregate-run-table-5 c = search needs
 
 -- src/texts.rt:95:9
 run-table-requires : tie.Need-run-table-requires
-run-table-requires c κs = ?
+run-table-requires c κs = (c .before .before .before .before .before .before .before .before .before .before .pre, table-lent _ tinyText fewSlots 51 refl (λ _. c .before .before .before .before .before .before .if1 .taken) (omega arith) (λ c a b. omega arith) (omega arith))
 
 -- src/texts.rt:95:9
 same-length : tie.Need-same-length
@@ -59,7 +66,7 @@ slice-aggregate-run-table-10 c = search needs
 
 -- src/texts.rt:103:9
 run-table-requires-2 : tie.Need-run-table-requires-2
-run-table-requires-2 c κs = ?
+run-table-requires-2 c κs = (c .before .before .before .before .before .before .before .before .before .before .before .pre, table-lent _ shortText manySlots 409 refl (λ _. c .before .before .before .before .before .before .if2 .taken) (omega arith) (λ c a b. omega arith) (omega arith))
 
 -- src/texts.rt:103:9
 same-length-2 : tie.Need-same-length-2
@@ -91,7 +98,7 @@ slice-aggregate-run-table-15 c = search needs
 
 -- src/texts.rt:111:9
 run-table-requires-3 : tie.Need-run-table-requires-3
-run-table-requires-3 c κs = ?
+run-table-requires-3 c κs = (c .before .before .before .before .before .before .before .before .before .before .before .before .pre, table-lent _ middleText manySlots 1024 refl (λ _. c .before .before .before .before .before .before .if3 .taken) (omega arith) (λ c a b. omega arith) (omega arith))
 
 -- src/texts.rt:111:9
 same-length-3 : tie.Need-same-length-3
@@ -123,7 +130,7 @@ slice-aggregate-run-table-20 c = search needs
 
 -- src/texts.rt:116:5
 run-table-requires-4 : tie.Need-run-table-requires-4
-run-table-requires-4 c κs = ?
+run-table-requires-4 c κs = (c .before .before .before .before .before .before .before .before .before .before .before .before .pre, table-lent _ textMost manySlots 1024 refl (λ h. h) (omega arith) (λ c a b. omega arith) (omega arith))
 
 -- src/texts.rt:85:1
 same-length-4 : tie.Need-same-length-4

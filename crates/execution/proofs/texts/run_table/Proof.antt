@@ -1,3 +1,5 @@
+use Rattle.reading.proofs.ReadLaws.{read-within, read-fits, read-sheet, read-index}
+use Rattle.execution.proofs.TextLaws.{sheet-lent, table-refused, table-run}
 use borrow.Author.Needs.{needs}
 use Rattle.execution.proofs.texts.run_table.Statement.{statement}
 use Rattle.execution.proofs.texts.run_table.Tie as tie
@@ -30,15 +32,15 @@ sheet-size-requires c κs = search needs
 
 -- src/texts.rt:72:17
 slice-reshare-prefix-run-sheets : tie.Need-slice-reshare-prefix-run-sheets
-slice-reshare-prefix-run-sheets c = ?
+slice-reshare-prefix-run-sheets c = read-within _ _ _ _ _ (c .before .before .before .before .before .before .before .before .read-indexed .ensures) _ _ (c .before .before .lines .given .1) _ (c .sheet-size .ensures)
 
 -- src/texts.rt:72:17
 slice-aggregate-run-sheets : tie.Need-slice-aggregate-run-sheets
-slice-aggregate-run-sheets c = ?
+slice-aggregate-run-sheets c = read-fits _ _ _ _ _ (c .before .before .before .before .before .before .before .before .before .read-indexed .ensures) _ _ (c .before .before .before .lines .given .1) _ (c .before .sheet-size .ensures)
 
 -- src/texts.rt:70:13
 run-sheets-requires : tie.Need-run-sheets-requires
-run-sheets-requires c κs = ?
+run-sheets-requires c κs = (c .before .before .before .before .before .before .before .before .before .before .before .before .before .before .before .before .before .before .before .before .before .before .before .before .before .pre .0, (read-index _ _ _ _ _ (c .before .before .before .before .before .before .before .before .before .before .before .before .before .before .read-indexed .ensures) _ _ (c .before .before .before .before .before .before .before .before .lines .given .1) _ (c .before .before .before .before .before .before .sheet-size .ensures), sheet-lent _ _ _ _ _ _ (c .before .before .before .before .before .before .before .before .before .before .before .before .before .before .before .before .before .before .before .before .before .before .before .before .before .pre .1) _ (c .before .before .before .before .before .before .before .before .before .before .before .before .before .before .read-indexed .ensures .is) _ _ (c .before .before .before .before .before .before .before .before .lines .given .1) _ (read-sheet _ _ _ _ _ (c .before .before .before .before .before .before .before .before .before .before .before .before .before .before .read-indexed .ensures) _ _ (c .before .before .before .before .before .before .before .before .lines .given .1) _ (c .before .before .before .before .before .before .sheet-size .ensures))))
 
 -- src/texts.rt:51:1
 same-length : tie.Need-same-length
@@ -50,7 +52,7 @@ same-length-2 c = search needs
 
 -- src/texts.rt:51:1
 returns : tie.Need-returns
-returns c = ?
+returns c = table-refused _ _ _ (c .before .before .before .before .before .before .before .before .read-indexed .ensures .is) _ _ (c .before .before .k .given .1) _ _ _ (c .refused .ensures)
 
 -- src/texts.rt:51:1
 same-length-3 : tie.Need-same-length-3
@@ -78,7 +80,7 @@ same-length-8 c = search needs
 
 -- src/texts.rt:51:1
 returns-2 : tie.Need-returns-2
-returns-2 c = ?
+returns-2 c = table-run _ _ _ (c .before .before .before .before .before .before .before .before .before .before .before .before .before .before .before .before .before .before .before .before .before .before .before .read-indexed .ensures .is) _ _ (c .before .before .before .before .before .before .before .before .before .before .before .before .before .before .before .before .before .lines .given .1) _ (read-sheet _ _ _ _ _ (c .before .before .before .before .before .before .before .before .before .before .before .before .before .before .before .before .before .before .before .before .before .before .before .read-indexed .ensures) _ _ (c .before .before .before .before .before .before .before .before .before .before .before .before .before .before .before .before .before .lines .given .1) _ (c .before .before .before .before .before .before .before .before .before .before .before .before .before .before .before .sheet-size .ensures)) _ _ _ _ (c .before .before .before .before .before .before .before .before .run-sheets .ensures)
 
 pub run-table-spec : {M : Type 1} → statement M
 run-table-spec =

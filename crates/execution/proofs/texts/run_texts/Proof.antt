@@ -1,3 +1,8 @@
+use mathlib.Core.Path.{refl}
+use Rattle.fields.specs.Limits.{textMost}
+use Rattle.indexing.specs.Index.{fewSlots, manySlots}
+use Rattle.reading.specs.IndexedReading.{tinyText, shortText, middleText}
+use Rattle.reading.proofs.LentLaws.{lent-for}
 use borrow.Author.Needs.{needs}
 use Rattle.execution.proofs.texts.run_texts.Statement.{statement}
 use Rattle.execution.proofs.texts.run_texts.Tie as tie
@@ -15,7 +20,7 @@ slice-aggregate-run-plan-2 c = search needs
 
 -- src/texts.rt:147:9
 run-plan-requires : tie.Need-run-plan-requires
-run-plan-requires c κs = ?
+run-plan-requires c κs = lent-for _ tinyText fewSlots refl (λ _. c .before .before .before .if1 .taken)
 
 -- src/texts.rt:147:9
 same-length : tie.Need-same-length
@@ -35,7 +40,7 @@ slice-aggregate-run-plan-4 c = search needs
 
 -- src/texts.rt:152:9
 run-plan-requires-2 : tie.Need-run-plan-requires-2
-run-plan-requires-2 c κs = ?
+run-plan-requires-2 c κs = lent-for _ shortText manySlots refl (λ _. c .before .before .before .if2 .taken)
 
 -- src/texts.rt:152:9
 same-length-2 : tie.Need-same-length-2
@@ -55,7 +60,7 @@ slice-aggregate-run-plan-6 c = search needs
 
 -- src/texts.rt:157:9
 run-plan-requires-3 : tie.Need-run-plan-requires-3
-run-plan-requires-3 c κs = ?
+run-plan-requires-3 c κs = lent-for _ middleText manySlots refl (λ _. c .before .before .before .if3 .taken)
 
 -- src/texts.rt:157:9
 same-length-3 : tie.Need-same-length-3
@@ -75,7 +80,7 @@ slice-aggregate-run-plan-8 c = search needs
 
 -- src/texts.rt:161:5
 run-plan-requires-4 : tie.Need-run-plan-requires-4
-run-plan-requires-4 c κs = ?
+run-plan-requires-4 c κs = lent-for _ textMost manySlots refl (λ h. h)
 
 -- src/texts.rt:141:1
 same-length-4 : tie.Need-same-length-4
