@@ -23,13 +23,13 @@ use Rattle.query.specs.declared.statistics.Sampled.{Sampled}
 use Rattle.cost.specs.QueryAtoms.{atomOfFrame}
 use Rattle.cost.specs.Emitters.{Emitters}
 use Rattle.cost.specs.Sampling.{Tally}
-use Rattle.cost.specs.Costs.{Costed, estimateCost}
+use Rattle.cost.specs.Costs.{estimateCost}
 use Rattle.cost.specs.Memo.{tallyAt}
 use Rattle.cost.specs.Choice.{isCandidate, offer, offered, offers}
 use Rattle.cost.specs.declared.memo.Sampling.{Sampling}
 use Rattle.plan_facts.specs.Remembered.{Grows, grows-self, cost-grows}
 use Rattle.passes.specs.Eager.{Located, atomsOf}
-use Rattle.samples.specs.Remembering.{Samples, Remembers}
+use Rattle.samples.specs.Remembering.{Remembers}
 use Rattle.pricing.specs.ItemCosts.{Stands}
 use Rattle.pricing.specs.declared.costs.Costed.{Costed as CostedAs}
 use Rattle.choosing.specs.declared.choose.Best.{Best}

@@ -17,6 +17,7 @@ ghost use Rattle.passes.specs.Eager.{Located, atomsOf};
 ghost use Rattle.prices.specs.Prices.{Priced};
 ghost use Rattle.samples.specs.Remembering.{Samples, Remembers};
 ghost use Rattle.choosing.specs.Choosing.{noted, candidates, Chose, betterOf};
+use advancing::advance::Scheduler;
 use cost::memo::Sampling;
 use fields::field::narrow;
 use lowering::atom::scans;
@@ -26,17 +27,6 @@ use prices::table::ROW_SIZE;
 use pricing::costs::Costed;
 use pricing::costs::estimate_cost;
 use sqrt::bits_of;
-
-// The scheduler's state: the atoms lowered, the variables bound, the atoms that were lowered when emitters were last recorded, the
-// variables' emitters; the atoms lowered in order, and how many they are.
-pub struct Scheduler {
-    pub used: [bool; 64],
-    pub bound: [bool; 64],
-    pub before: [bool; 64],
-    pub emitters: [u32; 64],
-    pub order: [u8; 64],
-    pub count: usize,
-}
 
 // The cheapest atom so far, if one was found, its cost, and the tallies behind it.
 pub struct Best {

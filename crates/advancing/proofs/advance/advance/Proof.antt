@@ -1,10 +1,10 @@
--- `scheduling::schedule::advance` meets its contract: the numbers listed are those whose use has changed.
-use Rattle.scheduling.proofs.RoundLaws.{advances}
+-- `advancing::advance::advance` meets its contract: the numbers listed are those whose use has changed.
+use Rattle.advancing.proofs.AdvanceLaws.{advances}
 use borrow.Author.Needs.{needs}
-use Rattle.scheduling.proofs.schedule.advance.Statement.{statement}
-use Rattle.scheduling.proofs.schedule.advance.Tie as tie
-use Rattle.scheduling.proofs.schedule.advance.Reads as reads
-use Rattle.scheduling.proofs.schedule.advance.Lts as lts
+use Rattle.advancing.proofs.advance.advance.Statement.{statement}
+use Rattle.advancing.proofs.advance.advance.Tie as tie
+use Rattle.advancing.proofs.advance.advance.Reads as reads
+use Rattle.advancing.proofs.advance.advance.Lts as lts
 use Rattle.passes.proofs.eager.lower_eager.Reads as lower-eager-reads
 use Rattle.recording.proofs.changed.changed.Reads as changed-reads
 use Rattle.recording.proofs.record.record_numbers.Reads as record-numbers-reads

@@ -1,9 +1,9 @@
--- `scheduling::schedule::choose_next` meets its contract: the round, then the choice in the state behind it.
+-- `round_choice::next::choose_next` meets its contract: the round, then the choice in the state behind it.
 use mathlib.Core.Path.{_∙_}
-use Rattle.scheduling.proofs.RoundLaws.{choice-room}
+use Rattle.round_choice.proofs.RoundLaws.{choice-room}
 use borrow.Author.Needs.{needs}
-use Rattle.scheduling.proofs.schedule.choose_next.Statement.{statement}
-use Rattle.scheduling.proofs.schedule.choose_next.Tie as tie
+use Rattle.round_choice.proofs.next.choose_next.Statement.{statement}
+use Rattle.round_choice.proofs.next.choose_next.Tie as tie
 
 advance-requires : tie.Need-advance-requires
 advance-requires c κs = search needs

@@ -1,8 +1,8 @@
--- `scheduling::schedule::take` meets its contract: what scans lowers.
-use Rattle.scheduling.proofs.RoundLaws.{takes}
+-- `advancing::advance::take` meets its contract: what scans lowers.
+use Rattle.advancing.proofs.AdvanceLaws.{takes}
 use borrow.Author.Needs.{needs}
-use Rattle.scheduling.proofs.schedule.take.Statement.{statement}
-use Rattle.scheduling.proofs.schedule.take.Tie as tie
+use Rattle.advancing.proofs.advance.take.Statement.{statement}
+use Rattle.advancing.proofs.advance.take.Tie as tie
 
 lower-bound-requires : tie.Need-lower-bound-requires
 lower-bound-requires c κs = search needs

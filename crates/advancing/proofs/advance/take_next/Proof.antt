@@ -1,9 +1,9 @@
--- `scheduling::schedule::take_next` meets its contract: the atom by its frame, in turn.
-use mathlib.Core.Path.{refl, sym, _∙_}
-use Rattle.scheduling.proofs.RoundLaws.{next-sized, next-within, next-below, next-room, next-line, next-scans, takes-next}
+-- `advancing::advance::take_next` meets its contract: the atom by its frame, in turn.
+use mathlib.Core.Path.{refl, sym}
+use Rattle.advancing.proofs.AdvanceLaws.{next-sized, next-within, next-below, next-room, next-line, next-scans, takes-next}
 use borrow.Author.Needs.{needs}
-use Rattle.scheduling.proofs.schedule.take_next.Statement.{statement}
-use Rattle.scheduling.proofs.schedule.take_next.Tie as tie
+use Rattle.advancing.proofs.advance.take_next.Statement.{statement}
+use Rattle.advancing.proofs.advance.take_next.Tie as tie
 
 wide-requires : tie.Need-wide-requires
 wide-requires c κs = search needs

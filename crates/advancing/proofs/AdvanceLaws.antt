@@ -1,41 +1,35 @@
--- A round of the scheduler: an eager round, the choice, and the atom chosen. Proved from what each of them does.
-use Prim.Native.Nat.{ℕ, _+_, _<_, _≤_}
+-- An eager round, and the atom chosen, lead the scheduler on. Proved from what each of them does.
+use Prim.Native.Nat.{ℕ, _+_, _<_}
 use mathlib.Core.Path.{_≡_, refl, sym, _∙_, ap, subst}
 use mathlib.Core.Bool.{Bool, true, false}
 use mathlib.Core.Option.{Option, none, some}
-use mathlib.Core.List.{List, [], _∷_, _++_, List·Memᴰ}
+use mathlib.Core.List.{List, List·Memᴰ}
 use native.Mathlib.Omega.{arith}
 use lib.Dec.{T}
 use lib.ListN.{length, getD, set}
-use Rattle.frames.specs.Sheet.{frameAt, framesIn}
+use Rattle.frames.specs.Sheet.{frameAt}
 use Rattle.model.specs.Atoms.{Atom, Plain, Lit, LitBind, Eq, EqGlobal, Pred, Variadic}
 use Rattle.model.specs.Bound.{Bound, has, add, most}
 use Rattle.model.specs.Lowering.{Emitted, lower}
-use Rattle.model.specs.Scheduling.{State, scans, emitAt, atomOf, numbers}
+use Rattle.model.specs.Scheduling.{scans, emitAt, atomOf, numbers}
 use Rattle.model.specs.Scheduled.{unlowered-lt}
 use Rattle.cost.specs.QueryAtoms.{atomOfFrame}
-use Rattle.cost.specs.Emitters.{Emitters, recordAtom}
+use Rattle.cost.specs.Emitters.{recordAtom}
 use Rattle.recording.specs.Changed.{changedFrom, recordNumbers}
 use Rattle.recording.proofs.ChangedLaws.{changed-recorded}
-use Rattle.cost.specs.Memo.{tallyAt}
-use Rattle.cost.specs.declared.memo.Sampling.{Sampling}
 use Rattle.lowering.specs.AtomLines.{AtomLine, lowers, boundBehind, Lowers}
 use Rattle.passes.specs.Eager.{Went, LoweredEager, Lined, Located, Ready, atomsOf}
 use Rattle.passes.specs.LocatedLaws.{place-sized, place-within, number-among, line-ready}
 use Rattle.passes.proofs.EagerLaws.{went-one}
-use Rattle.choosing.specs.Choosing.{candidates}
-use Rattle.scheduling.specs.Rounds.{emittersOf, Advances, Takes, TakesNext, roundTally, RoundRoom}
-use Rattle.choosing.specs.declared.choose.Scheduler.{Scheduler}
+use Rattle.advancing.specs.Advancing.{emittersOf, Advances, Takes, TakesNext}
+use Rattle.advancing.specs.declared.advance.Scheduler.{Scheduler}
 
--- ---- an eager round, and the choice
+-- ---- an eager round
 
 module _ (x : List ℕ) (d e : Scheduler) where
   pub advances : (from : List ℕ) (n : ℕ) (l : List ℕ) → Located x from n → LoweredEager x (d .used) (d .bound) (d .order) (d .count) (e .used) (e .bound) (e .order) (e .count)
       → l ≡ changedFrom (d .before) (e .used) 0 n → emittersOf e ≡ recordNumbers (atomsOf x) l (emittersOf d) → length (e .emitters) ≡ most → Advances x d e
   advances from n l z w c q s = record { went = w; emitters = q ∙ rw c (changed-recorded (d .before) (e .used) (atomsOf x) 0 n (emittersOf d) (omega (arith, z .count))); size = s }
-
-  pub choice-room : Advances x d e → (keys : List ℕ) (s : Sampling) → RoundRoom x d keys s → length (candidates (framesIn x) (emittersOf e) (atomsOf x) (e .used) (e .bound) (numbers (atomsOf x)) (tallyAt keys s) none .next .memo) ≤ length keys
-  choice-room a keys s r = rw (a .emitters) (subst (λ (st : State). length (roundTally x st (d .before) (emittersOf d) keys s .memo) ≤ length keys) (a .went .is (r .steps)) (r .room))
 
 -- ---- the atom chosen
 
