@@ -17,7 +17,7 @@ use prices::table::TABLE_SIZE;
 use prices::table::fill_prices;
 use query::statistics::Sampled;
 use query::statistics::settings;
-use samples::memo::KEYS_MOST;
+use memo_entries::entry::KEYS_MOST;
 use scheduling::schedule::Scheduled;
 use scheduling::schedule::schedule;
 

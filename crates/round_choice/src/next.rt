@@ -8,7 +8,7 @@ ghost use Rattle.advancing.specs.Advancing.{Prepared};
 ghost use Rattle.round_choice.specs.RoundChoice.{Chooses, RoundRoom};
 use advancing::advance::Scheduler;
 use advancing::advance::advance;
-use choosing::choose::Best;
+use bidding::bid::Best;
 use choosing::choose::cheapest;
 use cost::memo::Sampling;
 

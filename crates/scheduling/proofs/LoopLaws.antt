@@ -28,7 +28,9 @@ use Rattle.plan_facts.specs.Remembered.{keysMost, loop-grows}
 use Rattle.passes.specs.Eager.{state, Went, Located, Ready, atomsOf}
 use Rattle.passes.proofs.EagerLaws.{lowered-then}
 use Rattle.samples.specs.Remembering.{Remembers}
-use Rattle.choosing.specs.Choosing.{bidOf, orBest, candidates, costBits}
+use Rattle.bidding.specs.Bidding.{bidOf, orBest}
+use Rattle.choosing.specs.Choosing.{candidates}
+use Rattle.cost_bits.specs.CostBits.{costBits}
 use Rattle.advancing.specs.Advancing.{emittersOf, Prepared, TakesNext}
 use Rattle.round_choice.specs.RoundChoice.{Chooses, RoundRoom}
 use Rattle.scheduling.specs.Rounds.{Ordering, Scheduling, Rounded}

@@ -12,7 +12,7 @@ use Rattle.model.specs.Lowering.{Lowered}
 use Rattle.model.specs.Scheduling.{Progress, atomOf, numbers}
 use Rattle.cost.specs.Choice.{Memory, rounds, planned, remembered}
 use Rattle.passes.specs.Eager.{state, atomsOf}
-use Rattle.choosing.specs.Choosing.{costBits}
+use Rattle.cost_bits.specs.CostBits.{costBits}
 use Rattle.scheduling.specs.declared.schedule.Scheduled.{Scheduled}
 
 -- the atom chosen in the last round, where one was found

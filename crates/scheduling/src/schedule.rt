@@ -13,7 +13,7 @@ ghost use Rattle.samples.specs.Remembering.{Samples};
 ghost use Rattle.scheduling.specs.Rounds.{Rounded};
 use advancing::advance::Scheduler;
 use advancing::advance::take_next;
-use choosing::choose::Best;
+use bidding::bid::Best;
 use cost::memo::Sampling;
 use query::statistics::Sampled;
 use round_choice::next::choose_next;
