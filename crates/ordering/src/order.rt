@@ -12,12 +12,12 @@ ghost use Rattle.prices.specs.Prices.{rowSize};
 ghost use Rattle.samples.specs.Remembering.{Samples};
 ghost use Rattle.scheduling.specs.Rounds.{Rounded};
 ghost use Rattle.ordering.specs.Accepts.{Accepts};
+use memo_entries::entry::KEYS_MOST;
 use prices::table::ROW_SIZE;
 use prices::table::TABLE_SIZE;
 use prices::table::fill_prices;
 use query::statistics::Sampled;
 use query::statistics::settings;
-use memo_entries::entry::KEYS_MOST;
 use scheduling::schedule::Scheduled;
 use scheduling::schedule::schedule;
 

@@ -14,12 +14,12 @@ ghost use Rattle.samples.specs.Remembering.{Samples, Remembers};
 ghost use Rattle.prices.specs.Prices.{Row};
 ghost use Rattle.item_pricing.specs.ItemCosts.{Stands};
 ghost use Rattle.pricing.specs.ItemCosts.{literalKind};
+use super::items::item_costs;
 use cost::memo::Sampling;
 use hex::byte_at;
 use item_pricing::items::Costed;
 use lowering::atom::scans;
 use lowering::sets::is_set;
-use super::items::item_costs;
 
 // Whether a kind is Lit or LitBind.
 fn is_literal(kind: u8) -> bool

@@ -11,14 +11,14 @@ ghost use Rattle.cost.specs.Emitters.{decode};
 ghost use Rattle.cost.specs.Memo.{tallyAt};
 ghost use Rattle.cost.specs.QueryAtoms.{operandAt};
 ghost use Rattle.samples.specs.Remembering.{numberKey, Samples, Remembers, Gives};
+use super::memo::Sample;
+use super::memo::estimate;
 use cost::memo::Sampling;
 use cost::probes::Key;
 use fields::field::wide;
 use hex::byte_at;
 use measure::FanOut;
 use query::statistics::Sampled;
-use super::memo::Sample;
-use super::memo::estimate;
 
 // A probe of a candidate atom: its operator, and the path and place of the key.
 pub struct Probe {
