@@ -16,7 +16,7 @@ use Rattle.reading.specs.Second.{reading}
 use Rattle.model.specs.Matching.{InShapes}
 use Rattle.model.specs.Guarantee.{alike, exact-same}
 use Rattle.plan_facts.specs.QueryPlans.{atomsOf, countAt}
-use Rattle.planner.specs.Planner.{plan}
+use Rattle.fitting.specs.Planner.{plan}
 use Rattle.running.specs.Tables.{tableOf}
 use Rattle.running.specs.Turning.{Passed, TurnedBack, turning}
 use Rattle.running.specs.Run.{Result, run}

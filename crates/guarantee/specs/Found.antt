@@ -21,7 +21,7 @@ use Rattle.model.specs.Unlowered.{run-all-lowered}
 use Rattle.model.specs.Guarantee.{exact, guaranteed}
 use Rattle.cost.specs.Choice.{fresh, choose, choose-fair, planned}
 use Rattle.plan_facts.specs.QueryPlans.{atomsOf, countAt}
-use Rattle.planner.specs.Planner.{stepsOf}
+use Rattle.fitting.specs.Planner.{stepsOf}
 use Rattle.running.specs.Tables.{tableOf, countsIn, planSteps}
 use Rattle.running.specs.Turning.{Verdict, Passed, TurnedBack, andThen, ofReading, shapesFrom, stepsPass, turning}
 use Rattle.running.specs.Run.{unbound, unbound-blank, events, matchLine, lineText, Result, ran as result, run}

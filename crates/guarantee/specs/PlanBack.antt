@@ -17,8 +17,8 @@ use Rattle.plans.specs.StepFrames.{frameOf, headerOf}
 use Rattle.plans.specs.PlanText.{planText}
 use Rattle.plans.specs.Texts.{text-first}
 use Rattle.plan_facts.specs.QueryPlans.{countAt, ReadBack}
-use Rattle.planner.specs.Planner.{stepsOf, talliedOf, rejectedOf, planOf}
-use Rattle.planner.specs.Promised.{read-back}
+use Rattle.fitting.specs.Planner.{stepsOf, talliedOf, rejectedOf, planOf}
+use Rattle.fitting.specs.Promised.{read-back}
 use Rattle.ordering.specs.Accepted.{few-keys}
 use Rattle.running.specs.Tables.{countsIn, planSteps}
 use Rattle.guarantee.specs.Terms.{planFor}

@@ -13,7 +13,7 @@ use Rattle.model.specs.Matching.{InShapes, Line, line, IsMatch}
 use Rattle.model.specs.Limits.{Event, trace, attempts, Answer, SomeMatch, NoMatch, OutOfTries, Answers}
 use Rattle.model.specs.Answered.{none-to, none-back, some-is}
 use Rattle.plan_facts.specs.QueryPlans.{atomsOf, countAt}
-use Rattle.planner.specs.Planner.{stepsOf}
+use Rattle.fitting.specs.Planner.{stepsOf}
 use Rattle.running.specs.Tables.{tableOf, countsIn}
 use Rattle.running.specs.Turning.{Passed, turning}
 use Rattle.running.specs.Run.{unbound, events, matchLine, Match, None, replied, Replies, rejects, answers}

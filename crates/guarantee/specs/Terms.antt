@@ -16,7 +16,7 @@ use Rattle.model.specs.Matching.{Line, Exact}
 use Rattle.model.specs.Lines.{SameAtoms}
 use Rattle.model.specs.Limits.{founds, attempts, Done}
 use Rattle.plan_facts.specs.QueryPlans.{atomsOf, countAt}
-use Rattle.planner.specs.Planner.{planOf}
+use Rattle.fitting.specs.Planner.{planOf}
 use Rattle.running.specs.Tables.{tableOf}
 use Rattle.running.specs.Turning.{Verdict, andThen, ofReading, shapesFrom, globalOf, allGiven}
 use Rattle.running.specs.Run.{events, matchLine, lineText, Ran, Result}

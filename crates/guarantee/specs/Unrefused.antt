@@ -29,7 +29,7 @@ use Rattle.model.specs.Guarantee.{made, order-mem, schedule-bound-first, schedu
 use Rattle.cost.specs.Choice.{fresh, choose, choose-fair, planned}
 use Rattle.plans.specs.StepFrames.{Each}
 use Rattle.plan_facts.specs.QueryPlans.{atomsOf}
-use Rattle.planner.specs.Planner.{stepsOf}
+use Rattle.fitting.specs.Planner.{stepsOf}
 use Rattle.running.specs.Tables.{tableOf}
 use Rattle.running.specs.Turning.{Verdict, Passed, TurnedBack, andThen, ofReading, ofFault, rowFault, withRow, shapesFrom, globalsOf, allGiven, stepsFrom, stepsPass, turning}
 use Rattle.guarantee.specs.Terms.{planFor, atomGlobals, GlobalsGiven, tableTests}

@@ -13,9 +13,9 @@ use Rattle.first_reading.specs.declared.first.Reading.the-variants.{Accepted, R
 use Rattle.reading.specs.Second.{reading}
 use Rattle.reading_facts.specs.Answers.{refused-number}
 use Rattle.reading_facts.specs.FewLines.{few-lines}
-use Rattle.planner.specs.Planner.{Answer, Result, plan, planOf, stepsOf, written, turnedBack}
+use Rattle.fitting.specs.Planner.{Answer, Result, plan, planOf, stepsOf, written, turnedBack}
 use Rattle.ordering.specs.Accepted.{few-keys}
-use Rattle.planner.specs.Promised.{read-back}
+use Rattle.fitting.specs.Promised.{read-back}
 
 pub record Within (a : Answer) : Type 0 where
   pub number : a .number ≤ 8

@@ -4,7 +4,7 @@
 use Prim.Native.Nat.{ℕ}
 use mathlib.Core.Path.{_≡_, refl}
 use mathlib.Core.List.{List, [], _∷_, map, _++_, flatMap}
-use lib.ListN.{replicate, drop}
+use lib.ListN.{replicate}
 use lib.Count.{leadingZeros}
 use lib.Ieee.{binary64, ofInt, ofBits, toBits, lt, mul, div}
 use Rattle.sqrt.specs.Sqrt.{wholeRoot, sqrt}
@@ -30,7 +30,7 @@ use Rattle.cost.specs.Costs.{childCosts, estimateCost}
 use Rattle.cost.specs.Choice.{planned, remembered}
 use Rattle.plans.specs.StepFrames.{frameOf}
 use Rattle.plans.specs.PlanText.{textOf, planText}
-use Rattle.planner.specs.Planner.{Answer, writes, refusal, Result, stepsOf, planOf, plan}
+use Rattle.fitting.specs.Planner.{Answer, writes, refusal, Result, stepsOf, planOf, plan}
 
 -- a query, a lent output, the answer, and the output then
 pub record Row : Type 0 where

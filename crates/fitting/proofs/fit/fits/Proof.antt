@@ -1,10 +1,9 @@
--- `planner::entry::fits` meets its contract: by the longest plan's length, else by this plan's.
+-- `fitting::fit::fits` meets its contract: by the longest plan's length, else by this plan's.
 use mathlib.Core.Path.{sym}
 use Rattle.ordering.proofs.OrderLaws.{places-located}
-use Rattle.planner.proofs.EntryLaws.{in-order, fits-always, fits-measured}
-use borrow.Author.Needs.{needs}
-use Rattle.planner.proofs.entry.fits.Statement.{statement}
-use Rattle.planner.proofs.entry.fits.Tie as tie
+use Rattle.fitting.proofs.FitLaws.{in-order, fits-always, fits-measured}
+use Rattle.fitting.proofs.fit.fits.Statement.{statement}
+use Rattle.fitting.proofs.fit.fits.Tie as tie
 
 returns : tie.Need-returns
 returns c = fits-always _ _ _ (c .before .before .before .args .s) (c .before .before .before .pre .0) (c .before .before .before .pre .1 .0) (c .before .before .before .pre .1 .1) _ (c .if1 .taken)

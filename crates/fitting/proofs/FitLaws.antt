@@ -1,25 +1,23 @@
--- The parts of the entry: what an accepted query gives them, and what they give the entry. Proved from the reading, the rounds and the writing.
-use Prim.Native.Nat.{ℕ, _+_, _*_, _<_, _≤_}
+-- The plan in the order that was found, and whether it fits. Proved from the rounds and the writing.
+use Prim.Native.Nat.{ℕ, _+_, _<_, _≤_}
 use mathlib.Core.Path.{_≡_, refl, sym, _∙_, ap, subst}
 use mathlib.Core.Bool.{Bool, true, false, not}
-use mathlib.Core.List.{List, [], _∷_, _++_, map, List·Memᴰ}
+use mathlib.Core.List.{List, _∷_, _++_, map, List·Memᴰ}
 use native.Mathlib.Omega.{arith}
 use lib.Dec.{leb}
-use lib.ListN.{length, getD, take, drop, replicate}
+use lib.ListN.{length, getD, take, drop}
 use lib.Seq.{sets-eq, getD-take, length-take-le}
-use lib.Ieee.{Float}
 use borrow.Author.Tests.{lt-ltb, le-ltb, leb-true, leb-false, le-leb, not-true, not-false}
-use Rattle.frames.specs.Sheet.{frameAt, framesIn}
+use Rattle.frames.specs.Sheet.{framesIn}
 use Rattle.first_reading.specs.First.{Sheet}
 use Rattle.frame_tests.specs.declared.tests.Text.the-variants.{Query}
-use Rattle.first_reading.specs.declared.first.Reading.{Reading}
-use Rattle.first_reading.specs.declared.first.Reading.the-variants.{Accepted, Refused}
+use Rattle.first_reading.specs.declared.first.Reading.the-variants.{Accepted}
 use Rattle.reading.specs.Second.{countsIn, reading}
 use Rattle.model.specs.Atoms.{Step}
-use Rattle.model.specs.Bound.{most, blank}
+use Rattle.model.specs.Bound.{blank}
 use Rattle.model.specs.Lists.{getD-mem}
 use Rattle.model.specs.Tabulate.{tabulate-mem}
-use Rattle.model.specs.Scheduling.{State, unplanned, atomOf, numbers}
+use Rattle.model.specs.Scheduling.{State, atomOf, numbers}
 use Rattle.cost.specs.Choice.{planned, remembered}
 use Rattle.plans.specs.StepFrames.{frameOf, headerOf}
 use Rattle.plans.specs.PlanText.{textOf, textLength, planText}
@@ -29,43 +27,24 @@ use Rattle.passes.specs.Eager.{Located, atomsOf}
 use Rattle.passes.specs.Places.{Places}
 use Rattle.scheduling.specs.Rounds.{Scheduling}
 use Rattle.scheduling.specs.declared.schedule.Scheduled.{Scheduled}
-use Rattle.writing.specs.Steps.{stepsAlong, countAlong, lowered-steps, lowered-count, Ordered, PutsSteps}
+use Rattle.writing.specs.Steps.{stepsAlong, countAlong, lowered-steps, lowered-count, Ordered}
 use Rattle.output.specs.Written.{written, PutsFrames}
-use Rattle.output.proofs.PutLaws.{frames-then}
-use Rattle.planner.specs.Planner.{Plan, Result, stepsOf, talliedOf, rejectedOf, planOf, fitted, plan}
-use Rattle.planner.specs.Promised.{read-back}
-use Rattle.planner.specs.Entry.{planOn, resultOf}
+use Rattle.fitting.specs.Planner.{Plan, stepsOf, planOf, fitted}
+use Rattle.fitting.specs.Promised.{read-back}
+use Rattle.fitting.specs.Entry.{planOn, resultOf}
 use Rattle.ordering.specs.Accepts.{Accepts}
 use Rattle.ordering.proofs.OrderLaws.{sheet-items, sheet-keys, places-located}
-use Rattle.planner.specs.declared.entry.Planned.the-variants.{Written as Wrote, Refused as TurnsBack}
+use Rattle.fitting.specs.declared.fit.Planned.the-variants.{Written as Wrote, Refused as TurnsBack}
 
 -- its plan is that of the text
 pub plan-on : (x s : List ℕ) → Sheet x s → planOn s ≡ planOf x
 unfolding planOf stepsOf
 plan-on x s h = rw (h .header, h .frames)
 
--- ---- the text
-
-pub size-is : (x ks o p : List ℕ) (r : ℕ) → PutsSteps x (replicate 64 false) ks o 21 p r → r ≡ 21 + textLength (map frameOf (stepsAlong (atomOf (atomsOf x)) blank ks))
-unfolding blank
-size-is x ks o p r s = s .puts .next
-
-pub plan-is : (x ks : List ℕ) (steps tallied rejected v g l a b c at r : ℕ) (o p q : List ℕ) → v ≡ countsIn Query x 0 .variables → g ≡ countsIn Query x 0 .globals → l ≡ countsIn Query x 0 .literals → a ≡ steps → b ≡ tallied → c ≡ rejected
-    → PutsFrames o 0 (headerOf v g l a b c ∷ []) p at → PutsSteps x (replicate 64 false) ks p at q r
-    → PutsFrames o 0 (headerOf (countsIn Query x 0 .variables) (countsIn Query x 0 .globals) (countsIn Query x 0 .literals) steps tallied rejected ∷ map frameOf (stepsAlong (atomOf (atomsOf x)) blank ks)) q r
-unfolding blank
-plan-is x ks steps tallied rejected v g l a b c at r o p q hv hg hl ha hb hc u w = rw (← hv, ← hg, ← hl, ← ha, ← hb, ← hc) (frames-then (headerOf v g l a b c ∷ []) (map frameOf (stepsAlong (atomOf (atomsOf x)) blank ks)) u (w .puts))
-
-pub header-near : (v g l a b c at : ℕ) (o p : List ℕ) → PutsFrames o 0 (headerOf v g l a b c ∷ []) p at → at < 4096
-unfolding textLength
-header-near v g l a b c at o p u = omega (arith, u .next)
-
 -- the longest plan has room
 fits-text : (x : List ℕ) (n c : ℕ) → reading Query x ≡ Accepted n c → (room : ℕ) → planMost ≤ room → true ≡ leb (length (planOf x .text)) room
 unfolding planOf
 fits-text x n c ok room l = sym (le-leb (length (planOf x .text)) room (let b = read-back x n c ok .short in omega arith))
-
--- ---- the plan in the order that was found
 
 module _ (x from : List ℕ) (n : ℕ) (s : Scheduled) (a : Accepts x) (y : Places x from n) (h : Scheduling x s) where
   abbrev O : List ℕ
@@ -137,15 +116,3 @@ module _ (x from : List ℕ) (n : ℕ) (s : Scheduled) (a : Accepts x) (y : Plac
         let n : 0 + length text ≡ length text = omega arith in
         let q : p ≡ text ++ drop (length text) o = w .is ∙ ap (λ (t : List ℕ). written o 0 t) is-text ∙ rw n at (sets-eq text o 0 (omega (arith, l))) in
         rw (le-ltb (length o) (length text) l, e, q, c ∙ counted, ← h .tallied, ← h .rejected)
-
--- ---- the entry, by what the reading says
-
-module _ (x o : List ℕ) (v : Reading) (is : v ≡ reading Query x) where
-  pub planned-back : (k l : ℕ) → v ≡ Refused k l → resultOf (TurnsBack k l) o ≡ plan x o
-  unfolding plan
-  planned-back k l e = rw (← is, e)
-
-  module _ (n c : ℕ) (e : v ≡ Accepted n c) (s : List ℕ) (h : Sheet x s) where
-    pub planned-whole : (q : Result) → q ≡ fitted (planOn s) o → q ≡ plan x o
-    unfolding plan
-    planned-whole q r = rw (← is, e) (r ∙ ap (λ (p : Plan). fitted p o) (plan-on x s h))

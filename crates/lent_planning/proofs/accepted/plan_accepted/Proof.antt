@@ -1,10 +1,10 @@
--- `planner::entry::plan_accepted` meets its contract: the places, the order, the plan, in turn; as many rounds as atoms, and one, are enough.
+-- `lent_planning::accepted::plan_accepted` meets its contract: the places, the order, the plan, in turn; as many rounds as atoms, and one, are enough.
 use mathlib.Core.Path.{refl}
 use Rattle.scheduling.proofs.LoopLaws.{rounds-enough}
 use Rattle.ordering.proofs.OrderLaws.{sheet-few, sheet-short, places-located}
 use borrow.Author.Needs.{needs}
-use Rattle.planner.proofs.entry.plan_accepted.Statement.{statement}
-use Rattle.planner.proofs.entry.plan_accepted.Tie as tie
+use Rattle.lent_planning.proofs.accepted.plan_accepted.Statement.{statement}
+use Rattle.lent_planning.proofs.accepted.plan_accepted.Tie as tie
 
 slice-aggregate-atom-places : tie.Need-slice-aggregate-atom-places
 slice-aggregate-atom-places c = search needs

@@ -4,9 +4,9 @@ use mathlib.Core.List.{List}
 use Rattle.frames.specs.Sheet.{frameAt, framesIn}
 use Rattle.cost.specs.QueryAtoms.{atomsIn}
 use Rattle.cost.specs.Choice.{planned, remembered}
-use Rattle.planner.specs.Planner.{Plan, planBy, Answer, writes, refusal, Result}
-use Rattle.planner.specs.declared.entry.Planned.{Planned}
-use Rattle.planner.specs.declared.entry.Planned.the-variants.{Written as Wrote, Refused}
+use Rattle.fitting.specs.Planner.{Plan, planBy, Answer, writes, refusal, Result}
+use Rattle.fitting.specs.declared.fit.Planned.{Planned}
+use Rattle.fitting.specs.declared.fit.Planned.the-variants.{Written as Wrote, Refused}
 
 -- bytes written, steps, tallied, rejected; or number and line
 abbrev pub answerOf : Planned → Answer

@@ -1,8 +1,8 @@
 // The plan's text, by the order of the atoms.
 ghost use mathlib.Core.Path.{_≡_};
 ghost use mathlib.Core.List.{_∷_, map};
-ghost use Prim.Native.Nat.{_+_, _<_, _≤_};
-ghost use lib.ListN.{length, take};
+ghost use Prim.Native.Nat.{_+_, _<_};
+ghost use lib.ListN.{take};
 ghost use Rattle.model.specs.Bound.{blank};
 ghost use Rattle.model.specs.Scheduling.{atomOf};
 ghost use Rattle.frame_tests.specs.declared.tests.Text.the-variants.{Query};

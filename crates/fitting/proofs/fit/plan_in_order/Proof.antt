@@ -1,11 +1,11 @@
--- `planner::entry::plan_in_order` meets its contract: by whether the plan fits.
+-- `fitting::fit::plan_in_order` meets its contract: by whether the plan fits.
 use native.Mathlib.Omega.{arith}
 use mathlib.Core.Path.{sym}
 use Rattle.ordering.proofs.OrderLaws.{places-located}
-use Rattle.planner.proofs.EntryLaws.{in-order, tallied-few, rejected-few, not-fitting, fitting}
+use Rattle.fitting.proofs.FitLaws.{in-order, tallied-few, rejected-few, not-fitting, fitting}
 use borrow.Author.Needs.{needs}
-use Rattle.planner.proofs.entry.plan_in_order.Statement.{statement}
-use Rattle.planner.proofs.entry.plan_in_order.Tie as tie
+use Rattle.fitting.proofs.fit.plan_in_order.Statement.{statement}
+use Rattle.fitting.proofs.fit.plan_in_order.Tie as tie
 
 fits-requires : tie.Need-fits-requires
 fits-requires c κs = search needs

@@ -13,7 +13,7 @@ use Rattle.model.specs.Guarantee.{schedule-bound-first}
 use Rattle.cost.specs.QueryAtoms.{atomsIn}
 use Rattle.cost.specs.Choice.{fresh, choose, choose-fair, planned}
 use Rattle.plan_facts.specs.QueryPlans.{ReadBack, plan-read-back}
-use Rattle.planner.specs.Planner.{stepsOf, talliedOf, rejectedOf}
+use Rattle.fitting.specs.Planner.{stepsOf, talliedOf, rejectedOf}
 use Rattle.ordering.specs.Accepted.{few-keys}
 
 -- "no step of a plan reads a variable that no earlier step has bound", all 14 kinds

@@ -1,10 +1,10 @@
--- `planner::text::plan_size` meets its contract: the place behind the last line, from 21 on.
+-- `plan_text::text::plan_size` meets its contract: the place behind the last line, from 21 on.
 use mathlib.Core.Path.{refl}
 use native.Mathlib.Omega.{arith}
-use Rattle.planner.proofs.EntryLaws.{size-is}
+use Rattle.plan_text.proofs.TextLaws.{size-is}
 use borrow.Author.Needs.{needs}
-use Rattle.planner.proofs.text.plan_size.Statement.{statement}
-use Rattle.planner.proofs.text.plan_size.Tie as tie
+use Rattle.plan_text.proofs.text.plan_size.Statement.{statement}
+use Rattle.plan_text.proofs.text.plan_size.Tie as tie
 
 slice-aggregate-write-steps : tie.Need-slice-aggregate-write-steps
 slice-aggregate-write-steps c = search needs

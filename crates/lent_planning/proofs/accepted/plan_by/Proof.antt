@@ -1,10 +1,10 @@
--- `planner::entry::plan_by` meets its contract.
+-- `lent_planning::accepted::plan_by` meets its contract.
 use Rattle.reading.proofs.ReadLaws.{read-within, read-fits, read-sheet, read-index}
 use Rattle.ordering.proofs.OrderLaws.{accepts}
-use Rattle.planner.proofs.EntryLaws.{planned-back, planned-whole}
+use Rattle.lent_planning.proofs.EntryLaws.{planned-back, planned-whole}
 use borrow.Author.Needs.{needs}
-use Rattle.planner.proofs.entry.plan_by.Statement.{statement}
-use Rattle.planner.proofs.entry.plan_by.Tie as tie
+use Rattle.lent_planning.proofs.accepted.plan_by.Statement.{statement}
+use Rattle.lent_planning.proofs.accepted.plan_by.Tie as tie
 
 read-indexed-requires : tie.Need-read-indexed-requires
 read-indexed-requires c κs = search needs

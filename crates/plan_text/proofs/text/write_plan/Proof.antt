@@ -1,10 +1,10 @@
--- `planner::text::write_plan` meets its contract: the header, then the steps.
+-- `plan_text::text::write_plan` meets its contract: the header, then the steps.
 use mathlib.Core.Path.{refl, ap}
 use Rattle.fields.specs.declared.field.Counts.{Counts}
-use Rattle.planner.proofs.EntryLaws.{plan-is, header-near}
+use Rattle.plan_text.proofs.TextLaws.{plan-is, header-near}
 use borrow.Author.Needs.{needs}
-use Rattle.planner.proofs.text.write_plan.Statement.{statement}
-use Rattle.planner.proofs.text.write_plan.Tie as tie
+use Rattle.plan_text.proofs.text.write_plan.Statement.{statement}
+use Rattle.plan_text.proofs.text.write_plan.Tie as tie
 
 counts-of-requires : tie.Need-counts-of-requires
 counts-of-requires c κs = search needs
