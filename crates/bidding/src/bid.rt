@@ -5,10 +5,10 @@ ghost use Rattle.cost.specs.QueryAtoms.{atomOfFrame};
 ghost use Rattle.cost.specs.Choice.{isCandidate};
 ghost use Rattle.lowering.specs.AtomLines.{AtomLine};
 ghost use Rattle.bidding.specs.Bidding.{betterOf};
+use binding::sets::is_set;
 use cost::memo::Sampling;
 use item_pricing::items::Costed;
 use lowering::atom::scans;
-use lowering::sets::is_set;
 
 // The cheapest atom so far, if one was found, its cost, and the tallies behind it.
 pub struct Best {

@@ -12,7 +12,7 @@ use Rattle.frames.specs.Sheet.{framesIn}
 use Rattle.first_reading.specs.First.{Sheet}
 use Rattle.frame_tests.specs.declared.tests.Text.the-variants.{Query}
 use Rattle.first_reading.specs.declared.first.Reading.the-variants.{Accepted}
-use Rattle.reading.specs.Second.{countsIn, reading}
+use Rattle.second_reading.specs.Second.{countsIn, reading}
 use Rattle.model.specs.Atoms.{Step}
 use Rattle.model.specs.Bound.{blank}
 use Rattle.model.specs.Lists.{getD-mem}
@@ -24,7 +24,7 @@ use Rattle.plans.specs.PlanText.{textOf, textLength, planText}
 use Rattle.plans.specs.PlanRead.{plan-length}
 use Rattle.plans.specs.Longest.{planMost}
 use Rattle.passes.specs.Eager.{Located, atomsOf}
-use Rattle.passes.specs.Places.{Places}
+use Rattle.placing.specs.Places.{Places}
 use Rattle.scheduling.specs.Rounds.{Scheduling}
 use Rattle.scheduling.specs.declared.schedule.Scheduled.{Scheduled}
 use Rattle.writing.specs.Steps.{stepsAlong, countAlong, lowered-steps, lowered-count, Ordered}

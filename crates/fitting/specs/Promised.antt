@@ -7,7 +7,7 @@ use native.Mathlib.Omega.{arith}
 use Rattle.first_reading.specs.First.{framesOf}
 use Rattle.frame_tests.specs.declared.tests.Text.the-variants.{Query}
 use Rattle.first_reading.specs.declared.first.Reading.the-variants.{Accepted}
-use Rattle.reading.specs.Second.{reading}
+use Rattle.second_reading.specs.Second.{reading}
 use Rattle.model.specs.Reading.{boundFirst}
 use Rattle.model.specs.Guarantee.{schedule-bound-first}
 use Rattle.cost.specs.QueryAtoms.{atomsIn}

@@ -2,7 +2,7 @@
 ghost use mathlib.Core.Path.{_≡_};
 ghost use lib.ListN.{length};
 ghost use lib.Dec.{leb};
-ghost use Rattle.passes.specs.Places.{Places};
+ghost use Rattle.placing.specs.Places.{Places};
 ghost use Rattle.scheduling.specs.Rounds.{Scheduling};
 ghost use Rattle.fitting.specs.Planner.{fitted};
 ghost use Rattle.ordering.specs.Accepts.{Accepts};

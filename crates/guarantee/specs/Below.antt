@@ -11,7 +11,7 @@ use borrow.Author.Tests.{eqb-true}
 use Rattle.fields.specs.declared.field.Counts.{Counts}
 use Rattle.frame_tests.specs.declared.tests.Text.the-variants.{Query}
 use Rattle.first_reading.specs.declared.first.Reading.the-variants.{Accepted}
-use Rattle.reading.specs.Second.{reading}
+use Rattle.second_reading.specs.Second.{reading}
 use Rattle.model.specs.Bools.{either}
 use Rattle.model.specs.Atoms.{Operand, local, global, localOf, Atom, Plain, Lit, LitBind, Eq, EqGlobal, Pred, Variadic, varsIn, litsIn, Table}
 use Rattle.model.specs.Bound.{isIn}

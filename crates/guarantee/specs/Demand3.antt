@@ -12,7 +12,7 @@ use borrow.Author.Tests.{le-ltb}
 use Rattle.kinds.specs.Kinds.{plan as planText}
 use Rattle.frame_tests.specs.declared.tests.Text.the-variants.{Query}
 use Rattle.first_reading.specs.declared.first.Reading.the-variants.{Accepted}
-use Rattle.reading.specs.Second.{reading}
+use Rattle.second_reading.specs.Second.{reading}
 use Rattle.model.specs.Matching.{InShapes}
 use Rattle.model.specs.Guarantee.{alike, exact-same}
 use Rattle.plan_facts.specs.QueryPlans.{atomsOf, countAt}

@@ -10,7 +10,7 @@ use Rattle.hex.specs.Bytes.{digit-read}
 use Rattle.first_reading.specs.First.{firstLine}
 use Rattle.frame_tests.specs.declared.tests.Text.the-variants.{Query, Plan}
 use Rattle.first_reading.specs.declared.first.Reading.the-variants.{Accepted}
-use Rattle.reading.specs.Second.{reading}
+use Rattle.second_reading.specs.Second.{reading}
 use Rattle.reading_facts.specs.Whole.{query-within}
 use Rattle.model.specs.Atoms.{Step}
 use Rattle.plans.specs.StepFrames.{frameOf, headerOf}

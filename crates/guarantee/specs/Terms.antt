@@ -8,7 +8,7 @@ use lib.ListN.{length, drop}
 use Rattle.kinds.specs.Kinds.{table}
 use Rattle.first_reading.specs.First.{framesOf}
 use Rattle.frame_tests.specs.declared.tests.Text.the-variants.{Table}
-use Rattle.reading.specs.Second.{reading}
+use Rattle.second_reading.specs.Second.{reading}
 use Rattle.model.specs.Atoms.{Atom, Plain, Lit, LitBind, Eq, EqGlobal, Pred, Variadic}
 use Rattle.model.specs.Refusing.{isRun}
 use Rattle.model.specs.Waiting.{Unbound}

@@ -16,7 +16,7 @@ use Rattle.cost.specs.Emitters.{Emitters}
 use Rattle.cost.specs.Memo.{tallyAt}
 use Rattle.cost.specs.QueryAtoms.{operandAt}
 use Rattle.cost.specs.Costs.{Costed as Cost, sampled, orMeasured, times}
-use Rattle.lowering.specs.AtomLines.{itemOperands}
+use Rattle.binding.specs.ItemOperands.{itemOperands}
 use Rattle.samples.specs.declared.sampled.Probe.{Probe}
 use Rattle.samples.specs.Remembering.{Remembers}
 use Rattle.prices.specs.declared.items.Item.{Item}

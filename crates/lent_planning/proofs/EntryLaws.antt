@@ -6,7 +6,7 @@ use Rattle.first_reading.specs.First.{Sheet}
 use Rattle.frame_tests.specs.declared.tests.Text.the-variants.{Query}
 use Rattle.first_reading.specs.declared.first.Reading.{Reading}
 use Rattle.first_reading.specs.declared.first.Reading.the-variants.{Accepted, Refused}
-use Rattle.reading.specs.Second.{reading}
+use Rattle.second_reading.specs.Second.{reading}
 use Rattle.fitting.specs.Planner.{Plan, Result, fitted, plan}
 use Rattle.fitting.specs.Entry.{planOn, resultOf}
 use Rattle.fitting.specs.declared.fit.Planned.the-variants.{Refused as TurnsBack}

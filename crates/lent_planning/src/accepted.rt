@@ -10,8 +10,8 @@ use first_reading::first::sheet_size;
 use fitting::fit::Planned;
 use fitting::fit::plan_in_order;
 use frame_tests::tests::Text;
-use ordering::order::find_order;
-use passes::places::atom_places;
+use ordering::order::plan_order;
+use placing::places::atom_places;
 use reading::second::read_indexed;
 
 fn plan_accepted(sheet: &[u8], index: &[u16], out: &mut [u8]) -> Planned
@@ -21,8 +21,7 @@ fn plan_accepted(sheet: &[u8], index: &[u16], out: &mut [u8]) -> Planned
 {
     let mut from = [0u16; 128];
     let n = atom_places(sheet, &mut from);
-    let mut costs = [0u64; 1];
-    let s = find_order(sheet, index, &from, n, n, &mut costs);
+    let s = plan_order(sheet, index, &from, n);
     plan_in_order(sheet, &from, n, s, out)
 }
 

@@ -6,7 +6,7 @@ use mathlib.Core.List.{List, [], _∷_, map}
 use native.Mathlib.Omega.{arith}
 use lib.ListN.{replicate}
 use Rattle.frame_tests.specs.declared.tests.Text.the-variants.{Query}
-use Rattle.reading.specs.Second.{countsIn}
+use Rattle.second_reading.specs.Second.{countsIn}
 use Rattle.model.specs.Bound.{blank}
 use Rattle.model.specs.Scheduling.{atomOf}
 use Rattle.plans.specs.StepFrames.{frameOf, headerOf}

@@ -6,14 +6,14 @@ ghost use lib.ListN.{take};
 ghost use Rattle.model.specs.Bound.{blank};
 ghost use Rattle.model.specs.Scheduling.{atomOf};
 ghost use Rattle.frame_tests.specs.declared.tests.Text.the-variants.{Query};
-ghost use Rattle.reading.specs.Second.{countsIn};
+ghost use Rattle.second_reading.specs.Second.{countsIn};
 ghost use Rattle.plans.specs.PlanText.{textLength};
 ghost use Rattle.plans.specs.StepFrames.{frameOf, headerOf};
 ghost use Rattle.passes.specs.Eager.{Located, atomsOf};
 ghost use Rattle.writing.specs.Steps.{Ordered, stepsAlong};
 ghost use Rattle.output.specs.Written.{PutsFrames};
 use frame_tests::tests::Text;
-use reading::second::counts_of;
+use second_reading::lines::counts_of;
 use writing::lines::header;
 use writing::steps::write_steps;
 

@@ -10,13 +10,13 @@ use lib.Ieee.{binary64, ofInt, ofBits, toBits, lt, mul, div}
 use Rattle.sqrt.specs.Sqrt.{wholeRoot, sqrt}
 use Rattle.measure.specs.Selectivity.{pathSelectivity}
 use Rattle.measure.specs.declared.FanOut.the-variants.{Measured}
-use Rattle.hex.specs.Lines.{split}
+use Rattle.hex_lines.specs.Lines.{split}
 use Rattle.fields.specs.Fields.{fieldPasses}
 use Rattle.kinds.specs.Kinds.{kindAt}
 use Rattle.frames.specs.Frames.{passAll}
 use Rattle.first_reading.specs.First.{framesOf}
-use Rattle.indexing.specs.Keys.{begins, find}
-use Rattle.reading.specs.Second.{reading}
+use Rattle.frame_keys.specs.Keys.{begins, find}
+use Rattle.second_reading.specs.Second.{reading}
 use Rattle.reading_facts.specs.Ascii.{ascii}
 use Rattle.model.specs.Bound.{put, hasAll, blank}
 use Rattle.model.specs.Tabulate.{tabulate}

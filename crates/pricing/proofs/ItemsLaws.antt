@@ -14,7 +14,7 @@ use Rattle.cost.specs.Emitters.{Emitters}
 use Rattle.cost.specs.QueryAtoms.{operandsFrom}
 use Rattle.cost.specs.Costs.{Costed as Cost, childCosts, elementCosts}
 use Rattle.plan_facts.specs.Remembered.{children-grow, elements-grow}
-use Rattle.lowering.proofs.OperandLaws.{operands-more}
+use Rattle.binding.proofs.OperandLaws.{operands-more}
 use Rattle.item_pricing.specs.ItemCosts.{itemCost, oneCost, itemCosts, costBehind, frameCosts, Stands, costAt}
 use Rattle.prices.specs.Items.{ItemsOf, itemAt}
 use Rattle.samples.specs.Remembering.{Remembers}

@@ -13,13 +13,13 @@ ghost use Rattle.lowering.specs.AtomLines.{AtomLine};
 ghost use Rattle.samples.specs.Remembering.{Samples, Remembers};
 ghost use Rattle.prices.specs.Prices.{Row};
 ghost use Rattle.item_pricing.specs.ItemCosts.{Stands};
-ghost use Rattle.pricing.specs.ItemCosts.{literalKind};
+ghost use Rattle.pricing.specs.LiteralKinds.{literalKind};
 use super::items::item_costs;
+use binding::sets::is_set;
 use cost::memo::Sampling;
 use hex::byte_at;
 use item_pricing::items::Costed;
 use lowering::atom::scans;
-use lowering::sets::is_set;
 
 // Whether a kind is Lit or LitBind.
 fn is_literal(kind: u8) -> bool

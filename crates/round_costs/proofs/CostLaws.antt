@@ -12,7 +12,7 @@ use Rattle.first_reading.specs.First.{Sheet}
 use Rattle.frame_tests.specs.declared.tests.Text.the-variants.{Query}
 use Rattle.first_reading.specs.declared.first.Reading.{Reading}
 use Rattle.first_reading.specs.declared.first.Reading.the-variants.{Accepted, Refused}
-use Rattle.reading.specs.Second.{reading}
+use Rattle.second_reading.specs.Second.{reading}
 use Rattle.passes.specs.Eager.{atomsOf}
 use Rattle.cost_bits.specs.CostBits.{costBits}
 use Rattle.scheduling.specs.Rounds.{Rounded}

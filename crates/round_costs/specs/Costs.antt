@@ -8,7 +8,7 @@ use Rattle.first_reading.specs.First.{framesOf}
 use Rattle.frame_tests.specs.declared.tests.Text.the-variants.{Query}
 use Rattle.first_reading.specs.declared.first.Reading.{Reading}
 use Rattle.first_reading.specs.declared.first.Reading.the-variants.{Accepted, Refused}
-use Rattle.reading.specs.Second.{reading}
+use Rattle.second_reading.specs.Second.{reading}
 use Rattle.cost.specs.QueryAtoms.{atomsIn}
 use Rattle.cost.specs.Choice.{Memory, rounds}
 use Rattle.cost_bits.specs.CostBits.{costBits}

@@ -11,7 +11,7 @@ use first_reading::first::Reading;
 use first_reading::first::sheet_size;
 use frame_tests::tests::Text;
 use ordering::order::find_order;
-use passes::places::atom_places;
+use placing::places::atom_places;
 use reading::second::LONG_INDEX;
 use reading::second::LONG_SHEET;
 use reading::second::MIDDLE_INDEX;

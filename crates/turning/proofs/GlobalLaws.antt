@@ -7,7 +7,7 @@ use native.Mathlib.Decide.{ℕ-discrete}
 use lib.ListN.{length, getD, set, length-set}
 use lib.Seq.{getD-set-same, getD-set-other, ext-getD}
 use Rattle.frames.specs.Sheet.{framesIn}
-use Rattle.indexing.specs.Keys.{find}
+use Rattle.frame_keys.specs.Keys.{find}
 use Rattle.model.specs.Tabulate.{tabulate, tabulate-at, tabulate-length}
 use Rattle.running.specs.Tables.{classFrom, globalIn, tableOf}
 use Rattle.turning.specs.Plans.{GlobalsRead}

@@ -10,8 +10,8 @@ use lib.ListN.{length, getD, drop}
 use borrow.Author.Tests.{ltb-true}
 use Rattle.base.specs.Choose.{pick, both-hold}
 use Rattle.hex.specs.Digits.{bytesOf}
-use Rattle.hex.specs.Lines.{lineAt}
-use Rattle.hex.specs.Cuts.{Line}
+use Rattle.hex_lines.specs.Lines.{lineAt}
+use Rattle.hex_lines.specs.Cuts.{Line}
 use Rattle.fields.specs.Limits.{variablesMost}
 use Rattle.kinds.specs.Kinds.{kinds, kindAt, plan}
 use Rattle.fields.specs.Fields.{fieldPasses, fieldIn}
@@ -20,7 +20,7 @@ use Rattle.first_reading.specs.First.{framesOf}
 use Rattle.fields.specs.declared.field.Counts.{Counts}
 use Rattle.fields.specs.declared.field.Test.the-variants.{Range}
 use Rattle.frame_tests.specs.declared.tests.Text.the-variants.{Plan}
-use Rattle.reading.specs.Second.{countsOf}
+use Rattle.second_reading.specs.Second.{countsOf}
 use Rattle.reading.specs.Walk.{taken-none, taken-line, taken-step, frames-end}
 use Rattle.reading_facts.specs.Whole.{Whole, accepted, Headed, headed}
 use Rattle.model.specs.Atoms.{Table}

@@ -14,8 +14,8 @@ use Rattle.base.specs.Choose.{pick}
 use Rattle.base.specs.Lists.{blank-at}
 use Rattle.hex.specs.Digits.{bytesOf, shortAt}
 use Rattle.hex.specs.Bytes.{byte-at, digits-bytes}
-use Rattle.hex.specs.Lines.{lineAt}
-use Rattle.hex.specs.Cuts.{Line}
+use Rattle.hex_lines.specs.Lines.{lineAt}
+use Rattle.hex_lines.specs.Cuts.{Line}
 use Rattle.kinds.specs.Kinds.{table}
 use Rattle.frame_tests.specs.Faults.{isRow}
 use Rattle.first_reading.specs.First.{framesOf}

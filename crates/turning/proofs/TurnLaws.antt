@@ -13,7 +13,7 @@ use Rattle.frame_tests.specs.declared.tests.Text.{Text}
 use Rattle.frame_tests.specs.declared.tests.Text.the-variants.{Plan, Table as TableText}
 use Rattle.first_reading.specs.declared.first.Reading.{Reading}
 use Rattle.first_reading.specs.declared.first.Reading.the-variants.{Accepted, Refused}
-use Rattle.reading.specs.Second.{reading}
+use Rattle.second_reading.specs.Second.{reading}
 use Rattle.indexing.specs.Index.{Indexed}
 use Rattle.reading.specs.IndexedReading.{ReadIndexed}
 use Rattle.model.specs.Bound.{blank}

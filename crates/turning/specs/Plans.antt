@@ -11,7 +11,7 @@ use Rattle.fields.specs.Limits.{variablesMost, globalsMost}
 use Rattle.first_reading.specs.First.{framesOf, Sheet}
 use Rattle.frame_tests.specs.declared.tests.Text.the-variants.{Plan, Table as TableText}
 use Rattle.first_reading.specs.declared.first.Reading.the-variants.{Accepted}
-use Rattle.reading.specs.Second.{reading}
+use Rattle.second_reading.specs.Second.{reading}
 use Rattle.model.specs.Atoms.{Table}
 use Rattle.model.specs.Bound.{Bound, blank}
 use Rattle.model.specs.Reading.{boundBy, pickedBy}

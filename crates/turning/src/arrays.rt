@@ -2,8 +2,8 @@
 ghost use mathlib.Core.Path.{_≡_};
 ghost use lib.ListN.{getD};
 ghost use Rattle.turning.specs.Steps.{childFits, literalFits, given, rowRead, childFault, literalFault, globalFault};
+use binding::sets::is_set;
 use fields::field::wide;
-use lowering::sets::is_set;
 
 fn shape_at(shapes: &[usize], op: u8) -> usize
     ensures { λ r. ⌜ r ≡ getD (now (shapes .entry)) op 0 ⌝ }

@@ -9,9 +9,9 @@ ghost use Rattle.plans.specs.StepFrames.{operandAt, lookupAt};
 ghost use Rattle.turning.specs.Steps.{opCount, lookupsOf, readBy, givenBy, fitsBy, otherThan};
 use super::arrays::child_fits;
 use super::arrays::is_given;
+use binding::sets::is_set;
 use fields::field::wide;
 use hex::line::byte_at;
-use lowering::sets::is_set;
 
 // Whether the operand at byte i is bound: a global always is.
 fn pv_is_bound(line: &[u8], i: usize, bound: &[bool]) -> bool

@@ -6,9 +6,9 @@ ghost use Rattle.hex.specs.Digits.{bytesOf};
 ghost use Rattle.model.specs.Bound.{put};
 ghost use Rattle.turning.specs.Plans.{bindsTarget, Markable, Stepped};
 use super::lookups::join_op;
+use binding::sets::set_bound;
 use fields::field::wide;
 use hex::line::byte_at;
-use lowering::sets::set_bound;
 
 fn binds(kind: u8) -> bool
     ensures { λ r. ⌜ r ≡ bindsTarget kind ⌝ }

@@ -4,7 +4,7 @@ ghost use Rattle.turning.specs.Plans.{Starting, StepsTested};
 use super::marks::step_marks;
 use super::shapes::Turned;
 use super::steps::step_fault;
-use hex::reader::line_from;
+use hex_lines::reader::line_from;
 
 // The steps in turn: the line of the first fault.
 pub fn steps_fault(

@@ -9,7 +9,7 @@ ghost use Rattle.running.specs.Tables.{rowOf};
 ghost use Rattle.turning.specs.Shapes.{shapeOf, fitsShape, RowNoted, TableNoted};
 use fields::field::wide;
 use hex::line::byte_at;
-use hex::reader::line_from;
+use hex_lines::reader::line_from;
 
 // What the tests find.
 pub enum Turned {

@@ -16,8 +16,8 @@ use super::lookups::lookups_fit;
 use super::lookups::lookups_given;
 use super::lookups::lookups_read;
 use super::lookups::none_names;
+use binding::sets::is_set;
 use hex::line::byte_at;
-use lowering::sets::is_set;
 
 // A step other than a Join, as far as the tests ask.
 pub enum Simple {

@@ -10,7 +10,7 @@ use Rattle.round_costs.proofs.rounds.costs_accepted.Reads as reads
 use Rattle.round_costs.proofs.rounds.costs_accepted.Lts as lts
 use Rattle.cost_bits.proofs.told.put_round.Reads as put-round-reads
 use Rattle.ordering.proofs.order.find_order.Reads as find-order-reads
-use Rattle.passes.proofs.places.atom_places.Reads as atom-places-reads
+use Rattle.placing.proofs.places.atom_places.Reads as atom-places-reads
 
 -- src/rounds.rt:43:32
 slice-aggregate-atom-places : tie.Need-slice-aggregate-atom-places

@@ -1,5 +1,5 @@
 -- `turning::lookups::pv_is_bound` meets its contract: by the operand's tag.
-use Rattle.lowering.proofs.OperandLaws.{global-bound, local-bound}
+use Rattle.binding.proofs.OperandLaws.{global-bound, local-bound}
 use borrow.Author.Needs.{needs}
 use Rattle.turning.proofs.lookups.pv_is_bound.Statement.{statement}
 use Rattle.turning.proofs.lookups.pv_is_bound.Tie as tie

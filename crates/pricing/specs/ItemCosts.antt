@@ -1,9 +1,0 @@
--- The cost of the items of an atom's frame, children of a Plain or elements of a collection, in one definition.
-use Prim.Native.Nat.{ℕ}
-use mathlib.Core.Bool.{Bool, true}
-use lib.Dec.{eqb}
-use Rattle.base.specs.Choose.{pick}
-
--- 02 Lit and 03 LitBind
-abbrev pub literalKind : ℕ → Bool
-literalKind k = pick (eqb k 2) true (eqb k 3)
