@@ -1,75 +1,42 @@
 -- The cheapest of the atoms that are left. Proved atom by atom, from what each cost stands for.
 use Prim.Native.Nat.{ℕ, suc, _+_, _<_, _≤_}
 use mathlib.Core.Path.{_≡_, refl, sym, _∙_, ap, subst}
-use mathlib.Core.Bool.{Bool, true, false, not, _&&_}
-use mathlib.Core.Option.{Option, none, some}
+use mathlib.Core.Bool.{Bool, true, false, not}
+use mathlib.Core.Option.{Option, none}
 use mathlib.Core.List.{List, [], _∷_, _++_, map, append-assoc, append-nil}
 use native.Mathlib.Omega.{arith}
 use native.Mathlib.Numerals.{add-one}
 use lib.ListN.{length, getD, set, take, drop, drop-of-length-le, length-set}
 use lib.Seq.{drop-cons, take-suc-set}
 use lib.Dec.{ltb}
-use lib.Ieee.{Float, binary64, lt, toBits}
+use lib.Ieee.{Float, binary64, toBits}
 use borrow.Author.Tests.{lt-ltb, not-true, not-false}
 use Rattle.base.specs.Choose.{pick}
 use Rattle.measure.specs.Selectivity.{zero64}
 use Rattle.frames.specs.Sheet.{frameAt, framesIn}
 use Rattle.model.specs.Atoms.{Atom}
-use Rattle.model.specs.Bound.{Bound, has}
-use Rattle.model.specs.Scheduling.{scans, atomOf, numbers}
+use Rattle.model.specs.Bound.{Bound}
+use Rattle.model.specs.Scheduling.{atomOf, numbers}
 use Rattle.model.specs.Tabulate.{tabulate-at, tabulate-length}
 use Rattle.model.specs.Cheapest.{Bid, Scan}
 use Rattle.query.specs.declared.statistics.Sampled.{Sampled}
 use Rattle.cost.specs.QueryAtoms.{atomOfFrame}
 use Rattle.cost.specs.Emitters.{Emitters}
 use Rattle.cost.specs.Sampling.{Tally}
-use Rattle.cost.specs.Costs.{Costed, estimateCost}
+use Rattle.cost.specs.Costs.{estimateCost}
 use Rattle.cost.specs.Memo.{tallyAt}
 use Rattle.cost.specs.Choice.{isCandidate, offer, offered, offers}
 use Rattle.cost.specs.declared.memo.Sampling.{Sampling}
 use Rattle.plan_facts.specs.Remembered.{Grows, grows-self, cost-grows}
 use Rattle.passes.specs.Eager.{Located, atomsOf}
-use Rattle.samples.specs.Remembering.{Samples, Remembers}
-use Rattle.pricing.specs.ItemCosts.{Stands}
-use Rattle.pricing.specs.declared.costs.Costed.{Costed as CostedAs}
-use Rattle.choosing.specs.declared.choose.Best.{Best}
-use Rattle.choosing.specs.Choosing.{bidOf, orBest, candidates, noCost, costBits, noted, Chose, betterOf}
-
--- ---- one atom
-
-module _ (U : Bound) (i : ℕ) (a : Atom) (t : Bool) (is : t ≡ has U i) where
-  pub candidate-used : t ≡ true → false ≡ isCandidate U i a
-  candidate-used h = rw (← is, h)
-
-  pub candidate-scans : t ≡ false → (u : Bool) → u ≡ scans a → u ≡ isCandidate U i a
-  candidate-scans h u e = rw (← is, h, e)
-
--- a cost against the best so far
-module _ (i : ℕ) (c : CostedAs) (b : Best) where
-  pub better-keeps : b .found ≡ true → not (lt (c .cost) (b .price)) ≡ true → record { found = true; who = b .who; price = b .price; tallies = c .tallies } ≡ betterOf i c b
-  better-keeps h k = rw (h, k)
-
-  pub better-below : b .found ≡ true → not (lt (c .cost) (b .price)) ≡ false → record { found = true; who = i; price = c .cost; tallies = c .tallies } ≡ betterOf i c b
-  better-below h k = rw (h, k)
-
-  pub better-first : b .found ≡ false → record { found = true; who = i; price = c .cost; tallies = c .tallies } ≡ betterOf i c b
-  better-first h = rw h
-
-  better-tallies : betterOf i c b .tallies ≡ c .tallies
-  better-tallies = by (b .found && not (lt (c .cost) (b .price)))
-    where
-      by : (t : Bool) → pick {A = Best} t (record { found = true; who = b .who; price = b .price; tallies = c .tallies }) (record { found = true; who = i; price = c .cost; tallies = c .tallies }) .tallies ≡ c .tallies
-      by true = refl
-      by false = refl
-
-  better-bid : bidOf (betterOf i c b .found) (betterOf i c b .who) (betterOf i c b .price) ≡ orBest i (some (c .cost)) (bidOf (b .found) (b .who) (b .price))
-  better-bid = by (b .found) (lt (c .cost) (b .price)) refl
-    where
-      by : (d l : Bool) → lt (c .cost) (b .price) ≡ l → (let r = pick {A = Best} (d && not l) (record { found = true; who = b .who; price = b .price; tallies = c .tallies }) (record { found = true; who = i; price = c .cost; tallies = c .tallies }) in bidOf (r .found) (r .who) (r .price)) ≡ orBest i (some (c .cost)) (bidOf d (b .who) (b .price))
-      by true true e = rw e
-      by true false e = rw e
-      by false true e = refl
-      by false false e = refl
+use Rattle.samples.specs.Remembering.{Remembers}
+use Rattle.item_pricing.specs.ItemCosts.{Stands}
+use Rattle.item_pricing.specs.declared.items.Costed.{Costed as CostedAs}
+use Rattle.bidding.specs.declared.bid.Best.{Best}
+use Rattle.bidding.specs.Bidding.{bidOf, orBest, betterOf}
+use Rattle.choosing.specs.Choosing.{candidates, Chose}
+use Rattle.cost_bits.specs.CostBits.{noCost, costBits, noted}
+use Rattle.bidding.proofs.BidLaws.{better-bid, better-tallies}
 
 -- ---- the atoms in turn
 

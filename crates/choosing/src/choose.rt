@@ -8,94 +8,25 @@ ghost use Rattle.frames.specs.Sheet.{framesIn};
 ghost use Rattle.indexing.specs.Index.{Indexed};
 ghost use Rattle.model.specs.Bound.{most};
 ghost use Rattle.model.specs.Scheduling.{numbers};
-ghost use Rattle.cost.specs.QueryAtoms.{atomOfFrame};
 ghost use Rattle.cost.specs.Emitters.{decode};
 ghost use Rattle.cost.specs.Memo.{tallyAt};
-ghost use Rattle.cost.specs.Choice.{isCandidate, offers};
-ghost use Rattle.lowering.specs.AtomLines.{AtomLine};
+ghost use Rattle.cost.specs.Choice.{offers};
 ghost use Rattle.passes.specs.Eager.{Located, atomsOf};
 ghost use Rattle.prices.specs.Prices.{Priced};
 ghost use Rattle.samples.specs.Remembering.{Samples, Remembers};
-ghost use Rattle.choosing.specs.Choosing.{noted, candidates, Chose, betterOf};
+ghost use Rattle.choosing.specs.Choosing.{candidates, Chose};
+use advancing::advance::Scheduler;
+use bidding::bid::Best;
+use bidding::bid::better;
+use bidding::bid::is_candidate;
 use cost::memo::Sampling;
+use cost_bits::bits::NO_COST;
+use cost_bits::bits::note_cost;
 use fields::field::narrow;
-use lowering::atom::scans;
-use lowering::sets::is_set;
 use passes::eager::atom_line;
-use prices::table::ROW_SIZE;
-use pricing::costs::Costed;
+use prices::table::row_of;
 use pricing::costs::estimate_cost;
 use sqrt::bits_of;
-
-// The scheduler's state: the atoms lowered, the variables bound, the atoms that were lowered when emitters were last recorded, the
-// variables' emitters; the atoms lowered in order, and how many they are.
-pub struct Scheduler {
-    pub used: [bool; 64],
-    pub bound: [bool; 64],
-    pub before: [bool; 64],
-    pub emitters: [u32; 64],
-    pub order: [u8; 64],
-    pub count: usize,
-}
-
-// The cheapest atom so far, if one was found, its cost, and the tallies behind it.
-pub struct Best {
-    pub found: bool,
-    pub who: u8,
-    pub price: f64,
-    pub tallies: Sampling,
-}
-
-// A cost replaces the best only where it is below it.
-fn better(i: u8, c: Costed, b: Best) -> Best
-    ensures { λ r. ⌜ r ≡ betterOf i c b ⌝ }
-{
-    let tallies = c.tallies;
-    let found = true;
-    if b.found {
-        if !(c.cost < b.price) {
-            let who = b.who;
-            let price = b.price;
-            return Best {
-                found,
-                who,
-                price,
-                tallies,
-            };
-        }
-    }
-    let who = i;
-    let price = c.cost;
-    Best {
-        found,
-        who,
-        price,
-        tallies,
-    }
-}
-
-// An atom is a candidate where it is not used yet and scans.
-fn is_candidate(frame: &[u8], i: u8, used: &[bool]) -> bool
-    requires { ⌜ AtomLine (now frame) ⌝ }
-    ensures { λ r. ⌜ r ≡ isCandidate (now (used .entry)) i (atomOfFrame (now (frame .entry))) ⌝ }
-{
-    if is_set(used, i) {
-        return false;
-    }
-    scans(frame)
-}
-
-// The bits of no cost.
-pub const NO_COST: u64 = 0xffff_ffff_ffff_ffff;
-
-// Notes the bits of atom number i's cost, where there is a place for them.
-fn note_cost(costs: &mut [u64], i: usize, bits: u64)
-    ensures { λ _. ⌜ now (costs .exit) ≡ noted (now (costs .entry)) i bits ⌝ }
-{
-    if i < costs.len() {
-        costs[i] = bits;
-    }
-}
 
 // The cheapest of the n atoms, of those that are not used and scan; the bits of each cost are noted.
 pub fn cheapest(
@@ -137,13 +68,12 @@ pub fn cheapest(
             i += 1;
             continue;
         }
-        let at = ROW_SIZE * i;
-        let end = at + ROW_SIZE;
+        let row = row_of(prices, i);
         let c = estimate_cost(
             sheet,
             index,
             frame,
-            &prices[at..end],
+            row,
             k,
             &bound,
             &em,

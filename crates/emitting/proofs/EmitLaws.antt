@@ -19,8 +19,9 @@ use Rattle.model.specs.Premises.{numbersBelow}
 use Rattle.cost.specs.QueryAtoms.{operandsFrom, atomOfFrame}
 use Rattle.plans.specs.StepFrames.{frameOf}
 use Rattle.plans.specs.PlanText.{textLength}
-use Rattle.lowering.specs.AtomLines.{itemOperands, boundBehind, Lowers}
-use Rattle.lowering.proofs.SetLaws.{add-size}
+use Rattle.binding.specs.ItemOperands.{itemOperands}
+use Rattle.lowering.specs.AtomLines.{boundBehind, Lowers}
+use Rattle.binding.proofs.SetLaws.{add-size}
 use Rattle.lowering.proofs.AtomLaws.{by-kind, items-kind, node-kind}
 use Rattle.output.specs.Written.{fixedIn, PutsFrames, PutsStep}
 use Rattle.output.proofs.PutLaws.{frames-none, frames-then}

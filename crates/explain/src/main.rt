@@ -10,7 +10,7 @@ mod words;
 
 use accepted::explain_plan;
 use hex::line::byte_at;
-use hex::reader::line_from;
+use hex_lines::reader::line_from;
 use planned::explain_query;
 use printing::TEXT_ROOM;
 

@@ -4,11 +4,11 @@ use mathlib.Core.Path.{_≡_, refl, ap, _∙_, sym}
 use mathlib.Core.List.{List}
 use native.Mathlib.Omega.{arith}
 use borrow.Author.Tests.{ne-eqb}
-use Rattle.planner.specs.Planner.{Result, plan}
+use Rattle.fitting.specs.Planner.{Result, plan}
 use Rattle.planner.specs.AnswerBounds.{Within, plan-within}
-use Rattle.planner.specs.Entry.{answerOf, resultOf}
-use Rattle.planner.specs.declared.entry.Planned.{Planned}
-use Rattle.planner.specs.declared.entry.Planned.the-variants.{Written, Refused}
+use Rattle.fitting.specs.Entry.{answerOf, resultOf}
+use Rattle.fitting.specs.declared.fit.Planned.{Planned}
+use Rattle.fitting.specs.declared.fit.Planned.the-variants.{Written, Refused}
 use Rattle.exports.specs.Plans.{packedAnswer, packedPlanned}
 
 -- the number of the case that was found

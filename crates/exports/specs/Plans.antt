@@ -4,9 +4,9 @@ use lib.Dec.{eqb}
 use Rattle.base.specs.Choose.{pick}
 use Rattle.packing.specs.Packed.{packedRefusal, packedCounts}
 use Rattle.frame_tests.specs.Faults.{textNumber}
-use Rattle.planner.specs.Planner.{Answer}
-use Rattle.planner.specs.declared.entry.Planned.{Planned}
-use Rattle.planner.specs.declared.entry.Planned.the-variants.{Written, Refused}
+use Rattle.fitting.specs.Planner.{Answer}
+use Rattle.fitting.specs.declared.fit.Planned.{Planned}
+use Rattle.fitting.specs.declared.fit.Planned.the-variants.{Written, Refused}
 
 -- the counts where the query is planned, number 0; else the refusal, its text by number: 00 query, 01 plan, 02 table
 abbrev pub packedAnswer : Answer → ℕ

@@ -9,7 +9,7 @@ use Rattle.packing.specs.Unpacked.{TellsRefusal, TellsCounts, TellsWritten, Tel
 use Rattle.frame_tests.specs.Faults.{textNumber}
 use Rattle.frame_tests.specs.declared.tests.Text.{Text}
 use Rattle.frame_tests.specs.declared.tests.Text.the-variants.{Query, Plan, Table}
-use Rattle.planner.specs.Planner.{Answer, plan}
+use Rattle.fitting.specs.Planner.{Answer, plan}
 use Rattle.round_costs.specs.Costs.{Answer as RoundAnswer, Chosen, Ended, Invalid, roundCosts}
 use Rattle.planner.specs.AnswerBounds.{Within, plan-within}
 use Rattle.round_costs.specs.Bounds.{RoundWithin, round-within}

@@ -1,10 +1,10 @@
 // The planner for programs outside the prover: one call from query text to plan text.
 ghost use mathlib.Core.Path.{_≡_};
-ghost use Rattle.planner.specs.Planner.{plan as planned};
+ghost use Rattle.fitting.specs.Planner.{plan as planned};
 ghost use Rattle.exports.specs.Plans.{packedAnswer, packedPlanned};
+use fitting::fit::Planned;
 use packing::counts;
 use packing::refusal;
-use planner::entry::Planned;
 use planner::entry::plan;
 
 // The answer as one number.

@@ -16,8 +16,8 @@ use Rattle.model.specs.Premises.{numbersBelow}
 use Rattle.cost.specs.QueryAtoms.{operandAt, operandsFrom}
 use Rattle.plans.specs.StepFrames.{frameOf}
 use Rattle.plans.specs.PlanText.{textOf, textLength}
-use Rattle.lowering.specs.AtomLines.{itemOperands}
-use Rattle.lowering.proofs.OperandLaws.{Marked, marked-none, marked-again, marked-all, next-below, operands-more}
+use Rattle.binding.specs.ItemOperands.{itemOperands}
+use Rattle.binding.proofs.OperandLaws.{Marked, marked-none, marked-again, marked-all, next-below, operands-more}
 use Rattle.output.specs.Written.{fixedIn, PutsFrames}
 use Rattle.output.proofs.PutLaws.{written-size, frames-none, frames-then}
 use Rattle.step_bytes.specs.Begun.{Begins}

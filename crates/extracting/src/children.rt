@@ -9,13 +9,13 @@ ghost use Rattle.model.specs.Lowering.{pvIsBound, pvMarkBound, markAll, readChi
 ghost use Rattle.model.specs.Premises.{numbersBelow};
 ghost use Rattle.cost.specs.QueryAtoms.{operandAt};
 ghost use Rattle.plans.specs.StepFrames.{frameOf};
-ghost use Rattle.lowering.specs.AtomLines.{itemOperands};
+ghost use Rattle.binding.specs.ItemOperands.{itemOperands};
 ghost use Rattle.output.specs.Written.{PutsFrames};
+use binding::operands::pv_mark_bound;
 use frames::frame::items_of;
 use hex::byte_at;
 use kinds::table::fixed_length;
 use kinds::table::item_width;
-use lowering::operands::pv_mark_bound;
 use output::parts::put_line;
 use step_bytes::operand::child_at;
 

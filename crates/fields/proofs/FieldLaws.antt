@@ -1,19 +1,18 @@
 -- Laws of the fields: at which of them a test does not look, and what a field's code says. Assumes nothing.
 use Prim.Native.Nat.{ℕ, _+_, _-_, _/_, _%_, _<_, _≤_}
-use mathlib.Core.Path.{_≡_, refl, sym, _∙_, ap}
+use mathlib.Core.Path.{_≡_, refl, sym, _∙_}
 use mathlib.Core.List.{List, [], _∷_, map}
 use mathlib.Core.Bool.{Bool, true, false, true≢false}
 use native.Mathlib.Omega.{arith}
-use lib.Dec.{T, eqb, ltb}
-use lib.ListN.{getD, List·getD-map}
+use lib.Dec.{T, ltb}
+use lib.ListN.{List·getD-map}
 use borrow.Author.Tests.{lt-ltb, le-ltb, ltb-true, ltb-false, ne-eqb}
-use Rattle.base.specs.Choose.{pick}
 use Rattle.fields.specs.declared.field.Field.{Field}
 use Rattle.fields.specs.declared.field.Field.the-variants.{Free, Most, Variable, Global, Literal, Atom, Bootstrap, Real, Class, Operand, Element, KeySite, ProbePath, Ends, Rest, Lookup}
 use Rattle.fields.specs.declared.field.Counts.{Counts}
 use Rattle.fields.specs.declared.field.Test.{Test}
 use Rattle.fields.specs.declared.field.Test.the-variants.{Limits, Range, Reals}
-use Rattle.fields.specs.Fields.{width, fieldFits, fieldIn, fieldReal, fieldPasses, noCounts}
+use Rattle.fields.specs.Fields.{width, fieldFits, fieldIn, fieldReal, fieldPasses}
 use Rattle.fields.specs.Unread.{tests, looks}
 use Rattle.fields.specs.Codes.{named, decode}
 use Rattle.fields.proofs.MatchLaws.{Others, listed, unlisted, covers, others}

@@ -1,7 +1,7 @@
 -- A `match` on a number: what its last arm says, where the others name each number that needs one. Assumes nothing.
 use Prim.Native.Nat.{ℕ, zero, suc, _+_}
 use mathlib.Core.Path.{_≡_, refl, subst}
-use mathlib.Core.List.{List, [], _∷_, map}
+use mathlib.Core.List.{List, [], _∷_}
 use mathlib.Core.Bool.{Bool, true, false, _&&_}
 use native.Mathlib.Nat.{add-zero, add-suc, suc-add}
 use lib.Dec.{T, eqb, eqb→eq}

@@ -1,7 +1,7 @@
 -- The fields that frames are made of: how wide each is, and what a value of it must meet in tests 4, 5 and 6.
-use Prim.Native.Nat.{ℕ, _+_, _%_}
+use Prim.Native.Nat.{ℕ, _+_}
 use mathlib.Core.List.{List}
-use mathlib.Core.Bool.{Bool, true, false, _&&_}
+use mathlib.Core.Bool.{Bool, true}
 use lib.ListN.{getD}
 use lib.Dec.{ltb, leb, eqb}
 use Rattle.base.specs.Choose.{pick}
@@ -12,6 +12,7 @@ use Rattle.fields.specs.declared.field.Field.the-variants.{Free, Most, V
 use Rattle.fields.specs.declared.field.Counts.{Counts}
 use Rattle.fields.specs.declared.field.Test.{Test}
 use Rattle.fields.specs.declared.field.Test.the-variants.{Limits, Range, Reals}
+use Rattle.field_values.specs.FieldValues.{endsFit, lookupFits, pathFits, realFits, restFits, siteFits}
 
 -- "fields are one byte, big-endian if wider. .. An operand is tag (00 local, 01 global) and index." A free field takes any bytes; an element
 -- is an operand and its multiplicity.
@@ -34,38 +35,6 @@ width Rest = 2
 width Lookup = 4
 
 -- ---- test 4: "above a limit; undefined tag, site, path, flag, lookup; unused byte not 00"
-
--- a byte is 00 where it is unused
-abbrev pub usedOrZero : Bool → ℕ → Bool
-usedOrZero used b = pick used true (eqb b 0)
-
--- "22 .. site position ..; sites 00 node, 01 child, 02 element. .. Position is 00 where unused."
-abbrev pub siteFits : ℕ → ℕ → Bool
-siteFits site position = pick (leb site 2) (usedOrZero (eqb site 1) position) false
-
--- "23 .. path position ..; paths 00 child position, 01 contains."
-abbrev pub pathFits : ℕ → ℕ → Bool
-pathFits path position = pick (leb path 1) (usedOrZero (eqb path 0) position) false
-
--- "flags pre suf .. (flag 1 pre, 2 suf, absent 00)"
-abbrev pub endsFit : ℕ → ℕ → ℕ → Bool
-endsFit flags pre suf = pick (leb flags 3) (pick (usedOrZero (eqb (flags % 2) 1) pre) (usedOrZero (leb 2 flags) suf) false) false
-
--- "flag rest .. (flag 1 rest, absent 00)"
-abbrev pub restFits : ℕ → ℕ → Bool
-restFits flag rest = pick (leb flag 1) (usedOrZero (eqb flag 1) rest) false
-
-abbrev pub bothZero : ℕ → ℕ → Bool
-bothZero b c = pick (eqb b 0) (eqb c 0) false
-
--- "Lookups are four bytes: 00 op 00 00; 01 operand position; 02 node 00 00; 03 operand 00, for ByOp, ByChildPos, ByRepr, ByContains."
-abbrev pub lookupFits : ℕ → ℕ → ℕ → ℕ → Bool
-lookupFits tag a b c =
-    pick (eqb tag 0) (bothZero b c)
-    (pick (eqb tag 1) (leb a 1)
-    (pick (eqb tag 2) (bothZero b c)
-    (pick (eqb tag 3) (pick (leb a 1) (eqb c 0) false)
-    false)))
 
 -- the field that begins at byte i of the frame f is within its limits
 unfoldable pub fieldFits : Field → List ℕ → ℕ → Bool
@@ -114,10 +83,6 @@ fieldIn n Rest f i = true
 fieldIn n Lookup f i = lookupIn n (getD f i 0) (getD f (i + 1) 0) (getD f (i + 2) 0)
 
 -- ---- test 6: "by_repr, fan-out or cv not finite or below 0"
-
--- f64 bits of a number that is finite and not below 0: minus zero's, and those below infinity's
-abbrev pub realFits : ℕ → Bool
-realFits bits = pick (eqb bits 0x8000_0000_0000_0000) true (ltb bits 0x7ff0_0000_0000_0000)
 
 unfoldable pub fieldReal : Field → List ℕ → ℕ → Bool
 fieldReal (Free n) f i = true

@@ -1,8 +1,14 @@
 // The fields that frames are made of, and the tests 4, 5 and 6 of one field.
 ghost use mathlib.Core.Path.{_≡_};
-ghost use Prim.Native.Nat.{ℕ, _<_, _≤_};
-ghost use Rattle.fields.specs.Fields.{width as widthOf, usedOrZero, siteFits, pathFits, endsFit, restFits, bothZero, lookupFits, fieldFits, operandIn, lookupIn, fieldIn, realFits, fieldReal, fieldPasses};
+ghost use Prim.Native.Nat.{_<_, _≤_};
+ghost use Rattle.fields.specs.Fields.{width as widthOf, fieldFits, operandIn, lookupIn, fieldIn, fieldReal, fieldPasses};
 ghost use Rattle.fields.specs.Codes.{decode};
+use field_values::values::ends_fit;
+use field_values::values::lookup_fits;
+use field_values::values::path_fits;
+use field_values::values::real_fits;
+use field_values::values::rest_fits;
+use field_values::values::site_fits;
 use hex::byte_at;
 use hex::long_at;
 use hex::short_at;
@@ -113,80 +119,6 @@ pub fn width(code: u8) -> usize
     }
 }
 
-fn used_or_zero(used: bool, b: u8) -> bool
-    ensures { λ r. ⌜ r ≡ usedOrZero used b ⌝ }
-{
-    if used { true } else { b == 0 }
-}
-
-fn site_fits(site: u8, position: u8) -> bool
-    ensures { λ r. ⌜ r ≡ siteFits site position ⌝ }
-{
-    if site <= 2 {
-        used_or_zero(site == 1, position)
-    } else {
-        false
-    }
-}
-
-fn path_fits(path: u8, position: u8) -> bool
-    ensures { λ r. ⌜ r ≡ pathFits path position ⌝ }
-{
-    if path <= 1 {
-        used_or_zero(path == 0, position)
-    } else {
-        false
-    }
-}
-
-fn ends_fit(flags: u8, pre: u8, suf: u8) -> bool
-    ensures { λ r. ⌜ r ≡ endsFit flags pre suf ⌝ }
-{
-    if 3 < flags {
-        return false;
-    }
-    if used_or_zero(flags % 2 == 1, pre) {
-        return used_or_zero(2 <= flags, suf);
-    }
-    false
-}
-
-fn rest_fits(flag: u8, rest: u8) -> bool
-    ensures { λ r. ⌜ r ≡ restFits flag rest ⌝ }
-{
-    if flag <= 1 {
-        used_or_zero(flag == 1, rest)
-    } else {
-        false
-    }
-}
-
-fn zeros(b: u8, c: u8) -> bool
-    ensures { λ r. ⌜ r ≡ bothZero b c ⌝ }
-{
-    if b == 0 { c == 0 } else { false }
-}
-
-fn lookup_fits(tag: u8, a: u8, b: u8, c: u8) -> bool
-    ensures { λ r. ⌜ r ≡ lookupFits tag a b c ⌝ }
-{
-    if tag == 0 {
-        return zeros(b, c);
-    }
-    if tag == 1 {
-        return a <= 1;
-    }
-    if tag == 2 {
-        return zeros(b, c);
-    }
-    if tag == 3 {
-        if a <= 1 {
-            return c == 0;
-        }
-    }
-    false
-}
-
 // Test 4 of the field with this code that begins at byte i.
 pub fn field_fits(code: u8, frame: &[u8], i: usize) -> bool
     requires { ⌜ i < 65300 ⌝ }
@@ -262,16 +194,6 @@ pub fn field_in(n: Counts, code: u8, frame: &[u8], i: usize) -> bool
             byte_at(frame, i + 2),
         ),
         _ => true,
-    }
-}
-
-fn real_fits(bits: u64) -> bool
-    ensures { λ r. ⌜ r ≡ realFits bits ⌝ }
-{
-    if bits == 0x8000_0000_0000_0000 {
-        true
-    } else {
-        bits < 0x7ff0_0000_0000_0000
     }
 }
 

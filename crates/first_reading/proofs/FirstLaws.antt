@@ -1,7 +1,7 @@
 -- The first reading, a test and a line at a time. Assumes nothing.
 use Prim.Native.Nat.{ℕ, zero, suc, _+_, _-_, _*_, _/_, _%_, _<_, _≤_}
 use mathlib.Core.Path.{_≡_, refl, sym, _∙_, ap}
-use mathlib.Core.Bool.{Bool, true, false, not, true≢false}
+use mathlib.Core.Bool.{Bool, true, false, true≢false}
 use mathlib.Core.List.{List, [], _∷_, _++_, map, append-assoc, append-nil}
 use native.Mathlib.Numerals.{add-one}
 use native.Mathlib.Nat.{zero-add}
@@ -9,24 +9,22 @@ use native.Mathlib.Omega.{arith}
 use lib.ListN.{length, getD, take, drop, drop-of-length-le, length-drop, length-take}
 use lib.Seq.{drop-cons, length-take-le, drop-at, take-add, take-nil}
 use lib.Dec.{eqb}
-use borrow.Author.Tests.{lt-ltb, le-ltb, eq-eqb, ne-eqb, eqb-true, eqb-false, not-true, not-false}
+use borrow.Author.Tests.{lt-ltb, le-ltb, eq-eqb, ne-eqb, eqb-true, eqb-false}
 use Rattle.base.specs.Choose.{pick, pick-elim}
 use Rattle.hex.specs.Digits.{bytesOf, shortAt}
-use Rattle.hex.specs.Lines.{split, isHex, allDigits, hexLineIn, endOf}
-use Rattle.hex.specs.Decoding.{Room, Decodes}
-use Rattle.hex.specs.Cuts.{HexLine, hex-found, all-rest, end-is, cut}
-use Rattle.hex.specs.declared.Found.{Found}
-use Rattle.hex.specs.declared.Found.the-variants.{At, Nothing}
-use Rattle.fields.specs.declared.field.Test.the-variants.{Limits}
+use Rattle.hex_lines.specs.Lines.{split, isHex, allDigits, hexLineIn, endOf}
+use Rattle.hex_lines.specs.Decoding.{Room, Decodes}
+use Rattle.hex_lines.specs.Cuts.{HexLine, hex-found, all-rest, end-is, cut}
+use Rattle.hex_lines.specs.declared.decode.Found.{Found}
+use Rattle.hex_lines.specs.declared.decode.Found.the-variants.{At, Nothing}
 use Rattle.frame_tests.specs.declared.tests.Text.{Text}
 use Rattle.frame_tests.specs.declared.tests.Text.the-variants.{Query, Plan, Table}
 use Rattle.first_reading.specs.declared.first.Reading.{Reading}
 use Rattle.first_reading.specs.declared.first.Reading.the-variants.{Accepted, Refused}
-use Rattle.fields.specs.Fields.{fieldPasses, noCounts}
 use Rattle.fields.specs.Limits.{textMost}
-use Rattle.frames.specs.Frames.{frameLength, framePasses}
+use Rattle.frames.specs.Frames.{frameLength}
 use Rattle.frames.specs.Sheet.{frameAt, framesIn, laidOut, Whole}
-use Rattle.frame_tests.specs.Faults.{belongs, isCounted, hasRoom, counted, frameFault}
+use Rattle.frame_tests.specs.Faults.{isCounted, counted, frameFault}
 use Rattle.first_reading.specs.First.{framesOf, lineFault, atEnd, orElse, or-stops, firstLines, firstFrom, firstLine, stepsSay, stepsRight, emptyText, firstReading, sheetSize, SheetRoom, Sheet, Lays, LinesLaid, FirstLaid}
 use Rattle.frame_tests.proofs.FaultLaws.{fault-long}
 use Rattle.frames.proofs.SheetLaws.{no-frames, frame-before, frames-laid, laid-more, whole-more}

@@ -3,20 +3,21 @@ use Prim.Native.Nat.{ℕ, zero, suc, _+_, _-_, _/_, _<_, _≤_}
 use mathlib.Core.Path.{_≡_, refl, _∙_, ap}
 use mathlib.Core.List.{List}
 use native.Mathlib.Omega.{arith}
-use lib.ListN.{length, getD, take, drop}
+use lib.ListN.{length, take, drop}
 use lib.Dec.{eqb}
 use borrow.Author.Tests.{eq-eqb, ne-eqb}
-use Rattle.hex.specs.Lines.{hexLineOf}
-use Rattle.hex.specs.Decoding.{Room, behind, Passes}
-use Rattle.hex.specs.declared.Found.{Found}
-use Rattle.hex.specs.declared.Found.the-variants.{At, Nothing}
+use Rattle.hex_lines.specs.Lines.{hexLineOf}
+use Rattle.hex_lines.specs.Decoding.{Room, behind, Passes}
+use Rattle.hex_lines.specs.declared.decode.Found.{Found}
+use Rattle.hex_lines.specs.declared.decode.Found.the-variants.{At, Nothing}
 use Rattle.frame_tests.specs.declared.tests.Text.{Text}
-use Rattle.first_reading.specs.declared.first.Stand.{Stand}
+use Rattle.line_steps.specs.declared.stand.Stand.{Stand}
 use Rattle.first_reading.specs.declared.first.Reading.the-variants.{Accepted, Refused}
 use Rattle.fields.specs.Limits.{textMost}
 use Rattle.frame_tests.specs.Faults.{counted, frameFault}
 use Rattle.first_reading.specs.First.{SheetRoom, LinesLaid}
-use Rattle.first_reading.specs.Stands.{atStart, endedAt, byFault, afterFrame, afterLine, readingOf, Few, LineRoom}
+use Rattle.line_steps.specs.Steps.{atStart, byFault, afterLine, Few, LineRoom}
+use Rattle.first_reading.specs.Stands.{readingOf}
 use Rattle.first_reading.proofs.FirstLaws.{Seen, seen-starts, decode-room, lines-few, count-few, none-refused, behind-half, end-within, end-few, found-from, found-within, frame-long, line-refused, next-seen, all-passed}
 
 -- ---- what the functions return
@@ -27,23 +28,6 @@ module _ (s : Stand) where
 
   pub says-refused : (s .fault ≡ 0 → ⊥) → Refused (s .fault) (s .n + 1) ≡ readingOf s
   says-refused h = rw (ne-eqb _ _ h)
-
-  module _ (t : Text) (p : ℕ) where
-    module _ (f : List ℕ) (k : ℕ) (e : k ≡ frameFault t (eqb (s .n) 0) (s .c) f) where
-      pub frame-fails : (r : Stand) → (k ≡ 0 → ⊥) → r ≡ endedAt s p k → r ≡ afterFrame t f s p
-      frame-fails r z g = g ∙ rw (← e, ne-eqb _ _ z)
-
-      pub frame-passes : k ≡ 0 → (b v : ℕ) → b ≡ getD f 0 0 → v ≡ counted t (s .c) b → record { at = p; to = s .to + length f; n = s .n + 1; c = v; end = s .end; fault = 0 } ≡ afterFrame t f s p
-      frame-passes z b v g h = rw (h, g, ← e, eq-eqb _ _ z)
-
-    module _ (y : List ℕ) (r : Stand) where
-      pub line-missing : p ≡ s .at → r ≡ endedAt s p 1 → r ≡ afterLine t y s p
-      line-missing h g = g ∙ rw (eq-eqb _ _ h)
-
-      pub line-there : (p ≡ s .at → ⊥) → r ≡ afterFrame t (take (s .to + (p - s .at) / 2 - s .to) (drop (s .to) y)) s p → r ≡ afterLine t y s p
-      line-there h g =
-          let m : s .to + (p - s .at) / 2 - s .to ≡ (p - s .at) / 2 = omega arith in
-          g ∙ rw (ne-eqb _ _ h, m)
 
 -- ---- the lines in turn
 

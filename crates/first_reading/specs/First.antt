@@ -8,7 +8,7 @@ use lib.ListN.{length, getD, take}
 use lib.Dec.{ltb, eqb}
 use Rattle.base.specs.Choose.{pick}
 use Rattle.hex.specs.Digits.{bytesOf, shortAt}
-use Rattle.hex.specs.Lines.{split, isHex, endOf, lineAt}
+use Rattle.hex_lines.specs.Lines.{split, isHex, endOf, lineAt}
 use Rattle.fields.specs.Limits.{textMost}
 use Rattle.frames.specs.Sheet.{frameAt, framesIn, Whole}
 use Rattle.frame_tests.specs.declared.tests.Text.{Text}

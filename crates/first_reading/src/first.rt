@@ -1,22 +1,20 @@
 // The first reading of a text: each line is tested 1 to 4 in turn, then a plan's step count.
 ghost use mathlib.Core.Path.{_≡_};
-ghost use mathlib.Core.Bool.{true, false};
 ghost use Prim.Native.Nat.{_+_, _<_, _≤_};
 ghost use lib.ListN.{length};
 ghost use Rattle.first_reading.specs.First.{stepsRight, emptyText, sheetSize, SheetRoom, Lays, LinesLaid, FirstLaid};
-ghost use Rattle.first_reading.specs.Stands.{atStart, endedAt, afterFrame, afterLine, readingOf, Few, LineRoom};
-ghost use Rattle.kinds.specs.Kinds.{kindAt};
+ghost use Rattle.first_reading.specs.Stands.{readingOf};
 ghost use Rattle.hex.specs.Digits.{shortAt};
 use fields::field::wide_short;
 use frame_tests::tests::Text;
-use frame_tests::tests::counted;
-use frame_tests::tests::frame_fault;
 use frames::frame::frame_at;
-use hex::byte_at;
-use hex::reader::decode_next;
-use hex::reader::position;
-use hex::reader::reader_at;
 use hex::short_at;
+use hex_lines::reader::decode_next;
+use hex_lines::reader::position;
+use hex_lines::reader::reader_at;
+use line_steps::stand::Stand;
+use line_steps::stand::after_line;
+use line_steps::stand::at_start;
 
 // What a reading finds.
 pub enum Reading {
@@ -24,77 +22,6 @@ pub enum Reading {
     Accepted(usize, usize),
     // number and line
     Refused(u8, usize),
-}
-
-// Where the first reading stands: its places in the text and on the sheet, how many lines are passed and how many of them counted, where it
-// ends, and the test that the last line failed, or 0.
-struct Stand {
-    at: usize,
-    to: usize,
-    n: usize,
-    c: usize,
-    end: usize,
-    fault: u8,
-}
-
-fn at_start(size: usize) -> Stand
-    ensures { λ r. ⌜ r ≡ atStart size ⌝ }
-{
-    Stand {
-        at: 0,
-        to: 0,
-        n: 0,
-        c: 0,
-        end: size,
-        fault: 0,
-    }
-}
-
-// The line up to `next` fails the test k: the reading ends behind it.
-fn ended_at(s: Stand, next: usize, k: u8) -> Stand
-    ensures { λ r. ⌜ r ≡ endedAt s next k ⌝ }
-{
-    Stand {
-        at: next,
-        to: s.to,
-        n: s.n,
-        c: s.c,
-        end: next,
-        fault: k,
-    }
-}
-
-// The frame of the line up to `next` is tested.
-fn after_frame(t: Text, frame: &[u8], s: Stand, next: usize) -> Stand
-    requires { ⌜ Few s (length (now frame)) ⌝ }
-    ensures { λ r. ⌜ r ≡ afterFrame t (now (frame .entry)) s next ⌝ }
-{
-    let fault = frame_fault(t, s.n == 0, s.c, frame);
-    if fault != 0 {
-        return ended_at(s, next, fault);
-    }
-    Stand {
-        at: next,
-        to: s.to + frame.len(),
-        n: s.n + 1,
-        c: counted(t, s.c, byte_at(frame, 0)),
-        end: s.end,
-        fault: 0,
-    }
-}
-
-// The line from where the reading stands up to `next` was laid on the sheet; where there is none, it is no line of digits.
-fn after_line(t: Text, sheet: &[u8], s: Stand, next: usize) -> Stand
-    requires { ⌜ LineRoom s (now sheet) next ⌝ }
-    ensures { λ r. ⌜ r ≡ afterLine t (now (sheet .entry)) s next ⌝ }
-{
-    let at = s.at;
-    if next == at {
-        return ended_at(s, next, 1);
-    }
-    let to = s.to;
-    let end = to + (next - at) / 2;
-    after_frame(t, &sheet[to..end], s, next)
 }
 
 fn reading_of(s: Stand) -> Reading

@@ -13,7 +13,7 @@ use Rattle.fields.specs.declared.field.Counts.{Counts}
 use Rattle.frame_tests.specs.declared.tests.Text.the-variants.{Query, Table as TableText}
 use Rattle.first_reading.specs.declared.first.Reading.the-variants.{Accepted}
 use Rattle.first_reading.specs.First.{framesOf}
-use Rattle.reading.specs.Second.{reading}
+use Rattle.second_reading.specs.Second.{reading}
 use Rattle.model.specs.Bools.{either}
 use Rattle.model.specs.Atoms.{Operand, local, global, wild, localOf, Atom, Plain, Lit, LitBind, Eq, EqGlobal, Pred, Variadic, varsIn, litsIn, isRun}
 use Rattle.model.specs.Bound.{isIn}

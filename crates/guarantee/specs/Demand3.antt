@@ -14,12 +14,12 @@ use borrow.Author.Tests.{le-ltb}
 use Rattle.kinds.specs.Kinds.{plan as planText}
 use Rattle.frame_tests.specs.declared.tests.Text.the-variants.{Query}
 use Rattle.first_reading.specs.declared.first.Reading.the-variants.{Accepted}
-use Rattle.reading.specs.Second.{reading}
+use Rattle.second_reading.specs.Second.{reading}
 use Rattle.model.specs.Atoms.{Atom, isRun}
 use Rattle.model.specs.Matching.{InShapes}
 use Rattle.model.specs.Alike.{alike, exact-same}
 use Rattle.plan_facts.specs.QueryPlans.{atomsOf}
-use Rattle.planner.specs.Planner.{plan}
+use Rattle.fitting.specs.Planner.{plan}
 use Rattle.running.specs.Tables.{tableOf}
 use Rattle.running.specs.Validation.{Passed, Invalid, validation}
 use Rattle.running.specs.Run.{Result, run}

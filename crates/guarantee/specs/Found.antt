@@ -12,7 +12,7 @@ use Rattle.first_reading.specs.First.{framesOf}
 use Rattle.frame_tests.specs.declared.tests.Text.the-variants.{Query, Plan, Table}
 use Rattle.first_reading.specs.declared.first.Reading.{Reading}
 use Rattle.first_reading.specs.declared.first.Reading.the-variants.{Accepted, Refused}
-use Rattle.reading.specs.Second.{reading}
+use Rattle.second_reading.specs.Second.{reading}
 use Rattle.model.specs.Lists.{Pairs, pairs-map, pairs-of-map}
 use Rattle.model.specs.Atoms.{Step}
 use Rattle.model.specs.Bound.{has, blank}

@@ -1,7 +1,7 @@
 -- "The marked ones, together in a single statement over a table": the planner's examples and numbers, and the runner's.
 use mathlib.Core.Path.{_≡_}
 use mathlib.Core.List.{List, map}
-use Rattle.planner.specs.Planner.{Result}
+use Rattle.fitting.specs.Planner.{Result}
 use Rattle.planner.specs.Marked as plans
 use Rattle.running.specs.Run as runs
 use Rattle.running.specs.Examples as examples

@@ -10,7 +10,7 @@ use Rattle.hex.specs.Bytes.{digit-read}
 use Rattle.first_reading.specs.First.{framesOf, firstLine}
 use Rattle.frame_tests.specs.declared.tests.Text.the-variants.{Query, Plan}
 use Rattle.first_reading.specs.declared.first.Reading.the-variants.{Accepted}
-use Rattle.reading.specs.Second.{reading}
+use Rattle.second_reading.specs.Second.{reading}
 use Rattle.reading_facts.specs.Whole.{query-within}
 use Rattle.model.specs.Atoms.{Step}
 use Rattle.plans.specs.StepFrames.{frameOf, headerOf}
@@ -18,7 +18,7 @@ use Rattle.plans.specs.PlanText.{planText}
 use Rattle.plans.specs.Texts.{text-first}
 use Rattle.plan_facts.specs.QueryPlans.{atomsOf, countAt, ReadBack, plan-read-back}
 use Rattle.cost.specs.Choice.{Memory, fresh, choose, choose-fair, planned}
-use Rattle.planner.specs.Planner.{stepsOf, talliedOf, rejectedOf, planOf}
+use Rattle.fitting.specs.Planner.{stepsOf, talliedOf, rejectedOf, planOf}
 use Rattle.ordering.specs.Accepted.{few-keys}
 use Rattle.running.specs.Tables.{countsIn, lineCounts, planSteps, stepsIn}
 use Rattle.guarantee.specs.Terms.{planFor, FairPlan, fairSteps, lineOf}

@@ -8,7 +8,7 @@ use mathlib.Core.List.{List}
 use native.Mathlib.Omega.{arith}
 use Rattle.frame_tests.specs.declared.tests.Text.the-variants.{Query}
 use Rattle.first_reading.specs.declared.first.Reading.the-variants.{Accepted}
-use Rattle.reading.specs.Second.{reading}
+use Rattle.second_reading.specs.Second.{reading}
 use Rattle.model.specs.Running.{Env, Event, trace, attempts}
 use Rattle.model.specs.Matching.{InShapes, Line, line, IsMatch}
 use Rattle.model.specs.Limits.{Answer, SomeMatch, NoMatch, OutOfTries, Answers}

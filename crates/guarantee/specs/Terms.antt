@@ -10,7 +10,7 @@ use lib.ListN.{length, drop}
 use Rattle.kinds.specs.Kinds.{table}
 use Rattle.first_reading.specs.First.{framesOf}
 use Rattle.frame_tests.specs.declared.tests.Text.the-variants.{Table}
-use Rattle.reading.specs.Second.{reading}
+use Rattle.second_reading.specs.Second.{reading}
 use Rattle.model.specs.Atoms.{Atom, Plain, Lit, LitBind, Eq, EqGlobal, Pred, Variadic, isRun, Step}
 use Rattle.model.specs.Waiting.{isEq, Unbound}
 use Rattle.model.specs.Bound.{has}
@@ -21,7 +21,7 @@ use Rattle.model.specs.Lines.{SameAtoms}
 use Rattle.model.specs.Limits.{Done}
 use Rattle.model.specs.Running.{founds, attempts}
 use Rattle.plan_facts.specs.QueryPlans.{atomsOf, countAt, textFor}
-use Rattle.planner.specs.Planner.{planOf}
+use Rattle.fitting.specs.Planner.{planOf}
 use Rattle.running.specs.Tables.{tableOf}
 use Rattle.running.specs.Validation.{Verdict, andThen, ofReading, shapesFrom, globalOf, allGiven}
 use Rattle.running.specs.Run.{events, matchLine, lineText, Ran, Result}

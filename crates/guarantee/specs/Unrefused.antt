@@ -14,7 +14,7 @@ use Rattle.first_reading.specs.First.{framesOf}
 use Rattle.frame_tests.specs.declared.tests.Text.the-variants.{Query, Table as TableText}
 use Rattle.first_reading.specs.declared.first.Reading.{Reading}
 use Rattle.first_reading.specs.declared.first.Reading.the-variants.{Accepted, Refused}
-use Rattle.reading.specs.Second.{reading}
+use Rattle.second_reading.specs.Second.{reading}
 use Rattle.model.specs.Bools.{first, second}
 use Rattle.model.specs.Atoms.{Atom, Step, Row, Table, isRun}
 use Rattle.model.specs.Bound.{Bound, blank, has-blank}

@@ -1,19 +1,10 @@
-// Lines of hexadecimal digits, each ended by byte 0a, decoded onto a sheet of raw bytes; and the fields of a raw frame.
+// Hexadecimal digits, and the fields of two, four and eight bytes of a raw frame, or of a line of digits.
 ghost use mathlib.Core.Path.{_≡_};
 ghost use Prim.Native.Nat.{_+_, _*_, _-_, _%_, _<_, _≤_};
-ghost use lib.ListN.{length, getD, drop};
+ghost use lib.ListN.{getD};
 ghost use Rattle.hex.specs.Digits.{digitValue, hexDigit, shortAt, wordAt, longAt};
-ghost use Rattle.hex.specs.Lines.{endOf, lineAt};
-ghost use Rattle.hex.specs.Scan.{stoppedAt};
-ghost use Rattle.hex.specs.Decoding.{Room, Decodes};
 
 pub mod line;
-pub mod reader;
-
-pub enum Found {
-    At(usize),
-    Nothing,
-}
 
 // The digits that are written.
 const DIGITS: [u8; 16] = [
@@ -36,7 +27,7 @@ const DIGITS: [u8; 16] = [
 ];
 
 // What a byte counts as a digit, of either letter case: 16 where it is none.
-fn digit_value(b: u8) -> u8
+pub fn digit_value(b: u8) -> u8
     ensures { λ r. ⌜ (r ≡ digitValue b) × (r ≤ 16) ⌝ }
 {
     if b < 58 {
@@ -133,77 +124,4 @@ pub fn long_at(frame: &[u8], i: usize) -> u64
     let high = wide64(word_at(frame, i));
     let low = wide64(word_at(frame, i + 4));
     high * 0x1_0000_0000 + low
-}
-
-// Whether the bytes from `at` up to i, all digits, are a whole line that byte b ends.
-fn stopped(at: usize, i: usize, b: u8) -> Found
-    requires { ⌜ at ≤ i ⌝ }
-    ensures { λ r. ⌜ r ≡ stoppedAt at i b ⌝ }
-{
-    if b != 10 {
-        return Found::Nothing;
-    }
-    if i - at == 0 {
-        return Found::Nothing;
-    }
-    if (i - at) % 2 == 0 {
-        return Found::At(i);
-    }
-    Found::Nothing
-}
-
-// The line of digits at `at` is laid as bytes on the sheet, from place `to` on: the place of the 0a that ends it. One pass over the line.
-pub fn decode_line(text: &[u8], at: usize, sheet: &mut [u8], to: usize) -> Found
-    requires { ⌜ Room (now text) at (now sheet) to ⌝ }
-    ensures { λ r. ⌜ Decodes (now (text .entry)) at (now (sheet .entry)) to (now (sheet .exit)) r ⌝ }
-{
-    if text.len() == 0 {
-        return Found::Nothing;
-    }
-    let last = text.len() - 1;
-    let mut i = at;
-    let mut j = to;
-    while i < last {
-        let high = digit_value(text[i]);
-        if high == 16 {
-            return stopped(at, i, text[i]);
-        }
-        let low = digit_value(text[i + 1]);
-        if low == 16 {
-            return Found::Nothing;
-        }
-        sheet[j] = high * 16 + low;
-        i += 2;
-        j += 1;
-    }
-    if i < text.len() {
-        return stopped(at, i, text[i]);
-    }
-    Found::Nothing
-}
-
-// The place of the first 0a from `at` on, or the text's length.
-fn line_end(text: &[u8], at: usize) -> usize
-    requires { ⌜ at ≤ length (now text) ⌝ }
-    ensures { λ r. ⌜ (r ≡ endOf at (drop at (now (text .entry)))) × (r ≤ length (now (text .entry))) ⌝ }
-{
-    let mut i = at;
-    while i < text.len() {
-        if text[i] == 10 {
-            return i;
-        }
-        i += 1;
-    }
-    i
-}
-
-// The line that begins at `at`: no bytes where the text ends before.
-pub fn line_at(text: &[u8], at: usize) -> &[u8]
-    ensures { λ r. ⌜ now r ≡ lineAt (now (text .entry)) at ⌝ }
-{
-    if text.len() < at {
-        return &text[0..0];
-    }
-    let e = line_end(text, at);
-    &text[at..e]
 }

@@ -1,4 +1,3 @@
-pub mod KeyLaws
 pub mod SlotLaws
 pub mod SearchLaws
 pub mod NoteLaws

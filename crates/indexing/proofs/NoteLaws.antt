@@ -13,7 +13,7 @@ use Rattle.base.specs.Choose.{pick}
 use Rattle.frames.specs.Sheet.{frameAt}
 use Rattle.kinds.specs.Kinds.{kindAt}
 use Rattle.frames.specs.Frames.{kindOf}
-use Rattle.indexing.specs.Keys.{begins, find, isFound, keyOf, keyGiven}
+use Rattle.frame_keys.specs.Keys.{begins, find, isFound, keyOf, keyGiven}
 use Rattle.indexing.specs.Index.{slotsFor, hashed, hashOf, slotOf, Slotted, Proper, placeOf, olderOf, latest, searched, found, Falling, givenBy, entered, noted, entriesWith, Indexes}
 use Rattle.indexing.proofs.SlotLaws.{slot-below, slotted-some, proper-slotted, begins-first, begins-hash, begins-part, key-slotted}
 use Rattle.indexing.proofs.SearchLaws.{enough}

@@ -11,10 +11,10 @@ use Rattle.base.specs.Choose.{pick}
 use Rattle.frames.specs.Sheet.{frameAt}
 use Rattle.frames.specs.Frames.{frameLength}
 use Rattle.kinds.specs.Kinds.{kindAt}
-use Rattle.indexing.specs.Keys.{begins, isFound}
+use Rattle.frame_keys.specs.Keys.{begins, isFound}
 use Rattle.indexing.specs.Index.{slotsFor, hashOf, placeOf, olderOf, searched, found, Falling, givenBy}
 use Rattle.indexing.proofs.SlotLaws.{take-least}
-use Rattle.indexing.proofs.KeyLaws.{shorter, part-begins, part-not}
+use Rattle.frame_keys.proofs.KeyLaws.{shorter, part-begins, part-not}
 
 pub number-past : (l : List ℕ) (i : ℕ) → length l ≤ i → (0 ≡ getD l i 0) × (0 < 65536)
 number-past l i h = (sym (List·getD-eq-default l 0 h), omega arith)

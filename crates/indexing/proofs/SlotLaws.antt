@@ -1,13 +1,13 @@
 -- The hash of a key: by its bytes in turn, and the same for a frame that begins with the key; its slot. Assumes nothing.
-use Prim.Native.Nat.{ℕ, zero, suc, _+_, _*_, _/_, _%_, _<_, _≤_}
-use mathlib.Core.Path.{_≡_, refl, sym, _∙_, ap}
+use Prim.Native.Nat.{ℕ, zero, suc, _+_, _*_, _%_, _<_, _≤_}
+use mathlib.Core.Path.{_≡_, refl, sym, _∙_}
 use mathlib.Core.Bool.{Bool, true, false, _&&_}
 use mathlib.Core.List.{List, [], _∷_}
 use native.Mathlib.Numerals.{add-one}
 use native.Mathlib.Nat.{mod-lt}
 use native.Mathlib.Omega.{arith}
-use lib.ListN.{length, getD, take, drop, set, length-set, drop-of-length-le}
-use lib.Seq.{drop-cons, getD-take, length-take-le, take-all, take-length, take-nil, take-suc, take-suc-set, take-take}
+use lib.ListN.{length, getD, take, drop, drop-of-length-le}
+use lib.Seq.{drop-cons, getD-take, length-take-le, take-all, take-length, take-nil, take-take}
 use lib.Dec.{T, eqb, leb, ltb, leb→le}
 use borrow.Author.Tests.{lt-ltb, le-ltb, eq-eqb, ne-eqb, le-leb, lt-leb, eqb-true, leb-true, leb-false, ltb-false}
 use Rattle.base.specs.Choose.{pick, pick-elim}
@@ -15,7 +15,7 @@ use Rattle.base.specs.Table.{all, both-left, both-right}
 use Rattle.kinds.specs.Kinds.{Kind, kinds, kindAt, fixedLength}
 use Rattle.frames.specs.Frames.{kindOf, frameLength}
 use Rattle.kinds.proofs.KindLaws.{held}
-use Rattle.indexing.specs.Keys.{begins, keyOf}
+use Rattle.frame_keys.specs.Keys.{begins, keyOf}
 use Rattle.indexing.specs.Index.{fewSlots, manySlots, largeIndex, slotsFor, hashes, hashed, mixed, hashOf, slotOf, Slotted, Proper}
 
 -- there are slots, and every key has one of them

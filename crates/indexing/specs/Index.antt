@@ -11,7 +11,7 @@ use Rattle.base.specs.Choose.{pick}
 use Rattle.frames.specs.Sheet.{frameAt, framesIn}
 use Rattle.kinds.specs.Kinds.{kindAt}
 use Rattle.frames.specs.Frames.{kindOf}
-use Rattle.indexing.specs.Keys.{begins, find, isFound, keyOf}
+use Rattle.frame_keys.specs.Keys.{begins, find, isFound, keyOf}
 
 -- few slots or many, and the numbers of the shortest index that has many
 abbrev pub fewSlots : ℕ

@@ -1,15 +1,15 @@
 // An index of a sheet's keyed frames: one list of entries a slot, by the first bytes of a frame's key.
 ghost use mathlib.Core.Path.{_≡_};
 ghost use Prim.Native.Nat.{_%_, _<_, _≤_};
-ghost use lib.ListN.{length, getD, take};
+ghost use lib.ListN.{length, getD};
 ghost use lib.Dec.{ltb};
 ghost use Rattle.base.specs.Choose.{pick};
 ghost use Rattle.frames.specs.Sheet.{framesIn};
 ghost use Rattle.frames.specs.Frames.{kindOf};
-ghost use Rattle.indexing.specs.Keys.{isFound, find as findOf};
+ghost use Rattle.frame_keys.specs.Keys.{find as findOf};
 ghost use Rattle.indexing.specs.Index.{slotsFor, hashed as hashedOf, hashOf, found, givenBy, noted, entriesWith, Falling, Proper, Indexed, Noting};
-use super::keys::begins_at;
 use fields::field::wide;
+use frame_keys::keys::begins_at;
 use frames::frame::frame_at;
 use kinds::table::key_length;
 

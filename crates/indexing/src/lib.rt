@@ -1,3 +1,2 @@
 // Frames found by their keys: an index of a sheet.
 pub mod index;
-pub mod keys;

@@ -1,8 +1,8 @@
 -- The line of a Join, by whether its node is bound and whether an operand is. Proved from its pieces in turn.
-use Prim.Native.Nat.{ℕ, suc, _+_, _*_, _<_, _≤_}
-use mathlib.Core.Path.{_≡_, refl, sym, _∙_, subst}
+use Prim.Native.Nat.{ℕ, suc, _+_, _<_, _≤_}
+use mathlib.Core.Path.{_≡_, refl, sym, _∙_}
 use mathlib.Core.Bool.{Bool, true, false}
-use mathlib.Core.List.{List, [], _∷_, _++_, flatMap}
+use mathlib.Core.List.{List, [], _∷_, flatMap}
 use native.Mathlib.Omega.{arith}
 use lib.ListN.{length, getD, take}
 use Rattle.fields.specs.Fields.{width}
@@ -16,7 +16,8 @@ use Rattle.plans.specs.PlanText.{textLength}
 use Rattle.plans.specs.StepFrames.{lookupBytes, frameOf}
 use Rattle.output.specs.Written.{Puts, PutsBytes, PutsFrames, PutsStep}
 use Rattle.output.proofs.PutLaws.{bytes-then, line-put}
-use Rattle.joining.specs.Joins.{operandLookups, joinOf}
+use Rattle.join_lookups.specs.OperandLookups.{operandLookups}
+use Rattle.joining.specs.Joins.{joinOf}
 
 -- ---- by the operator and by the operands that are bound
 

@@ -2,16 +2,10 @@
 use Prim.Native.Nat.{ℕ}
 use mathlib.Core.List.{List}
 use lib.ListN.{getD}
-use lib.Dec.{eqb}
-use Rattle.model.specs.Atoms.{Lookup, Step, Join}
+use Rattle.model.specs.Atoms.{Step, Join}
 use Rattle.model.specs.Bound.{Bound, has}
 use Rattle.model.specs.Lowering.{joinLookups}
-use Rattle.lowering.specs.AtomLines.{itemOperands}
-use Rattle.step_bytes.specs.Pieces.{lookupsOf}
-
--- the lookups by its operands that are bound: those of a Plain by their positions
-abbrev pub operandLookups : Bound → List ℕ → List Lookup
-operandLookups B f = lookupsOf (eqb (getD f 0 0) 1) B 0 (itemOperands f)
+use Rattle.join_lookups.specs.OperandLookups.{operandLookups}
 
 -- as atom k
 abbrev pub joinOf : Bound → ℕ → List ℕ → Step

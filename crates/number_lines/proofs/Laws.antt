@@ -9,11 +9,11 @@ use lib.Seq.{take-suc-set, take-all, drop-drop}
 use lib.Dec.{ltb}
 use borrow.Author.Tests.{lt-ltb, le-ltb, ne-eqb}
 use Rattle.base.specs.Choose.{pick}
-use Rattle.hex.specs.declared.Found.{Found}
-use Rattle.hex.specs.declared.Found.the-variants.{At, Nothing}
+use Rattle.hex_lines.specs.declared.decode.Found.{Found}
+use Rattle.hex_lines.specs.declared.decode.Found.the-variants.{At, Nothing}
 use Rattle.hex.specs.Digits.{bytesOf, longAt}
-use Rattle.hex.specs.Lines.{hexLineOf}
-use Rattle.hex.specs.Decoding.{Decodes}
+use Rattle.hex_lines.specs.Lines.{hexLineOf}
+use Rattle.hex_lines.specs.Decoding.{Decodes}
 use Rattle.hex.specs.Bytes.{bytes-length, bytes-take}
 use Rattle.number_lines.specs.Numbers.{numberOf, before, numbersOf}
 use Rattle.number_lines.specs.declared.Line.{Line}

@@ -4,10 +4,10 @@ use mathlib.Core.List.{List, [], _∷_}
 use lib.Dec.{ltb, eqb}
 use lib.ListN.{length, take, drop}
 use Rattle.base.specs.Choose.{pick}
-use Rattle.hex.specs.declared.Found.{Found}
-use Rattle.hex.specs.declared.Found.the-variants.{At, Nothing}
+use Rattle.hex_lines.specs.declared.decode.Found.{Found}
+use Rattle.hex_lines.specs.declared.decode.Found.the-variants.{At, Nothing}
 use Rattle.hex.specs.Digits.{bytesOf, longAt}
-use Rattle.hex.specs.Lines.{hexLineOf}
+use Rattle.hex_lines.specs.Lines.{hexLineOf}
 use Rattle.number_lines.specs.declared.Line.{Line}
 use Rattle.number_lines.specs.declared.Line.the-variants.{Number, Other}
 

@@ -3,9 +3,9 @@ ghost use mathlib.Core.Path.{_≡_};
 ghost use Prim.Native.Nat.{_≤_};
 ghost use lib.ListN.{length, take};
 ghost use Rattle.number_lines.specs.Numbers.{numberOf, numbersOf};
-use hex::Found;
-use hex::decode_line;
 use hex::long_at;
+use hex_lines::decode::Found;
+use hex_lines::decode::decode_line;
 
 pub enum Line {
     Number(u64),

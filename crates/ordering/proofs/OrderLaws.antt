@@ -12,7 +12,7 @@ use Rattle.first_reading.specs.declared.first.Reading.the-variants.{Accepted}
 use Rattle.fields.specs.Limits.{itemsMost}
 use Rattle.kinds.specs.Kinds.{itemsOf}
 use Rattle.frames.specs.Frames.{kindOf}
-use Rattle.reading.specs.Second.{reading}
+use Rattle.second_reading.specs.Second.{reading}
 use Rattle.measure.specs.declared.SamplerConfig.{SamplerConfig}
 use Rattle.query.specs.Statistics.{settings}
 use Rattle.query.specs.declared.statistics.Sampled.the-variants.{On, Off}
@@ -22,7 +22,7 @@ use Rattle.cost.specs.Choice.{rounds, remembered}
 use Rattle.plan_facts.specs.Remembered.{keysMost, FewKeys, never, nothing-sampled}
 use Rattle.lowering.specs.AtomLines.{AtomLine}
 use Rattle.passes.specs.Eager.{Located, atomsOf}
-use Rattle.passes.specs.Places.{Places, frames-length, located}
+use Rattle.placing.specs.Places.{Places, frames-length, located}
 use Rattle.prices.specs.Prices.{rowSize, tableSize, FewItems}
 use Rattle.samples.specs.Remembering.{Samples}
 use Rattle.ordering.specs.Accepts.{Accepts}

@@ -21,8 +21,8 @@ use Rattle.fields.specs.declared.field.Field.{Field}
 use Rattle.fields.specs.declared.field.Test.the-variants.{Limits}
 use Rattle.frame_tests.specs.declared.tests.Text.the-variants.{Query}
 use Rattle.first_reading.specs.declared.first.Reading.the-variants.{Accepted}
-use Rattle.indexing.specs.Keys.{begins, find, isFound}
-use Rattle.reading.specs.Second.{countsOf, reading}
+use Rattle.frame_keys.specs.Keys.{begins, find, isFound}
+use Rattle.second_reading.specs.Second.{countsOf, reading}
 use Rattle.reading_facts.specs.Passes.{frame-field}
 use Rattle.reading_facts.specs.Whole.{accepted, query-within}
 use Rattle.reading_facts.specs.Lookups.{find-some}
@@ -37,7 +37,7 @@ use Rattle.cost.specs.Choice.{rounds, remembered}
 use Rattle.records.specs.Items.{Each}
 use Rattle.plans.specs.Fitting.{AtomFits}
 use Rattle.lowering.specs.AtomLines.{AtomLine}
-use Rattle.passes.specs.Places.{frames-length}
+use Rattle.placing.specs.Places.{frames-length}
 use Rattle.lowering.proofs.AtomLaws.{by-kind}
 use Rattle.passes.proofs.AcceptedLaws.{atom-line}
 use Rattle.plan_facts.specs.AtomFrames.{Good}

@@ -5,7 +5,7 @@ use mathlib.Core.List.{List}
 use Rattle.first_reading.specs.First.{Sheet}
 use Rattle.frame_tests.specs.declared.tests.Text.the-variants.{Query}
 use Rattle.first_reading.specs.declared.first.Reading.the-variants.{Accepted}
-use Rattle.reading.specs.Second.{reading}
+use Rattle.second_reading.specs.Second.{reading}
 
 -- s is the sheet of an accepted query text
 pub record Accepts (s : List ℕ) : Type 0 where

@@ -7,17 +7,17 @@ ghost use Rattle.indexing.specs.Index.{Indexed};
 ghost use Rattle.cost.specs.Choice.{rounds};
 ghost use Rattle.plan_facts.specs.Remembered.{keysMost};
 ghost use Rattle.passes.specs.Eager.{atomsOf};
-ghost use Rattle.passes.specs.Places.{Places};
+ghost use Rattle.placing.specs.Places.{Places};
 ghost use Rattle.prices.specs.Prices.{rowSize};
 ghost use Rattle.samples.specs.Remembering.{Samples};
-ghost use Rattle.scheduling.specs.Rounds.{Rounded};
+ghost use Rattle.scheduling.specs.Rounds.{Scheduling, Rounded};
 ghost use Rattle.ordering.specs.Accepts.{Accepts};
+use memo_entries::entry::KEYS_MOST;
 use prices::table::ROW_SIZE;
 use prices::table::TABLE_SIZE;
 use prices::table::fill_prices;
 use query::statistics::Sampled;
 use query::statistics::settings;
-use samples::memo::KEYS_MOST;
 use scheduling::schedule::Scheduled;
 use scheduling::schedule::schedule;
 
@@ -257,4 +257,15 @@ pub fn find_order(
         );
     };
     order_sampled(sheet, index, from, n, Sampled::On(cfg), last, costs)
+}
+
+// The order of all atoms: as many rounds as atoms, and one, are enough.
+pub fn plan_order(sheet: &[u8], index: &[u16], from: &[u16], n: usize) -> Scheduled
+    requires { ⌜ Accepts (now sheet) ⌝ }
+    requires { ⌜ Places (now sheet) (now from) n ⌝ }
+    requires { ⌜ Indexed (now sheet) (now index) ⌝ }
+    ensures { λ r. ⌜ Scheduling (now (sheet .entry)) r ⌝ }
+{
+    let mut costs = [0u64; 1];
+    find_order(sheet, index, from, n, n, &mut costs)
 }

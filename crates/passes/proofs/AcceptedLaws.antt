@@ -12,8 +12,8 @@ use Rattle.frame_tests.specs.Faults.{isAtom}
 use Rattle.first_reading.specs.declared.first.Reading.{Reading}
 use Rattle.first_reading.specs.declared.first.Reading.the-variants.{Accepted}
 use Rattle.reading.specs.Formed.{or-passes}
-use Rattle.indexing.specs.Keys.{keyGiven}
-use Rattle.reading.specs.Second.{secondFault, secondFrom}
+use Rattle.frame_keys.specs.Keys.{keyGiven}
+use Rattle.second_reading.specs.Second.{secondFault, secondFrom}
 use Rattle.fields.specs.Fields.{width, fieldIn, fieldPasses, operandIn}
 use Rattle.kinds.specs.Kinds.{kinds, kindAt}
 use Rattle.frames.specs.Frames.{passAll, framePasses}

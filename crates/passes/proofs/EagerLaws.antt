@@ -23,7 +23,7 @@ use Rattle.model.specs.Scheduled.{unlowered-lt, lower-eager-is}
 use Rattle.cost.specs.QueryAtoms.{atomOfFrame}
 use Rattle.lowering.specs.AtomLines.{lowers, boundBehind, Lowers}
 use Rattle.passes.specs.Eager.{state, Went, Tries, atomsOf, Lined, Located, Ready, Passed, LoweredEager}
-use Rattle.lowering.proofs.SetLaws.{add-size}
+use Rattle.binding.proofs.SetLaws.{add-size}
 use Rattle.passes.specs.LocatedLaws.{number-among}
 
 -- ---- composition

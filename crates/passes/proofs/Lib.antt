@@ -1,3 +1,2 @@
 pub mod EagerLaws
-pub mod PlaceLaws
 pub mod AcceptedLaws

@@ -1,8 +1,8 @@
 -- Eager passes over the atoms of a sheet: what is lowered, what is bound, and in which order.
 use Prim.Native.Nat.{ℕ, _+_, _-_, _<_, _≤_}
 use mathlib.Core.Path.{_≡_}
-use mathlib.Core.List.{List, [], _∷_, _++_, List·Memᴰ}
-use lib.ListN.{length, getD, take, drop}
+use mathlib.Core.List.{List, _++_, List·Memᴰ}
+use lib.ListN.{length, getD, take}
 use Rattle.frames.specs.Sheet.{frameAt, framesIn}
 use Rattle.model.specs.Atoms.{Atom, Step}
 use Rattle.model.specs.Bound.{Bound, addAll, most}

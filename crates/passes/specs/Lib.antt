@@ -1,3 +1,2 @@
 pub mod Eager
 pub mod LocatedLaws
-pub mod Places

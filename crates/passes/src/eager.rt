@@ -7,12 +7,12 @@ ghost use Rattle.frames.specs.Sheet.{frameAt};
 ghost use Rattle.model.specs.Bound.{has, most};
 ghost use Rattle.lowering.specs.AtomLines.{AtomLine};
 ghost use Rattle.passes.specs.Eager.{Tries, Lined, Located, Ready, Passed, LoweredEager};
+use binding::sets::is_set;
+use binding::sets::set_bound;
 use fields::field::narrow;
 use fields::field::wide_short;
 use lowering::atom::is_free;
 use lowering::atom::lower_bound;
-use lowering::sets::is_set;
-use lowering::sets::set_bound;
 
 // Takes atom i, by its frame, where it is not lowered yet and an eager pass lowers it; c atoms were taken before. How many now are.
 fn try_at(

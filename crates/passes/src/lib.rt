@@ -1,3 +1,2 @@
 // The atoms of a sheet, and eager passes over them.
 pub mod eager;
-pub mod places;

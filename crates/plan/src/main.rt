@@ -1,5 +1,5 @@
 // Plans the query text on standard input: prints the plan, or for a refused query the line ff number line(2).
-use planner::entry::PLAN_MOST;
+use fitting::fit::PLAN_MOST;
 use planner::entry::plan;
 use printing::TEXT_ROOM;
 use printing::print_planned;

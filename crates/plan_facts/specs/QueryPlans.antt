@@ -16,7 +16,7 @@ use Rattle.first_reading.specs.First.{framesOf, firstLine}
 use Rattle.fields.specs.declared.field.Counts.{Counts}
 use Rattle.frame_tests.specs.declared.tests.Text.the-variants.{Query, Plan}
 use Rattle.first_reading.specs.declared.first.Reading.the-variants.{Accepted}
-use Rattle.reading.specs.Second.{countsOf, reading}
+use Rattle.second_reading.specs.Second.{countsOf, reading}
 use Rattle.reading_facts.specs.Whole.{countFrom, accepted, query-within, frame-bytes}
 use Rattle.model.specs.Atoms.{Atom, Step}
 use Rattle.model.specs.Scheduling.{State, Chosen, Fair, atomOf, numbers, schedule}

@@ -10,12 +10,12 @@ use Rattle.base.specs.Choose.{pick-elim}
 use Rattle.frame_tests.specs.declared.tests.Text.the-variants.{Query}
 use Rattle.first_reading.specs.declared.first.Reading.{Reading}
 use Rattle.first_reading.specs.declared.first.Reading.the-variants.{Accepted, Refused}
-use Rattle.reading.specs.Second.{reading}
+use Rattle.second_reading.specs.Second.{reading}
 use Rattle.reading_facts.specs.Answers.{refused-number}
 use Rattle.reading_facts.specs.FewLines.{few-lines}
-use Rattle.planner.specs.Planner.{Answer, Result, plan, planOf, stepsOf, written, turnedBack}
+use Rattle.fitting.specs.Planner.{Answer, Result, plan, planOf, stepsOf, written, turnedBack}
 use Rattle.ordering.specs.Accepted.{few-keys}
-use Rattle.planner.specs.Promised.{read-back}
+use Rattle.fitting.specs.Promised.{read-back}
 
 pub record Within (a : Answer) : Type 0 where
   pub number : a .number ≤ 8

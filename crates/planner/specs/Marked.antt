@@ -4,19 +4,19 @@
 use Prim.Native.Nat.{ℕ}
 use mathlib.Core.Path.{_≡_, refl}
 use mathlib.Core.List.{List, [], _∷_, map, _++_, flatMap}
-use lib.ListN.{replicate, drop}
+use lib.ListN.{replicate}
 use lib.Count.{leadingZeros}
 use lib.Ieee.{binary64, ofInt, ofBits, toBits, lt, mul, div}
 use Rattle.sqrt.specs.Sqrt.{wholeRoot, sqrt}
 use Rattle.measure.specs.Selectivity.{pathSelectivity}
 use Rattle.measure.specs.declared.FanOut.the-variants.{Measured}
-use Rattle.hex.specs.Lines.{split}
+use Rattle.hex_lines.specs.Lines.{split}
 use Rattle.fields.specs.Fields.{fieldPasses}
 use Rattle.kinds.specs.Kinds.{kindAt}
 use Rattle.frames.specs.Frames.{passAll}
 use Rattle.first_reading.specs.First.{framesOf}
-use Rattle.indexing.specs.Keys.{begins, find}
-use Rattle.reading.specs.Second.{reading}
+use Rattle.frame_keys.specs.Keys.{begins, find}
+use Rattle.second_reading.specs.Second.{reading}
 use Rattle.reading_facts.specs.Ascii.{ascii}
 use Rattle.model.specs.Bound.{put, hasAll, blank}
 use Rattle.model.specs.Tabulate.{tabulate}
@@ -30,7 +30,7 @@ use Rattle.cost.specs.Costs.{childCosts, estimateCost}
 use Rattle.cost.specs.Choice.{planned, remembered}
 use Rattle.plans.specs.StepFrames.{frameOf}
 use Rattle.plans.specs.PlanText.{textOf, planText}
-use Rattle.planner.specs.Planner.{Answer, writes, refusal, Result, stepsOf, planOf, plan}
+use Rattle.fitting.specs.Planner.{Answer, writes, refusal, Result, stepsOf, planOf, plan}
 
 -- a query, a lent output, the answer, and the output then
 pub record Row : Type 0 where

@@ -1,3 +1,2 @@
 // The planner: a query text and a lent output in, the plan and its numbers out.
 pub mod entry;
-pub mod text;

@@ -20,8 +20,8 @@ use Rattle.fields.specs.declared.field.Counts.{Counts}
 use Rattle.frame_tests.specs.declared.tests.Text.the-variants.{Plan}
 use Rattle.first_reading.specs.declared.first.Reading.{Reading}
 use Rattle.first_reading.specs.declared.first.Reading.the-variants.{Accepted}
-use Rattle.indexing.specs.Keys.{keyGiven}
-use Rattle.reading.specs.Second.{countsOf, secondFault, secondFrom, reading}
+use Rattle.frame_keys.specs.Keys.{keyGiven}
+use Rattle.second_reading.specs.Second.{countsOf, secondFault, secondFrom, reading}
 use Rattle.model.specs.Atoms.{Step}
 use Rattle.records.specs.Items.{Each}
 use Rattle.plans.specs.StepFrames.{frameOf, headerOf, stepOf, CountsFit, StepFits}

@@ -11,7 +11,8 @@ use lib.Dec.{leb, ltb}
 use lib.Pow.{areBytes}
 use borrow.Author.Tests.{lt-ltb, le-leb}
 use Rattle.fields.specs.Limits.{itemsMost, lookupsMost}
-use Rattle.fields.specs.Fields.{fieldFits, fieldIn, fieldReal, fieldPasses, operandIn, lookupFits, lookupIn, endsFit, restFits}
+use Rattle.fields.specs.Fields.{fieldFits, fieldIn, fieldReal, fieldPasses, operandIn, lookupIn}
+use Rattle.field_values.specs.FieldValues.{lookupFits, endsFit, restFits}
 use Rattle.kinds.specs.Kinds.{kinds, kindAt}
 use Rattle.frames.specs.Frames.{frameLength, passAll, framePasses}
 use Rattle.frame_tests.specs.Faults.{belongs}
@@ -19,7 +20,7 @@ use Rattle.fields.specs.declared.field.Field.the-variants.{Operand as OperandFi
 use Rattle.fields.specs.declared.field.Counts.{Counts}
 use Rattle.fields.specs.declared.field.Test.the-variants.{Limits, Range, Reals}
 use Rattle.frame_tests.specs.declared.tests.Text.the-variants.{Plan}
-use Rattle.indexing.specs.Keys.{keyGiven}
+use Rattle.frame_keys.specs.Keys.{keyGiven}
 use Rattle.model.specs.Bools.{both, first, second}
 use Rattle.model.specs.Atoms.{Operand, local, global, wild, A, AC, ACI, Lookup, ByOp, ByChildPos, ByRepr, ByContains, Step, Join, ExtractChild, CheckChildEq, CheckEq, CheckEqGlobal, BindGlobal, CopyBinding, Expand, ExtractLitVal, CheckLit, CheckPred}
 use Rattle.model.specs.Lengths.{flat-length}

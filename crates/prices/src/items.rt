@@ -2,12 +2,12 @@
 ghost use mathlib.Core.Path.{_≡_};
 ghost use Prim.Native.Nat.{_+_, _*_, _<_};
 ghost use Rattle.prices.specs.Items.{ItemsOf, itemAt};
+use binding::operands::pv_is_bound;
 use fields::field::narrow;
 use frames::frame::items_of;
 use hex::byte_at;
 use kinds::table::fixed_length;
 use kinds::table::item_width;
-use lowering::operands::pv_is_bound;
 
 // The items of a frame: the byte of the first, the width and number of all, the atom's operator, and whether they are elements.
 pub struct Items {

@@ -1,7 +1,7 @@
 // The prices of a query's atoms that no sample changes, in one table: each is found once, before the rounds.
 ghost use mathlib.Core.Path.{_≡_};
-ghost use Prim.Native.Nat.{_+_, _*_, _<_, _≤_};
-ghost use lib.ListN.{length};
+ghost use Prim.Native.Nat.{_+_, _-_, _*_, _<_, _≤_};
+ghost use lib.ListN.{length, take, drop};
 ghost use Rattle.frames.specs.Sheet.{framesIn};
 ghost use Rattle.kinds.specs.Kinds.{itemsOf};
 ghost use Rattle.frames.specs.Frames.{kindOf};
@@ -26,6 +26,16 @@ use query::statistics::nodes;
 pub const ROW_SIZE: usize = 18;
 
 pub const TABLE_SIZE: usize = 64 * ROW_SIZE;
+
+// The row of atom number k.
+pub fn row_of(prices: &[f64], k: usize) -> &[f64]
+    requires { ⌜ rowSize * k + rowSize ≤ length (now prices) ⌝ }
+    ensures { λ r. ⌜ now r ≡ take (rowSize * k + rowSize - rowSize * k) (drop (rowSize * k) (now (prices .entry))) ⌝ }
+{
+    let at = ROW_SIZE * k;
+    let end = at + ROW_SIZE;
+    &prices[at..end]
+}
 
 // The measured fan-out of an item at a position.
 fn item_fan(sheet: &[u8], index: &[u16], g: Items, position: u8) -> FanOut

@@ -22,14 +22,15 @@ use Rattle.cost.specs.Memo.{tallyAt}
 use Rattle.cost.specs.QueryAtoms.{operandsFrom, atomOfFrame}
 use Rattle.cost.specs.Costs.{Costed as Cost, childCosts, elementCosts, byReprCost, estimateCost}
 use Rattle.cost.specs.declared.memo.Sampling.{Sampling}
-use Rattle.lowering.specs.AtomLines.{AtomLine, itemOperands}
+use Rattle.lowering.specs.AtomLines.{AtomLine}
+use Rattle.binding.specs.ItemOperands.{itemOperands}
 use Rattle.lowering.proofs.AtomLaws.{by-kind}
-use Rattle.pricing.specs.ItemCosts.{itemCosts, frameCosts, literalKind}
+use Rattle.item_pricing.specs.ItemCosts.{itemCosts, frameCosts, Stands, costAt}
+use Rattle.pricing.specs.LiteralKinds.{literalKind}
 use Rattle.prices.specs.Prices.{Row}
 use Rattle.samples.specs.Remembering.{Remembers}
-use Rattle.pricing.specs.ItemCosts.{Stands, costAt}
-use Rattle.pricing.specs.declared.costs.Costed.{Costed}
-use Rattle.pricing.proofs.ItemLaws.{children-are, elements-are}
+use Rattle.item_pricing.specs.declared.items.Costed.{Costed}
+use Rattle.pricing.proofs.ItemsLaws.{children-are, elements-are}
 use Rattle.prices.proofs.PriceLaws.{row-base, row-node}
 
 module _ (fs : List (List ℕ)) (em : Emitters) (B : Bound) (i : ℕ) (t : Tally) where

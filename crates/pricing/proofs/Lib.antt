@@ -1,3 +1,2 @@
-pub mod ProbeLaws
-pub mod ItemLaws
 pub mod CostLaws
+pub mod ItemsLaws

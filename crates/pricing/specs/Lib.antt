@@ -1,1 +1,1 @@
-pub mod ItemCosts
+pub mod LiteralKinds

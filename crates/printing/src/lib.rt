@@ -3,7 +3,7 @@ use answer_lines::end_line;
 use answer_lines::refusal_line;
 use answer_lines::turned_line;
 use entries::run::Outcome;
-use planner::entry::Planned;
+use fitting::fit::Planned;
 
 // Room for a text: one byte more than it may have, so that a longer text is seen to be too long.
 pub const TEXT_ROOM: usize = 65537;

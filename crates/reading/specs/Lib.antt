@@ -1,4 +1,3 @@
 pub mod Walk
 pub mod Formed
-pub mod Second
 pub mod IndexedReading

@@ -6,8 +6,8 @@ use native.Mathlib.Omega.{arith}
 use lib.ListN.{length, take, drop, length-drop, drop-of-length-le, take-append-drop}
 use lib.Seq.{take-add}
 use Rattle.hex.specs.Digits.{bytesOf}
-use Rattle.hex.specs.Lines.{Split, split, endOf, lineAt}
-use Rattle.hex.specs.Cuts.{Line, end-line, end-none, split-append, line-ends, line-within}
+use Rattle.hex_lines.specs.Lines.{Split, split, endOf, lineAt}
+use Rattle.hex_lines.specs.Cuts.{Line, end-line, end-none, split-append, line-ends, line-within}
 use Rattle.first_reading.specs.First.{framesOf}
 
 -- past the end there are no frames

@@ -9,7 +9,7 @@ use borrow.Author.Tests.{lt-ltb, le-ltb, ne-eqb, ltb-true, ltb-false}
 use lib.Dec.{ltb, eqb}
 use Rattle.base.specs.Choose.{pick-elim}
 use Rattle.hex.specs.Digits.{bytesOf}
-use Rattle.hex.specs.Lines.{split, isHex}
+use Rattle.hex_lines.specs.Lines.{split, isHex}
 use Rattle.fields.specs.Limits.{textMost}
 use Rattle.fields.specs.Fields.{fieldPasses, noCounts}
 use Rattle.frames.specs.Frames.{framePasses, frameLength}
@@ -21,8 +21,8 @@ use Rattle.frame_tests.specs.declared.tests.Text.{Text}
 use Rattle.frame_tests.specs.declared.tests.Text.the-variants.{Query, Plan, Table}
 use Rattle.first_reading.specs.declared.first.Reading.{Reading}
 use Rattle.first_reading.specs.declared.first.Reading.the-variants.{Accepted, Refused}
-use Rattle.indexing.specs.Keys.{keyGiven}
-use Rattle.reading.specs.Second.{countsOf, secondFault, secondFrom, second, reading}
+use Rattle.frame_keys.specs.Keys.{keyGiven}
+use Rattle.second_reading.specs.Second.{countsOf, secondFault, secondFrom, second, reading}
 
 -- ---- number, text and line of an answer about the text t; an accepted text has number 0
 

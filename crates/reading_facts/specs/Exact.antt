@@ -11,7 +11,7 @@ use lib.Dec.{ltb, eqb}
 use borrow.Author.Tests.{lt-ltb, le-ltb, eq-eqb, ne-eqb, eqb-false}
 use Rattle.base.specs.Choose.{pick}
 use Rattle.hex.specs.Digits.{bytesOf}
-use Rattle.hex.specs.Lines.{split, isHex}
+use Rattle.hex_lines.specs.Lines.{split, isHex}
 use Rattle.fields.specs.Limits.{textMost}
 use Rattle.frames.specs.Frames.{kindOf}
 use Rattle.frame_tests.specs.Faults.{isCounted, countedMost, counted, hasRoom}
@@ -21,8 +21,8 @@ use Rattle.frame_tests.specs.declared.tests.Text.{Text}
 use Rattle.frame_tests.specs.declared.tests.Text.the-variants.{Query, Plan, Table}
 use Rattle.first_reading.specs.declared.first.Reading.{Reading}
 use Rattle.first_reading.specs.declared.first.Reading.the-variants.{Accepted}
-use Rattle.indexing.specs.Keys.{begins, find, isFound, keyOf, keyGiven}
-use Rattle.reading.specs.Second.{countsOf, secondFrom, reading}
+use Rattle.frame_keys.specs.Keys.{begins, find, isFound, keyOf, keyGiven}
+use Rattle.second_reading.specs.Second.{countsOf, secondFrom, reading}
 use Rattle.reading_facts.specs.Whole.{Formed, Named, countFrom, Whole, frames-length}
 
 -- ---- the first reading

@@ -9,7 +9,7 @@ use lib.Dec.{ltb, eqb}
 use borrow.Author.Tests.{le-ltb, ne-eqb, ltb-true, ltb-false}
 use Rattle.base.specs.Choose.{pick-elim}
 use Rattle.hex.specs.Digits.{bytesOf}
-use Rattle.hex.specs.Lines.{Split, split, withLine, withByte, isHex}
+use Rattle.hex_lines.specs.Lines.{Split, split, withLine, withByte, isHex}
 use Rattle.fields.specs.Limits.{textMost}
 use Rattle.frame_tests.specs.Faults.{counted}
 use Rattle.first_reading.specs.First.{framesOf, lineFault, orElse, firstLines, firstFrom, stepsSay, stepsRight}
@@ -18,7 +18,7 @@ use Rattle.frame_tests.specs.declared.tests.Text.{Text}
 use Rattle.frame_tests.specs.declared.tests.Text.the-variants.{Query, Plan, Table}
 use Rattle.first_reading.specs.declared.first.Reading.{Reading}
 use Rattle.first_reading.specs.declared.first.Reading.the-variants.{Accepted, Refused}
-use Rattle.reading.specs.Second.{countsOf, secondFault, secondFrom, second, reading}
+use Rattle.second_reading.specs.Second.{countsOf, secondFault, secondFrom, second, reading}
 use Rattle.reading_facts.specs.Answers.{too-long, empty-query, empty-plan, empty-table}
 use Rattle.reading_facts.specs.Whole.{accepted}
 

@@ -6,15 +6,15 @@ use mathlib.Core.List.{List, [], _∷_, map}
 use lib.ListN.{getD, take}
 use lib.Dec.{eqb}
 use Rattle.hex.specs.Digits.{bytesOf}
-use Rattle.hex.specs.Lines.{split, endOf}
-use Rattle.hex.specs.Case.{lowered, lower, bytes-lower, length-lower, hex-lower, end-lowered, split-lower}
+use Rattle.hex_lines.specs.Lines.{split, endOf}
+use Rattle.hex_lines.specs.Case.{lowered, lower, bytes-lower, length-lower, hex-lower, end-lowered, split-lower}
 use Rattle.frame_tests.specs.Faults.{counted}
 use Rattle.first_reading.specs.First.{framesOf, lineFault, firstLines, firstFrom, firstLine, stepsRight, firstReading}
 use Rattle.frame_tests.specs.declared.tests.Text.{Text}
 use Rattle.frame_tests.specs.declared.tests.Text.the-variants.{Query, Plan, Table}
 use Rattle.first_reading.specs.declared.first.Reading.{Reading}
 use Rattle.first_reading.specs.declared.first.Reading.the-variants.{Accepted, Refused}
-use Rattle.reading.specs.Second.{countsOf, second, reading}
+use Rattle.second_reading.specs.Second.{countsOf, second, reading}
 
 line-lower : (t : Text) (first : Bool) (c : ℕ) (l : List ℕ) → lineFault t first c (lower l) ≡ lineFault t first c l
 unfolding lineFault

@@ -11,8 +11,8 @@ use Rattle.frames.specs.Frames.{kindOf}
 use Rattle.first_reading.specs.First.{framesOf}
 use Rattle.frame_tests.specs.declared.tests.Text.{Text}
 use Rattle.first_reading.specs.declared.first.Reading.the-variants.{Accepted}
-use Rattle.indexing.specs.Keys.{begins, find, isFound, keyOf}
-use Rattle.reading.specs.Second.{reading}
+use Rattle.frame_keys.specs.Keys.{begins, find, isFound, keyOf}
+use Rattle.second_reading.specs.Second.{reading}
 use Rattle.reading_facts.specs.Whole.{accepted, begins-self}
 
 -- the first frame that begins with the key is found

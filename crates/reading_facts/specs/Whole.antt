@@ -14,8 +14,8 @@ use borrow.Author.Tests.{leb-true, eqb-true, eq-eqb, ne-eqb}
 use Rattle.base.specs.Choose.{pick, both-hold}
 use Rattle.hex.specs.Digits.{bytesOf}
 use Rattle.hex.specs.Bytes.{digits-bytes}
-use Rattle.hex.specs.Lines.{split, isHex, endOf}
-use Rattle.hex.specs.Cuts.{cut, end-is, all-rest}
+use Rattle.hex_lines.specs.Lines.{split, isHex, endOf}
+use Rattle.hex_lines.specs.Cuts.{cut, end-is, all-rest}
 use Rattle.fields.specs.Limits.{textMost, variablesMost, globalsMost, literalsMost, atomsMost, rowsMost}
 use Rattle.fields.specs.Fields.{fieldPasses, noCounts}
 use Rattle.kinds.specs.Kinds.{kindAt, query, plan}
@@ -28,10 +28,10 @@ use Rattle.frame_tests.specs.declared.tests.Text.{Text}
 use Rattle.frame_tests.specs.declared.tests.Text.the-variants.{Query, Plan, Table}
 use Rattle.first_reading.specs.declared.first.Reading.{Reading}
 use Rattle.first_reading.specs.declared.first.Reading.the-variants.{Accepted, Refused}
-use Rattle.indexing.specs.Keys.{begins, find, isFound, keyOf, keyGiven}
+use Rattle.frame_keys.specs.Keys.{begins, find, isFound, keyOf, keyGiven}
 pub use Rattle.reading.specs.Formed.{Formed, countFrom}
 use Rattle.reading.specs.Formed.{passes, or-passes, Passed, lines-pass, lines-hex, First, first-accepted}
-use Rattle.reading.specs.Second.{countsOf, secondFault, secondFrom, second, reading}
+use Rattle.second_reading.specs.Second.{countsOf, secondFault, secondFrom, second, reading}
 
 -- ---- what is said of an accepted text
 

@@ -14,8 +14,8 @@ use Rattle.model.specs.Atoms.{Operand, localOf}
 use Rattle.model.specs.Premises.{numbersBelow}
 use Rattle.cost.specs.QueryAtoms.{operandAt, operandsFrom}
 use Rattle.cost.specs.Emitters.{Emitters, decode, setOperand, setChildren, setElements}
-use Rattle.lowering.specs.AtomLines.{itemOperands}
-use Rattle.lowering.proofs.OperandLaws.{operands-more, below-next, items-are}
+use Rattle.binding.specs.ItemOperands.{itemOperands}
+use Rattle.binding.proofs.OperandLaws.{operands-more, below-next, items-are}
 use Rattle.recording.specs.Items.{itemEmitter, setItems}
 
 -- children and elements are items

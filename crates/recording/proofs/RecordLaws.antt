@@ -17,7 +17,8 @@ use Rattle.model.specs.Premises.{numbersBelow}
 use Rattle.model.specs.Scheduling.{atomOf}
 use Rattle.cost.specs.QueryAtoms.{operandsFrom, atomOfFrame}
 use Rattle.cost.specs.Emitters.{Emitters, decode, from, emitterOf, setEmitter, setElements, copyEmitter, recordAtom, recordEmitters}
-use Rattle.lowering.specs.AtomLines.{AtomLine, itemOperands, scansKind}
+use Rattle.lowering.specs.AtomLines.{AtomLine, scansKind}
+use Rattle.binding.specs.ItemOperands.{itemOperands}
 use Rattle.passes.specs.Eager.{atomsOf, Located}
 use Rattle.lowering.proofs.AtomLaws.{by-kind, scanning}
 use Rattle.recording.specs.Items.{setItems}

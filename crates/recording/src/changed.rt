@@ -4,8 +4,8 @@ ghost use Prim.Native.Nat.{_≤_};
 ghost use lib.ListN.{length, take};
 ghost use Rattle.model.specs.Bound.{most};
 ghost use Rattle.recording.specs.Changed.{changedFrom};
+use binding::sets::is_set;
 use fields::field::narrow;
-use lowering::sets::is_set;
 
 // The numbers of those of the first n atoms whose use has changed, from the lowest on. How many they are.
 pub fn changed(before: &[bool], used: &[bool], n: usize, list: &mut [u8]) -> usize

@@ -10,8 +10,8 @@ ghost use Rattle.hex.specs.Digits.{bytesOf};
 use entries::run::run;
 use exports::some::rimdovek_some_match;
 use first_reading::first::Reading;
+use fitting::fit::PLAN_MOST;
 use frame_tests::tests::Text;
-use planner::entry::PLAN_MOST;
 use planner::entry::plan;
 use printing::print_planned;
 use printing::print_run;
@@ -101,7 +101,7 @@ fn some_case(plan: &[u8], table: &[u8], allowance: u64) {
     io::print_decimal(1, answer);
     io::write_all(1, b"\n");
     if answer == 2 {
-        io::write_all(1, hex::reader::line_from(&out, 0));
+        io::write_all(1, hex_lines::reader::line_from(&out, 0));
         io::write_all(1, b"\n");
     }
 }

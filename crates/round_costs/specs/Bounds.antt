@@ -10,7 +10,7 @@ use Rattle.first_reading.specs.First.{framesOf}
 use Rattle.frame_tests.specs.declared.tests.Text.the-variants.{Query}
 use Rattle.first_reading.specs.declared.first.Reading.{Reading}
 use Rattle.first_reading.specs.declared.first.Reading.the-variants.{Accepted, Refused}
-use Rattle.reading.specs.Second.{reading}
+use Rattle.second_reading.specs.Second.{reading}
 use Rattle.reading_facts.specs.Answers.{refused-number}
 use Rattle.reading_facts.specs.FewLines.{few-lines}
 use Rattle.reading_facts.specs.Whole.{query-within}

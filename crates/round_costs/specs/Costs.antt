@@ -2,19 +2,19 @@
 use Prim.Native.Nat.{ℕ, suc}
 use mathlib.Core.Option.{Option, none, some}
 use mathlib.Core.List.{List, [], map}
-use lib.ListN.{length, getD}
+use lib.ListN.{length}
 use lib.Ieee.{Float}
 use Rattle.first_reading.specs.First.{framesOf}
 use Rattle.frame_tests.specs.declared.tests.Text.the-variants.{Query}
 use Rattle.first_reading.specs.declared.first.Reading.{Reading}
 use Rattle.first_reading.specs.declared.first.Reading.the-variants.{Accepted, Refused}
-use Rattle.reading.specs.Second.{reading}
-use Rattle.model.specs.Tabulate.{tabulate}
+use Rattle.second_reading.specs.Second.{reading}
 use Rattle.cost.specs.QueryAtoms.{atomsIn}
 use Rattle.cost.specs.Choice.{Memory, rounds}
-use Rattle.choosing.specs.Choosing.{noCost, costBits}
+use Rattle.cost_bits.specs.CostBits.{costBits}
 use Rattle.round_costs.specs.declared.rounds.RoundCosts.{RoundCosts}
 use Rattle.round_costs.specs.declared.rounds.RoundCosts.the-variants.{Chosen as Chose, Ended as Over, Refused as TurnsBack}
+use Rattle.cost_bits.specs.ToldBits.{bitsIn}
 
 pub data Answer : Type 0 where
   -- the atom chosen
@@ -41,10 +41,6 @@ resultOf r o = record { answer = answerOf r; output = o }
 -- what is remembered of round number r of a query with the frames fs, or of the last one where the rounds have ended before
 abbrev pub roundOf : List (List ℕ) → ℕ → Memory
 roundOf fs r = rounds fs (atomsIn fs) (suc r) .memory
-
--- the bits bs in an array of m places, as far as it is long; those of no cost past them
-abbrev pub bitsIn : List ℕ → ℕ → List ℕ
-bitsIn bs m = tabulate m (λ i. getD bs i noCost)
 
 -- the costs of the round, where an atom was chosen in it
 abbrev pub toldBy : Option ℕ → List (Option Float) → List ℕ → Result

@@ -1,19 +1,17 @@
 // The costs of a round, for whoever asks how the order came about.
 ghost use mathlib.Core.Path.{_≡_};
-ghost use Prim.Native.Nat.{_≤_};
-ghost use lib.ListN.{length, getD, take};
 ghost use Rattle.frames.specs.Sheet.{framesIn};
 ghost use Rattle.indexing.specs.Index.{Indexed};
 ghost use Rattle.reading.specs.IndexedReading.{Lent};
-ghost use Rattle.choosing.specs.Choosing.{noCost};
 ghost use Rattle.ordering.specs.Accepts.{Accepts};
-ghost use Rattle.round_costs.specs.Costs.{roundOf, bitsIn, told, resultOf, roundCosts};
-use choosing::choose::NO_COST;
+ghost use Rattle.round_costs.specs.Costs.{roundOf, told, resultOf, roundCosts};
+use cost_bits::bits::NO_COST;
+use cost_bits::told::put_round;
 use first_reading::first::Reading;
 use first_reading::first::sheet_size;
 use frame_tests::tests::Text;
 use ordering::order::find_order;
-use passes::places::atom_places;
+use placing::places::atom_places;
 use reading::second::LONG_INDEX;
 use reading::second::LONG_SHEET;
 use reading::second::MIDDLE_INDEX;
@@ -36,29 +34,6 @@ pub enum RoundCosts {
     Refused(u8, usize),
 }
 
-// The bits of cost number i of the first n.
-fn bits_at(costs: &[u64], n: usize, i: usize) -> u64
-    requires { ⌜ n ≤ length (now costs) ⌝ }
-    ensures { λ r. ⌜ r ≡ getD (take n (now (costs .entry))) i noCost ⌝ }
-{
-    if n <= i {
-        return NO_COST;
-    }
-    costs[i]
-}
-
-// The bits of the first n costs, as far as the array is long.
-fn put_costs(costs: &[u64], n: usize, out: &mut [u64])
-    requires { ⌜ n ≤ length (now costs) ⌝ }
-    ensures { λ _. ⌜ now (out .exit) ≡ bitsIn (take n (now (costs .entry))) (length (now (out .entry))) ⌝ }
-{
-    let mut i: usize = 0;
-    while i < out.len() {
-        out[i] = bits_at(costs, n, i);
-        i += 1;
-    }
-}
-
 fn costs_accepted(sheet: &[u8], index: &[u16], round: usize, out: &mut [u64]) -> RoundCosts
     requires { ⌜ Accepts (now sheet) ⌝ }
     requires { ⌜ Indexed (now sheet) (now index) ⌝ }
@@ -68,11 +43,10 @@ fn costs_accepted(sheet: &[u8], index: &[u16], round: usize, out: &mut [u64]) ->
     let n = atom_places(sheet, &mut from);
     let mut costs = [NO_COST; 64];
     let s = find_order(sheet, index, &from, n, round, &mut costs);
+    put_round(s.found, &costs, n, out);
     if !s.found {
-        put_costs(&costs, 0, out);
         return RoundCosts::Ended;
     }
-    put_costs(&costs, n, out);
     RoundCosts::Chosen(s.who)
 }
 

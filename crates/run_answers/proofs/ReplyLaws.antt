@@ -7,7 +7,7 @@ use borrow.Author.Tests.{ne-eqb, lt-ltb, le-ltb}
 use lib.ListN.{length, getD}
 use Rattle.packing.specs.Packed.{codeOf, packedRefusal}
 use Rattle.hex.specs.Digits.{bytesOf}
-use Rattle.hex.specs.Lines.{lineAt}
+use Rattle.hex_lines.specs.Lines.{lineAt}
 use Rattle.first_reading.specs.First.{first-line}
 use Rattle.running.specs.Run.{Replies}
 use Rattle.output.specs.Written.{written, Puts}

@@ -8,7 +8,7 @@ ghost use Rattle.entries.specs.Outcomes.{replyOf};
 ghost use Rattle.run_answers.specs.Replied.{placed, Tells};
 use entries::some::Reply;
 use hex::line::byte_at;
-use hex::reader::line_from;
+use hex_lines::reader::line_from;
 use packing::code;
 use packing::refusal;
 use runner::env::Env;

@@ -18,8 +18,8 @@ use Rattle.frame_tests.specs.Faults.{isRow}
 use Rattle.first_reading.specs.First.{framesOf}
 use Rattle.frame_tests.specs.declared.tests.Text.the-variants.{Table}
 use Rattle.first_reading.specs.declared.first.Reading.the-variants.{Accepted}
-use Rattle.indexing.specs.Keys.{keyOf}
-use Rattle.reading.specs.Second.{reading}
+use Rattle.frame_keys.specs.Keys.{keyOf}
+use Rattle.second_reading.specs.Second.{reading}
 use Rattle.reading_facts.specs.Whole.{accepted, frame-bytes}
 use Rattle.model.specs.Lists.{Pairs}
 use Rattle.model.specs.Bools.{first, second}

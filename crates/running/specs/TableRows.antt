@@ -22,8 +22,8 @@ use Rattle.frames.specs.Frames.{framePasses}
 use Rattle.first_reading.specs.First.{framesOf}
 use Rattle.frame_tests.specs.declared.tests.Text.the-variants.{Table as TableText}
 use Rattle.first_reading.specs.declared.first.Reading.the-variants.{Accepted}
-use Rattle.indexing.specs.Keys.{begins, find, isFound}
-use Rattle.reading.specs.Second.{reading}
+use Rattle.frame_keys.specs.Keys.{begins, find, isFound}
+use Rattle.second_reading.specs.Second.{reading}
 use Rattle.reading_facts.specs.Passes.{frame-field, frame-item}
 use Rattle.reading_facts.specs.Whole.{accepted, frame-bytes}
 use Rattle.model.specs.Tabulate.{tabulate, tabulate-at, tabulate-length}

@@ -27,8 +27,9 @@ use Rattle.cost.specs.Sampling.{Tally, isKnown, measure, valueOf, tallyOf, afte
 use Rattle.cost.specs.Memo.{unpackKey, entryKey, hasValue, memoAt, countedBy, tallyAt}
 use Rattle.cost.specs.Draws.{measurementOf}
 use Rattle.cost.specs.Costs.{estimate, orMeasured}
-use Rattle.samples.specs.Remembering.{memoValue, measuredFan, isMeasured, entryOf, fanValue, Samples, Remembers, Placed, Gives}
-use Rattle.samples.proofs.MemoLaws.{memo-more}
+use Rattle.memo_entries.specs.Remembered.{memoValue, measuredFan, isMeasured, entryOf, fanValue, Placed}
+use Rattle.samples.specs.Remembering.{Samples, Remembers, Gives}
+use Rattle.memo_entries.proofs.MemoLaws.{memo-more}
 
 -- ---- what a measurement gives, in the arrays and in the tallies
 

@@ -1,4 +1,3 @@
-pub mod MemoLaws
 pub mod KeyLaws
 pub mod EstimateLaws
 pub mod SampleLaws

@@ -1,7 +1,6 @@
 -- The sample of a probe by one operand. Proved by the operand's tag, its emitter and the settings.
 use Prim.Native.Nat.{ℕ, zero, suc, _+_, _-_, _<_, _≤_}
 use mathlib.Core.Path.{_≡_, refl, _∙_, ap}
-use mathlib.Core.Bool.{Bool}
 use mathlib.Core.Option.{Option, none}
 use mathlib.Core.List.{List, map}
 use native.Mathlib.Omega.{arith}
@@ -21,8 +20,7 @@ use Rattle.cost.specs.Emitters.{Emitter, decode}
 use Rattle.cost.specs.Memo.{tallyAt}
 use Rattle.cost.specs.QueryAtoms.{operandAt}
 use Rattle.cost.specs.Costs.{Sampled′, estimate, sampledBy, sampled}
-use Rattle.samples.specs.Remembering.{numberKey}
-use Rattle.samples.specs.Remembering.{Samples, Remembers, Gives}
+use Rattle.samples.specs.Remembering.{numberKey, Samples, Remembers, Gives}
 use Rattle.samples.specs.declared.memo.Sample.{Sample}
 
 pub some-number : (e : ℕ) → (e ≡ 0 → ⊥) → 0 < e

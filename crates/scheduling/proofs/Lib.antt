@@ -1,2 +1,1 @@
-pub mod RoundLaws
 pub mod LoopLaws

@@ -1,5 +1,5 @@
 -- The greedy loop: what is left of it gives what the whole gives. Proved round by round; the memo's room from its growth.
-use Prim.Native.Nat.{ℕ, zero, suc, _-_, _<_, _≤_}
+use Prim.Native.Nat.{ℕ, suc, _-_, _<_, _≤_}
 use mathlib.Core.Path.{_≡_, refl, sym, _∙_, ap, subst}
 use mathlib.Core.Logic.{_⊎_, inl, inr}
 use mathlib.Core.Bool.{Bool, true, false, not}
@@ -15,23 +15,27 @@ use Rattle.model.specs.Atoms.{Atom, Step}
 use Rattle.model.specs.Bound.{Bound, has, add, most, blank, has-blank}
 use Rattle.model.specs.Tabulate.{tabulate, tabulate-length, tabulate-mem}
 use Rattle.model.specs.Lowering.{Lowered, done}
-use Rattle.model.specs.Scheduling.{State, unplanned, Chosen, Progress, scans, unlowered, lowerEager, emitAt, goOn, roundsUpTo, atomOf, numbers}
+use Rattle.model.specs.Scheduling.{State, Chosen, Progress, scans, unlowered, lowerEager, emitAt, goOn, roundsUpTo, atomOf, numbers}
 use Rattle.model.specs.Cheapest.{Bid, Scan, scan, bidder, better, wants, cheapest}
 use Rattle.query.specs.declared.statistics.Sampled.{Sampled}
-use Rattle.cost.specs.Emitters.{Emitters, decode, recordAtom, recordEmitters}
+use Rattle.cost.specs.Emitters.{Emitters, recordAtom, recordEmitters}
 use Rattle.cost.specs.Sampling.{Tally}
 use Rattle.cost.specs.Costs.{Costed, estimateCost}
 use Rattle.cost.specs.Memo.{memoAt, tallyAt}
-use Rattle.cost.specs.Choice.{Memory, fresh, offers, recorded, cost, emittedBy, byCost, choose, choose-fair, roundsFrom, rounds, planned, remembered}
+use Rattle.cost.specs.Choice.{Memory, offers, recorded, cost, emittedBy, byCost, choose, choose-fair, roundsFrom, rounds, planned, remembered}
 use Rattle.cost.specs.declared.memo.Sampling.{Sampling}
 use Rattle.plan_facts.specs.Remembered.{keysMost, loop-grows}
 use Rattle.passes.specs.Eager.{state, Went, Located, Ready, atomsOf}
 use Rattle.passes.proofs.EagerLaws.{lowered-then}
-use Rattle.samples.specs.Remembering.{Samples, Remembers}
-use Rattle.choosing.specs.Choosing.{bidOf, orBest, candidates, costBits}
-use Rattle.scheduling.specs.Rounds.{emittersOf, Prepared, Chooses, TakesNext, RoundRoom, Ordering, Scheduling, Rounded}
-use Rattle.choosing.specs.declared.choose.Scheduler.{Scheduler}
-use Rattle.scheduling.specs.declared.schedule.Round.{Round}
+use Rattle.samples.specs.Remembering.{Remembers}
+use Rattle.bidding.specs.Bidding.{bidOf, orBest}
+use Rattle.choosing.specs.Choosing.{candidates}
+use Rattle.cost_bits.specs.CostBits.{costBits}
+use Rattle.advancing.specs.Advancing.{emittersOf, Prepared, TakesNext}
+use Rattle.round_choice.specs.RoundChoice.{Chooses, RoundRoom}
+use Rattle.scheduling.specs.Rounds.{Ordering, Scheduling, Rounded}
+use Rattle.advancing.specs.declared.advance.Scheduler.{Scheduler}
+use Rattle.round_choice.specs.declared.next.Round.{Round}
 use Rattle.scheduling.specs.declared.schedule.Scheduled.{Scheduled}
 use Rattle.choosing.proofs.ChoiceLaws.{offers-number}
 

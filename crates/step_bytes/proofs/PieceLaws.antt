@@ -17,8 +17,8 @@ use Rattle.model.specs.Lowering.{pvIsBound, readChild}
 use Rattle.cost.specs.QueryAtoms.{operandAt, operandsFrom}
 use Rattle.cost.specs.Tame.{operand-tame}
 use Rattle.plans.specs.StepFrames.{tagOf, indexOf, lookupBytes, frameOf}
-use Rattle.lowering.specs.AtomLines.{itemOperands}
-use Rattle.lowering.proofs.OperandLaws.{items-are}
+use Rattle.binding.specs.ItemOperands.{itemOperands}
+use Rattle.binding.proofs.OperandLaws.{items-are}
 use Rattle.step_bytes.specs.Pieces.{lookupFor}
 use Rattle.step_bytes.specs.Begun.{Begins}
 

@@ -8,8 +8,8 @@ ghost use Rattle.cost.specs.QueryAtoms.{operandAt};
 ghost use Rattle.plans.specs.StepFrames.{tagOf, indexOf, lookupBytes, frameOf};
 ghost use Rattle.step_bytes.specs.Pieces.{lookupFor};
 ghost use Rattle.step_bytes.specs.Begun.{Begins};
+use binding::operands::pv_is_bound;
 use hex::byte_at;
-use lowering::operands::pv_is_bound;
 
 // The tag of the operand at byte j, as it is written.
 pub fn tag_at(frame: &[u8], j: usize) -> u8

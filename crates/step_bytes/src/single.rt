@@ -8,8 +8,8 @@ ghost use Rattle.model.specs.Lowering.{lower};
 ghost use Rattle.cost.specs.QueryAtoms.{atomOfFrame};
 ghost use Rattle.plans.specs.StepFrames.{frameOf};
 ghost use Rattle.step_bytes.specs.Begun.{Begins, Becomes, stepsOf, behindOf};
+use binding::sets::is_set;
 use hex::byte_at;
-use lowering::sets::is_set;
 
 // The first byte where there is no step: no frame has this kind.
 pub const NO_STEP: u8 = 0xff;

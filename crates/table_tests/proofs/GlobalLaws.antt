@@ -10,7 +10,7 @@ use Rattle.frames.specs.Sheet.{framesIn}
 use Rattle.hex.specs.Digits.{shortAt}
 use Rattle.kinds.specs.Kinds.{kindAt}
 use Rattle.indexing.specs.Index.{Proper}
-use Rattle.indexing.specs.Keys.{find}
+use Rattle.frame_keys.specs.Keys.{find}
 use Rattle.model.specs.Tabulate.{tabulate, tabulate-at, tabulate-length}
 use Rattle.running.specs.Tables.{classFrom, globalIn, tableIn}
 use Rattle.table_tests.specs.Globals.{GlobalsRead}

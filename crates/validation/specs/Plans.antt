@@ -6,7 +6,7 @@ use Rattle.frames.specs.Sheet.{framesIn}
 use Rattle.frame_tests.specs.declared.tests.Text.the-variants.{Plan}
 use Rattle.first_reading.specs.First.{Sheet}
 use Rattle.first_reading.specs.declared.first.Reading.the-variants.{Accepted}
-use Rattle.reading.specs.Second.{reading}
+use Rattle.second_reading.specs.Second.{reading}
 use Rattle.model.specs.Atoms.{Table}
 use Rattle.running.specs.Tables.{tableIn, stepsIn}
 use Rattle.running.specs.Validation.{stepsPass, testsIn}

@@ -49,43 +49,44 @@ use denote.Triple.Table.{entered, cited}
 use denote.Triple.Walked.{says, Stays, stay-none, stay-none-slice, stay-slice, walkOf, goes-none, goes-none-slice, goes-slice, Walks, ends-at, walked, walk-meets}
 use denote.Exit.{yes}
 use denote.Triple.Clauses.{ensured, lasts}
-use Rattle.hex.specs.Decoding.{Room, Passes}
-use Rattle.hex.specs.declared.reader.Reader.{Reader}
-use Rattle.hex.proofs.reader.Reader as Rd
-use Rattle.hex.proofs.reader.Reader.Laws as Rd′
-use Rattle.hex.proofs.reader.reader_at as new
-use Rattle.hex.proofs.reader.reader_at.Symbol as new-def
-use Rattle.hex.proofs.reader.reader_at.Symbol.{name as #hex·reader·reader-at}
-use Rattle.hex.proofs.reader.reader_at.Met as new-thm
-use Rattle.hex.proofs.reader.decode_next as next
-use Rattle.hex.proofs.reader.decode_next.Symbol as next-def
-use Rattle.hex.proofs.reader.decode_next.Symbol.{name as #hex·reader·decode-next}
-use Rattle.hex.proofs.reader.decode_next.Met as next-thm
-use Rattle.hex.proofs.reader.position as place
-use Rattle.hex.proofs.reader.position.Symbol as place-def
-use Rattle.hex.proofs.reader.position.Symbol.{name as #hex·reader·position}
-use Rattle.hex.proofs.reader.position.Met as place-thm
+use Rattle.hex_lines.specs.Decoding.{Room, Passes}
+use Rattle.hex_lines.specs.declared.reader.Reader.{Reader}
+use Rattle.hex_lines.proofs.reader.Reader as Rd
+use Rattle.hex_lines.proofs.reader.Reader.Laws as Rd′
+use Rattle.hex_lines.proofs.reader.reader_at as new
+use Rattle.hex_lines.proofs.reader.reader_at.Symbol as new-def
+use Rattle.hex_lines.proofs.reader.reader_at.Symbol.{name as #hex-lines·reader·reader-at}
+use Rattle.hex_lines.proofs.reader.reader_at.Met as new-thm
+use Rattle.hex_lines.proofs.reader.decode_next as next
+use Rattle.hex_lines.proofs.reader.decode_next.Symbol as next-def
+use Rattle.hex_lines.proofs.reader.decode_next.Symbol.{name as #hex-lines·reader·decode-next}
+use Rattle.hex_lines.proofs.reader.decode_next.Met as next-thm
+use Rattle.hex_lines.proofs.reader.position as place
+use Rattle.hex_lines.proofs.reader.position.Symbol as place-def
+use Rattle.hex_lines.proofs.reader.position.Symbol.{name as #hex-lines·reader·position}
+use Rattle.hex_lines.proofs.reader.position.Met as place-thm
 use Rattle.first_reading.specs.First.{SheetRoom, LinesLaid}
-use Rattle.first_reading.specs.Stands.{atStart, afterLine, readingOf, LineRoom}
+use Rattle.line_steps.specs.Steps.{atStart, afterLine, LineRoom}
+use Rattle.first_reading.specs.Stands.{readingOf}
 use Rattle.frame_tests.specs.declared.tests.Text.{Text}
-use Rattle.first_reading.specs.declared.first.Stand.{Stand}
+use Rattle.line_steps.specs.declared.stand.Stand.{Stand}
 use Rattle.first_reading.specs.declared.first.Reading.{Reading}
 use Rattle.first_reading.proofs.Lending.{Shared, lends-mut, mut-back, lends-shared, shared-back}
 use Rattle.first_reading.proofs.StandLaws.{Walked, Moves, walked-starts, walked-room, walked-few, walked-line, walked-moves, walked-done}
 use Rattle.frame_tests.proofs.tests.Text as Tx
 use Rattle.frame_tests.proofs.tests.Text.Laws as Tx′
-use Rattle.first_reading.proofs.first.Stand as St
-use Rattle.first_reading.proofs.first.Stand.Laws as St′
+use Rattle.line_steps.proofs.stand.Stand as St
+use Rattle.line_steps.proofs.stand.Stand.Laws as St′
 use Rattle.first_reading.proofs.first.Reading as Re
 use Rattle.first_reading.proofs.first.Reading.Laws as Re′
-use Rattle.first_reading.proofs.first.at_start as start
-use Rattle.first_reading.proofs.first.at_start.Symbol as start-def
-use Rattle.first_reading.proofs.first.at_start.Symbol.{name as #first-reading·first·at-start}
-use Rattle.first_reading.proofs.first.at_start.Met as start-thm
-use Rattle.first_reading.proofs.first.after_line as line
-use Rattle.first_reading.proofs.first.after_line.Symbol as line-def
-use Rattle.first_reading.proofs.first.after_line.Symbol.{name as #first-reading·first·after-line}
-use Rattle.first_reading.proofs.first.after_line.Met as line-thm
+use Rattle.line_steps.proofs.stand.at_start as start
+use Rattle.line_steps.proofs.stand.at_start.Symbol as start-def
+use Rattle.line_steps.proofs.stand.at_start.Symbol.{name as #line-steps·stand·at-start}
+use Rattle.line_steps.proofs.stand.at_start.Met as start-thm
+use Rattle.line_steps.proofs.stand.after_line as line
+use Rattle.line_steps.proofs.stand.after_line.Symbol as line-def
+use Rattle.line_steps.proofs.stand.after_line.Symbol.{name as #line-steps·stand·after-line}
+use Rattle.line_steps.proofs.stand.after_line.Met as line-thm
 use Rattle.first_reading.proofs.first.reading_of as says-it
 use Rattle.first_reading.proofs.first.reading_of.Symbol as says-def
 use Rattle.first_reading.proofs.first.reading_of.Symbol.{name as #first-reading·first·reading-of}
@@ -162,11 +163,11 @@ module _ {M : Type 1} (𝓤 : URA M) (H : Heap 𝓤) (A : Atoms 𝓤) (mem : Mem
   Says = tripleOf 𝓤 H A says-it.signature (says-it.spec 𝓤 H A mem run)
 
   pub record Known (C : Calls 𝓤 H) : Type 2 where
-    pub for-new : Triple 𝓤 (C #hex·reader·reader-at) New
-    pub for-next : Triple 𝓤 (C #hex·reader·decode-next) Next
-    pub for-place : Triple 𝓤 (C #hex·reader·position) Place
-    pub for-start : Triple 𝓤 (C #first-reading·first·at-start) Start
-    pub for-line : Triple 𝓤 (C #first-reading·first·after-line) Line
+    pub for-new : Triple 𝓤 (C #hex-lines·reader·reader-at) New
+    pub for-next : Triple 𝓤 (C #hex-lines·reader·decode-next) Next
+    pub for-place : Triple 𝓤 (C #hex-lines·reader·position) Place
+    pub for-start : Triple 𝓤 (C #line-steps·stand·at-start) Start
+    pub for-line : Triple 𝓤 (C #line-steps·stand·after-line) Line
     pub for-says : Triple 𝓤 (C #first-reading·first·reading-of) Says
 
 module _ {M : Type 1} (𝓤 : URA M) (H : Heap 𝓤) (A : Atoms 𝓤) (W : Given 𝓤 H A) (mem : Memory → SProp 𝓤) (run : Routine → Fun 𝓤) (κ κ′ : Lft) (q q′ : Share) (t : Text) (x : RefT (List ℕ)) (b o : ℕ) (γ : GName) (ys : List ℕ)
@@ -554,10 +555,10 @@ first-lines-spec 𝓤 H 𝓜 𝓖 𝓡 =
     entered 𝓤 H (tripleOf 𝓤 H (𝓖 .A) lines.signature (lines.spec 𝓤 H (𝓖 .A) (𝓜 .mem) (𝓡 .run)))
     (tables 𝓤 H 𝓜 𝓡 code.env .C) (tables 𝓤 H 𝓜 𝓡 code.env .Λ) #first-reading·first·first-lines code.function (code.unfolded 𝓤 H 𝓜 𝓡)
     (first-lines-meets 𝓤 H (𝓖 .A) (givenOf 𝓤 H 𝓜 𝓖) (𝓜 .mem) (𝓡 .run) (tablesOf 𝓤 H 𝓜 (tables 𝓤 H 𝓜 𝓡 code.env)) (record {
-      for-new = cited 𝓤 H (New 𝓤 H (𝓖 .A) (𝓜 .mem) (𝓡 .run)) 𝓜 𝓡 code.env #hex·reader·reader-at new-def.routine code.calls-hex·reader·reader-at (new-thm.met 𝓤 H 𝓜 𝓖 𝓡);
-      for-next = cited 𝓤 H (Next 𝓤 H (𝓖 .A) (𝓜 .mem) (𝓡 .run)) 𝓜 𝓡 code.env #hex·reader·decode-next next-def.routine code.calls-hex·reader·decode-next (next-thm.met 𝓤 H 𝓜 𝓖 𝓡);
-      for-place = cited 𝓤 H (Place 𝓤 H (𝓖 .A) (𝓜 .mem) (𝓡 .run)) 𝓜 𝓡 code.env #hex·reader·position place-def.routine code.calls-hex·reader·position (place-thm.met 𝓤 H 𝓜 𝓖 𝓡);
-      for-start = cited 𝓤 H (Start 𝓤 H (𝓖 .A) (𝓜 .mem) (𝓡 .run)) 𝓜 𝓡 code.env #first-reading·first·at-start start-def.routine code.calls-first-reading·first·at-start (start-thm.met 𝓤 H 𝓜 𝓖 𝓡);
-      for-line = cited 𝓤 H (Line 𝓤 H (𝓖 .A) (𝓜 .mem) (𝓡 .run)) 𝓜 𝓡 code.env #first-reading·first·after-line line-def.routine code.calls-first-reading·first·after-line (line-thm.met 𝓤 H 𝓜 𝓖 𝓡);
+      for-new = cited 𝓤 H (New 𝓤 H (𝓖 .A) (𝓜 .mem) (𝓡 .run)) 𝓜 𝓡 code.env #hex-lines·reader·reader-at new-def.routine code.calls-hex-lines·reader·reader-at (new-thm.met 𝓤 H 𝓜 𝓖 𝓡);
+      for-next = cited 𝓤 H (Next 𝓤 H (𝓖 .A) (𝓜 .mem) (𝓡 .run)) 𝓜 𝓡 code.env #hex-lines·reader·decode-next next-def.routine code.calls-hex-lines·reader·decode-next (next-thm.met 𝓤 H 𝓜 𝓖 𝓡);
+      for-place = cited 𝓤 H (Place 𝓤 H (𝓖 .A) (𝓜 .mem) (𝓡 .run)) 𝓜 𝓡 code.env #hex-lines·reader·position place-def.routine code.calls-hex-lines·reader·position (place-thm.met 𝓤 H 𝓜 𝓖 𝓡);
+      for-start = cited 𝓤 H (Start 𝓤 H (𝓖 .A) (𝓜 .mem) (𝓡 .run)) 𝓜 𝓡 code.env #line-steps·stand·at-start start-def.routine code.calls-line-steps·stand·at-start (start-thm.met 𝓤 H 𝓜 𝓖 𝓡);
+      for-line = cited 𝓤 H (Line 𝓤 H (𝓖 .A) (𝓜 .mem) (𝓡 .run)) 𝓜 𝓡 code.env #line-steps·stand·after-line line-def.routine code.calls-line-steps·stand·after-line (line-thm.met 𝓤 H 𝓜 𝓖 𝓡);
       for-says = cited 𝓤 H (Says 𝓤 H (𝓖 .A) (𝓜 .mem) (𝓡 .run)) 𝓜 𝓡 code.env #first-reading·first·reading-of says-def.routine code.calls-first-reading·first·reading-of (says-thm.met 𝓤 H 𝓜 𝓖 𝓡);
     }))

@@ -1,6 +1,5 @@
 -- `hex::line::byte_at` meets its contract.
 use Rattle.hex.specs.Bytes.{bytes-past, byte-is}
-use native.Mathlib.Omega.{arith}
 use borrow.Author.Needs.{needs}
 use Rattle.hex.proofs.line.byte_at.Statement.{statement}
 use Rattle.hex.proofs.line.byte_at.Tie as tie

@@ -6,7 +6,7 @@ use Rattle.joining.proofs.join.join.Reads as reads
 use Rattle.joining.proofs.join.join.Lts as lts
 use Rattle.hex.proofs.byte_at.Reads as byte-at-reads
 use Rattle.joining.proofs.join.free_join.Reads as free-join-reads
-use Rattle.lowering.proofs.sets.is_set.Reads as is-set-reads
+use Rattle.binding.proofs.sets.is_set.Reads as is-set-reads
 use Rattle.output.proofs.parts.put_frame.Reads as put-frame-reads
 use Rattle.step_bytes.proofs.joins.class_join.Reads as class-join-reads
 

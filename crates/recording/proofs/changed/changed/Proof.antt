@@ -8,7 +8,7 @@ use Rattle.recording.proofs.changed.changed.Tie as tie
 use Rattle.recording.proofs.changed.changed.Reads as reads
 use Rattle.recording.proofs.changed.changed.Lts as lts
 use Rattle.fields.proofs.field.narrow.Reads as narrow-reads
-use Rattle.lowering.proofs.sets.is_set.Reads as is-set-reads
+use Rattle.binding.proofs.sets.is_set.Reads as is-set-reads
 
 abbrev Inv-loop : tie.InvT-loop
 Inv-loop before used n list₀ i₀ c₀ list i c = Listing before used n list₀ list i c

@@ -1,5 +1,5 @@
 -- `recording::record::record_items` meets its contract: the items are the operands that the table of kinds gives.
-use Rattle.lowering.proofs.OperandLaws.{items-below}
+use Rattle.binding.proofs.OperandLaws.{items-below}
 use Rattle.recording.proofs.ItemLaws.{items-set}
 use borrow.Author.Needs.{needs}
 use Rattle.recording.proofs.record.record_items.Statement.{statement}

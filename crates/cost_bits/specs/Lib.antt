@@ -1,0 +1,2 @@
+pub mod CostBits
+pub mod ToldBits

@@ -1,0 +1,3 @@
+pub mod Planner
+pub mod Entry
+pub mod Promised

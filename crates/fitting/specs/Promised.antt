@@ -1,0 +1,29 @@
+-- What holds of the plan of every accepted query, whatever costs, fan-outs, settings and samples. Proved from the choice's fairness.
+use Prim.Native.Nat.{ℕ}
+use mathlib.Core.Path.{_≡_, refl}
+use mathlib.Core.Bool.{true}
+use mathlib.Core.List.{List, []}
+use native.Mathlib.Omega.{arith}
+use Rattle.first_reading.specs.First.{framesOf}
+use Rattle.frame_tests.specs.declared.tests.Text.the-variants.{Query}
+use Rattle.first_reading.specs.declared.first.Reading.the-variants.{Accepted}
+use Rattle.second_reading.specs.Second.{reading}
+use Rattle.model.specs.Reading.{boundFirst}
+use Rattle.model.specs.Guarantee.{schedule-bound-first}
+use Rattle.cost.specs.QueryAtoms.{atomsIn}
+use Rattle.cost.specs.Choice.{fresh, choose, choose-fair, planned}
+use Rattle.plan_facts.specs.QueryPlans.{ReadBack, plan-read-back}
+use Rattle.fitting.specs.Planner.{stepsOf, talliedOf, rejectedOf}
+use Rattle.ordering.specs.Accepted.{few-keys}
+
+-- "no step of a plan reads a variable that no earlier step has bound", all 14 kinds
+pub bound-before-read : (x : List ℕ) → boundFirst [] [] (stepsOf x) ≡ true
+unfolding stepsOf planned
+bound-before-read x = schedule-bound-first (atomsIn (framesOf x)) (choose (framesOf x) (atomsIn (framesOf x))) fresh (choose-fair (framesOf x) (atomsIn (framesOf x))) [] [] (λ v. refl)
+
+-- the plan as written is accepted, read back to the same steps, and at most 20,565 bytes long
+pub read-back : (x : List ℕ) (n c : ℕ) → reading Query x ≡ Accepted n c → ReadBack x (talliedOf x) (rejectedOf x) (stepsOf x)
+unfolding stepsOf planned
+read-back x n c ok =
+    let k = few-keys x n c ok in
+    plan-read-back x n c ok (choose (framesOf x) (atomsIn (framesOf x))) fresh (choose-fair (framesOf x) (atomsIn (framesOf x))) (talliedOf x) (rejectedOf x) (omega (arith, k .tallied-few)) (omega (arith, k .rejected-few))

@@ -1,0 +1,2 @@
+// The keys of frames: whether a frame begins with the key of another.
+pub mod keys;

@@ -1,0 +1,2 @@
+pub mod MemoLaws
+pub mod ValueLaws

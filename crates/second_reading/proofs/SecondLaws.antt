@@ -1,0 +1,176 @@
+-- The second reading, a test and a frame at a time. Assumes nothing.
+use Prim.Native.Nat.{ℕ, suc, _+_, _-_, _*_, _<_, _≤_}
+use mathlib.Core.Path.{_≡_, refl, sym, _∙_, ap}
+use mathlib.Core.Bool.{Bool, true, false, not}
+use mathlib.Core.List.{List, [], _∷_, _++_, append-nil, append-assoc}
+use native.Mathlib.Numerals.{add-one}
+use native.Mathlib.Omega.{arith}
+use lib.ListN.{length, getD, drop}
+use lib.Dec.{eqb}
+use borrow.Author.Tests.{eqb-false, not-true, not-false}
+use Rattle.base.specs.Choose.{pick}
+use Rattle.fields.specs.Limits.{atomsMost}
+use Rattle.fields.specs.Fields.{fieldPasses}
+use Rattle.kinds.specs.Kinds.{kindAt}
+use Rattle.frames.specs.Frames.{kindOf, framePasses}
+use Rattle.frames.specs.Sheet.{frameAt, framesIn, Whole}
+use Rattle.first_reading.specs.First.{orElse, or-stops}
+use Rattle.fields.specs.declared.field.Counts.{Counts}
+use Rattle.fields.specs.declared.field.Test.the-variants.{Range, Reals}
+use Rattle.frame_tests.specs.declared.tests.Text.{Text}
+use Rattle.frame_tests.specs.declared.tests.Text.the-variants.{Query, Plan}
+use Rattle.first_reading.specs.declared.first.Reading.{Reading}
+use Rattle.first_reading.specs.declared.first.Reading.the-variants.{Accepted, Refused}
+use Rattle.frames.proofs.SheetLaws.{frames-end, frame-some, frame-within, frames-step}
+use Rattle.frame_keys.specs.Keys.{keyGiven}
+use Rattle.second_reading.specs.Second.{headerCounts, countsIn, faultOf, secondFault, secondFrom}
+use Rattle.indexing.specs.Index.{slotsFor, givenBy, noted, entriesWith, Noting, Indexes}
+use Rattle.second_reading.specs.Rereading.{indexSize, BlankFor, Rereads}
+use Rattle.indexing.proofs.SlotLaws.{slots-some, keyed-long}
+use Rattle.indexing.proofs.NoteLaws.{noted-line, noted-length, given-is, blank-indexes}
+
+module _ (t : Text) (s h : List ℕ) (c : ℕ) (r : Counts) (p : h ≡ frameAt s 0) where
+  pub query-counts : t ≡ Query → r ≡ headerCounts h c → r ≡ countsIn t s c
+  query-counts q g = g ∙ rw (q, p)
+
+  pub plan-counts : t ≡ Plan → r ≡ headerCounts h atomsMost → r ≡ countsIn t s c
+  plan-counts q g = g ∙ rw (q, p)
+
+-- the key's length, by the frame's first byte
+pub key-here : (f : List ℕ) (b k : ℕ) → b ≡ getD f 0 0 → k ≡ kindAt b .key → k ≡ kindOf f .key
+key-here f b k p q = q ∙ rw p
+
+module _ (n : Counts) (f : List ℕ) (g a : Bool) (p : a ≡ framePasses (fieldPasses Range n) f) where
+  pub fault-5 : not a ≡ true → 5 ≡ faultOf n f g
+  fault-5 h = rw (← p, not-true a h)
+
+  module _ (h : not a ≡ false) (b : Bool) (q : b ≡ framePasses (fieldPasses Reals n) f) where
+    pub fault-6 : not b ≡ true → 6 ≡ faultOf n f g
+    fault-6 e = rw (← p, not-false a h, ← q, not-true b e)
+
+    module _ (e : not b ≡ false) (c : Bool) (r : c ≡ g) where
+      pub fault-7 : c ≡ true → 7 ≡ faultOf n f g
+      fault-7 z = rw (← p, not-false a h, ← q, not-false b e, ← r, z)
+
+      pub fault-none : c ≡ false → 0 ≡ faultOf n f g
+      fault-none z = rw (← p, not-false a h, ← q, not-false b e, ← r, z)
+
+-- a line without a fault has a new key
+fresh-key : (n : Counts) (f : List ℕ) (g : Bool) → faultOf n f g ≡ 0 → g ≡ false
+fresh-key n f g p = go (framePasses (fieldPasses Range n) f) (framePasses (fieldPasses Reals n) f) g p
+  where
+    go : (a b g : Bool) → pick {A = ℕ} a (pick b (pick g 7 0) 6) 5 ≡ 0 → g ≡ false
+    go true true true q = absurd (omega arith)
+    go true true false q = refl
+    go true false g q = absurd (omega arith)
+    go false b g q = absurd (omega arith)
+
+-- a second reading that accepts says what the first one said
+or-accepts : (v k m c n′ c′ : ℕ) (b : Reading) → orElse v k b ≡ Accepted n′ c′ → b ≡ Accepted n′ c′
+or-accepts ℕ.zero k m c n′ c′ b h = h
+or-accepts (suc v) k m c n′ c′ b h = let z : _≡_ {A = ℕ} 0 1 = cc in absurd (omega arith)
+
+pub accepts : (n : Counts) (e : List (List ℕ)) (k : ℕ) (fs : List (List ℕ)) (m c n′ c′ : ℕ) → secondFrom n e k fs (Accepted m c) ≡ Accepted n′ c′ → n′ ≡ m
+unfolding secondFrom
+accepts n e k [] m c n′ c′ h = let z : m ≡ n′ = cc in sym z
+accepts n e k (f ∷ fs) m c n′ c′ h = accepts n (e ++ f ∷ []) (suc k) fs m c n′ c′ (or-accepts (secondFault n e f) k m c n′ c′ _ h)
+
+-- k frames, the earlier ones, are passed, m of them entered in i, and those from `at` on say the rest
+pub record Rereading (n : Counts) (s : List ℕ) (a : Reading) (i₀ i : List ℕ) (at k m : ℕ) : Type 0 where
+  pub few : k ≤ at
+  pub within : at ≤ length s
+  pub earlier : List (List ℕ)
+  pub all : earlier ++ framesIn (drop at s) ≡ framesIn s
+  pub is : secondFrom n [] 0 (framesIn s) a ≡ secondFrom n earlier k (framesIn (drop at s)) a
+  pub index : Indexes (slotsFor (length i)) s i earlier m
+  pub entries : m * 3 ≤ at
+  pub whole : Whole (framesIn (drop at s))
+  pub size : length s ≤ 32768
+  pub room : indexSize (slotsFor (length i)) (length s) ≤ length i
+  pub same : length i ≡ length i₀
+
+pub from-blank : (n : Counts) (s : List ℕ) (a : Reading) (i : List ℕ) → BlankFor s i → Rereading n s a i i 0 0 0
+from-blank n s a i b = record {
+  few = omega arith;
+  within = omega arith;
+  earlier = [];
+  all = refl;
+  is = refl;
+  index = blank-indexes (slotsFor (length i)) s i (b .blank);
+  entries = omega arith;
+  whole = b .whole;
+  size = b .size;
+  room = b .room;
+  same = refl;
+}
+
+module _ (n : Counts) (s : List ℕ) (a : Reading) (i₀ i : List ℕ) (at k m : ℕ) (q : Rereading n s a i₀ i at k m) where
+  pub all-indexed : length s ≤ at → Rereads n s a i a
+  unfolding secondFrom
+  all-indexed h =
+      let z = frames-end s at h in
+      let e : q .earlier ≡ framesIn s = sym (append-nil (q .earlier)) ∙ ap (λ (fs : List (List ℕ)). q .earlier ++ fs) (sym z) ∙ q .all in
+      record { is = sym (q .is ∙ rw z); indexed = λ b c p. record { entries = m; are = rw e at (q .index) } }
+
+  pub noting : at < length s → Noting (slotsFor (length i)) i at m
+  noting h = record { room = omega (arith, q .room, q .entries); place = omega (arith, q .size); few = omega (arith, q .size, q .entries) }
+
+  -- the frame f at `at`
+  module _ (h : at < length s) (f : List ℕ) (taken : f ≡ frameAt s at) where
+    step : framesIn (drop at s) ≡ f ∷ framesIn (drop (at + length f) s)
+    step = frames-step s at h f taken
+
+    wholes : Whole (f ∷ framesIn (drop (at + length f) s))
+    wholes = rw step at (q .whole)
+
+    pub next-within : at + length f ≤ length s
+    next-within = frame-within s at h f taken
+
+    pub next-less : length s - (at + length f) < length s - at
+    next-less = omega (arith, frame-some s at h f taken)
+
+    pub next-fits : at + length f ≤ 32768
+    next-fits = omega (arith, next-within, q .size)
+
+    module _ (v : ℕ) (g : v ≡ faultOf n f (givenBy (slotsFor (length i)) s i f)) where
+      given-here : givenBy (slotsFor (length i)) s i f ≡ keyGiven (q .earlier) f
+      given-here = given-is (slotsFor (length i)) s i f (q .earlier) m (q .index) (λ z. keyed-long f (wholes .0) z .counts)
+
+      fault-here : v ≡ secondFault n (q .earlier) f
+      unfolding secondFault
+      fault-here = g ∙ rw given-here
+
+      says : secondFrom n [] 0 (framesIn s) a ≡ orElse v k (secondFrom n (q .earlier ++ f ∷ []) (suc k) (framesIn (drop (at + length f) s)) a)
+      unfolding secondFrom
+      says = q .is ∙ rw (step, ← fault-here)
+
+      pub frame-turned-back : (v ≡ 0 → ⊥) → Rereads n s a i (Refused v (k + 1))
+      frame-turned-back z = record {
+        is = sym (says ∙ or-stops v k _ z ∙ rw (add-one k));
+        indexed = λ b c p. let y : _≡_ {A = ℕ} 0 1 = cc in absurd (omega arith);
+      }
+
+      entries-still : entriesWith f m * 3 ≤ at + length f
+      entries-still = go (eqb (kindOf f .key) 0) refl
+        where
+          go : (b : Bool) → eqb (kindOf f .key) 0 ≡ b → pick b m (m + 1) * 3 ≤ at + length f
+          go true e = omega (arith, q .entries)
+          go false e = let w = keyed-long f (wholes .0) (eqb-false (kindOf f .key) 0 e) .three in omega (arith, q .entries)
+
+      pub frame-entered : v ≡ 0 → (j : List ℕ) (m′ : ℕ) → j ≡ noted (slotsFor (length i)) i f at m → m′ ≡ entriesWith f m → Rereading n s a i₀ j (at + length f) (k + 1) m′
+      frame-entered z j m′ u w =
+          let new : keyGiven (q .earlier) f ≡ false = sym given-here ∙ fresh-key n f (givenBy (slotsFor (length i)) s i f) (sym g ∙ z) in
+          let o : length j ≡ length i = ap length u ∙ noted-length (slotsFor (length i)) i f at m in
+          record {
+            few = omega (arith, q .few, frame-some s at h f taken);
+            within = next-within;
+            earlier = q .earlier ++ f ∷ [];
+            all = append-assoc (q .earlier) (f ∷ []) (framesIn (drop (at + length f) s)) ∙ ap (λ (fs : List (List ℕ)). q .earlier ++ fs) (sym step) ∙ q .all;
+            is = says ∙ rw (z, add-one k);
+            index = rw (o, u, w) (noted-line (slotsFor (length i)) (slots-some (length i)) s i f (q .earlier) at m (q .index) (noting h .room) (sym taken) new);
+            entries = rw w entries-still;
+            whole = wholes .1;
+            size = q .size;
+            room = rw o (q .room);
+            same = o ∙ q .same;
+          }

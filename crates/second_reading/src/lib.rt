@@ -1,0 +1,2 @@
+// The second reading: what there is to name in a text, and each frame tested 5, 6, 7 in turn and entered into the index.
+pub mod lines;

@@ -1,0 +1,102 @@
+// The second reading: each frame is tested 5, 6, 7 in turn.
+ghost use mathlib.Core.Path.{_≡_};
+ghost use lib.ListN.{length};
+ghost use Rattle.first_reading.specs.declared.first.Reading.the-variants.{Accepted};
+ghost use Rattle.frames.specs.Frames.{kindOf};
+ghost use Rattle.second_reading.specs.Second.{headerCounts, countsIn, faultOf};
+ghost use Rattle.indexing.specs.Index.{slotsFor, hashOf, Falling, givenBy};
+ghost use Rattle.second_reading.specs.Rereading.{BlankFor, Rereads};
+use fields::field::Counts;
+use first_reading::first::Reading;
+use first_reading::first::first_reading;
+use frame_tests::tests::Text;
+use frames::frame::frame_at;
+use frames::frame::range_passes;
+use frames::frame::reals_pass;
+use hex::byte_at;
+use indexing::index::hash_of;
+use indexing::index::key_given;
+use indexing::index::note;
+use kinds::table::key_length;
+use kinds::table::tests_of;
+
+// What a header says, with that many atoms.
+fn header_counts(header: &[u8], atoms: usize) -> Counts
+    ensures { λ r. ⌜ r ≡ headerCounts (now (header .entry)) atoms ⌝ }
+{
+    let variables = byte_at(header, 1);
+    let globals = byte_at(header, 2);
+    let literals = byte_at(header, 3);
+    Counts {
+        variables,
+        globals,
+        literals,
+        atoms,
+    }
+}
+
+// What there is to name in a text, c of its frames being atoms.
+pub fn counts_of(t: Text, sheet: &[u8], c: usize) -> Counts
+    ensures { λ r. ⌜ r ≡ countsIn t (now (sheet .entry)) c ⌝ }
+{
+    match t {
+        Text::Query => header_counts(frame_at(sheet, 0), c),
+        Text::Plan => header_counts(frame_at(sheet, 0), 64),
+        Text::Table => Counts {
+            variables: 0,
+            globals: 16,
+            literals: 0,
+            atoms: 0,
+        },
+    }
+}
+
+// The tests 5, 6 and 7 of a frame, by the index of those before it: the first that it fails, or 0.
+fn second_fault(n: Counts, sheet: &[u8], index: &[u16], frame: &[u8], hash: usize, k: u8) -> u8
+    requires { ⌜ k ≡ kindOf (now frame) .key ⌝ }
+    requires { ⌜ hash ≡ hashOf (now frame) ⌝ }
+    requires { ⌜ Falling (slotsFor (length (now index))) (now index) ⌝ }
+    ensures { λ r. ⌜ r ≡ faultOf n (now (frame .entry)) (givenBy (slotsFor (length (now (index .entry)))) (now (sheet .entry)) (now (index .entry)) (now (frame .entry))) ⌝ }
+{
+    let tests = tests_of(byte_at(frame, 0));
+    if !range_passes(n, tests, frame) {
+        return 5;
+    }
+    if !reals_pass(n, tests, frame) {
+        return 6;
+    }
+    if key_given(sheet, index, frame, hash, k) {
+        7
+    } else {
+        0
+    }
+}
+
+// The frames in turn, after a first reading that found that many lines and counted so many of them. Each that passes is entered.
+pub fn second_lines(
+    n: Counts,
+    sheet: &[u8],
+    lines: usize,
+    counted: usize,
+    index: &mut [u16],
+) -> Reading
+    requires { ⌜ BlankFor (now sheet) (now index) ⌝ }
+    ensures { λ r. ⌜ Rereads n (now (sheet .entry)) (Accepted lines counted) (now (index .exit)) r ⌝ }
+{
+    let mut at: usize = 0;
+    let mut k: usize = 0;
+    let mut m: usize = 0;
+    while at < sheet.len() {
+        let frame = frame_at(sheet, at);
+        let hash = hash_of(frame);
+        let key = key_length(byte_at(frame, 0));
+        let fault = second_fault(n, sheet, index, frame, hash, key);
+        if fault != 0 {
+            return Reading::Refused(fault, k + 1);
+        }
+        m = note(index, frame, hash, key, at, m);
+        at += frame.len();
+        k += 1;
+    }
+    Reading::Accepted(lines, counted)
+}
