@@ -35,9 +35,10 @@ pub fn run(plan: &[u8], table: &[u8], allowance: u64, out: &mut [u8]) -> Outcome
     ensures { λ r. ⌜ resultOf r (now (out .exit)) ≡ runOf (now (plan .entry)) (now (table .entry)) allowance (now (out .entry)) ⌝ }
 {
     let e = run_texts(plan, table, allowance, out);
-    if !e.passed {
-        return Outcome::Refused(e.number, e.text, e.line);
+    if e.passed {
+        let stand = e.stand;
+        let t = stand.tally;
+        return Outcome::Ran(status_of(t.status), t.tries, t.matches, t.written);
     }
-    let t = e.stand.tally;
-    Outcome::Ran(status_of(t.status), t.tries, t.matches, t.written)
+    Outcome::Refused(e.number, e.text, e.line)
 }

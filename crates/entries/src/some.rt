@@ -20,12 +20,15 @@ pub fn some_match(plan: &[u8], table: &[u8], allowance: u64) -> Reply
 {
     let mut out = [0u8; 1];
     let e = run_texts(plan, table, allowance, &mut out);
-    let kind: u8 = if e.passed { e.stand.tally.status } else { 3 };
+    let stand = e.stand;
+    let tally = stand.tally;
+    let env = stand.env;
+    let kind: u8 = if e.passed { tally.status } else { 3 };
     Reply {
         kind,
         number: e.number,
         text: e.text,
         line: e.line,
-        env: e.stand.env,
+        env,
     }
 }

@@ -1,3 +1,4 @@
+use Rattle.entries.proofs.EntryLaws.{run-refused, run-whole}
 use borrow.Author.Needs.{needs}
 use Rattle.entries.proofs.run.run.Statement.{statement}
 use Rattle.entries.proofs.run.run.Tie as tie
@@ -10,17 +11,17 @@ use Rattle.execution.proofs.texts.run_texts.Reads as run-texts-reads
 run-texts-requires : tie.Need-run-texts-requires
 run-texts-requires c κs = search needs
 
--- src/run.rt:39:9
+-- src/run.rt:41:29
+status-of-requires : tie.Need-status-of-requires
+status-of-requires c κs = search needs
+
+-- src/run.rt:41:9
 same-length : tie.Need-same-length
 same-length c = search needs
 
--- src/run.rt:39:9
+-- src/run.rt:41:9
 returns : tie.Need-returns
-returns c = ?
-
--- src/run.rt:42:18
-status-of-requires : tie.Need-status-of-requires
-status-of-requires c κs = search needs
+returns c = run-whole _ _ _ _ _ (c .before .before .before .before .before .before .run-texts .result) (c .before .before .before .before .before .before .run-texts .ensures) (c .before .before .before .if1 .taken) _ (c .status-of .ensures)
 
 -- src/run.rt:34:1
 same-length-2 : tie.Need-same-length-2
@@ -28,9 +29,9 @@ same-length-2 c = search needs
 
 -- src/run.rt:34:1
 returns-2 : tie.Need-returns-2
-returns-2 c = ?
+returns-2 c = run-refused _ _ _ _ _ (c .before .before .before .run-texts .result) (c .before .before .before .run-texts .ensures) (c .if1 .left)
 
 pub run-spec : {M : Type 1} → statement M
 run-spec =
     tie.close
-    (tie.spec run-texts-requires same-length returns status-of-requires same-length-2 returns-2)
+    (tie.spec run-texts-requires status-of-requires same-length returns same-length-2 returns-2)
