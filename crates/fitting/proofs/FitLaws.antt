@@ -34,7 +34,7 @@ use Rattle.fitting.specs.Promised.{read-back}
 use Rattle.fitting.specs.Entry.{planOn, resultOf}
 use Rattle.ordering.specs.Accepts.{Accepts}
 use Rattle.ordering.proofs.OrderLaws.{sheet-items, sheet-keys, places-located}
-use Rattle.fitting.specs.declared.fit.Planned.the-variants.{Written as Wrote, Refused as TurnsBack}
+use Rattle.fitting.specs.declared.fit.Planned.the-variants.{Written as Wrote, Refused as Refuses}
 
 -- its plan is that of the text
 pub plan-on : (x s : List ℕ) → Sheet x s → planOn s ≡ planOf x
@@ -98,7 +98,7 @@ module _ (x from : List ℕ) (n : ℕ) (s : Scheduled) (a : Accepts x) (y : Plac
   pub fits-measured : (room r : ℕ) → r ≡ 21 + textLength (map frameOf (stepsAlong (atomOf (atomsOf x)) blank (take (s .count) (s .order)))) → leb r room ≡ leb (length (planOn x .text)) room
   fits-measured room r e = rw (text-is, text-size, e)
 
-  pub not-fitting : (t : Bool) (o : List ℕ) → t ≡ leb (length (planOn x .text)) (length o) → not t ≡ true → resultOf (TurnsBack 8 0) o ≡ fitted (planOn x) o
+  pub not-fitting : (t : Bool) (o : List ℕ) → t ≡ leb (length (planOn x .text)) (length o) → not t ≡ true → resultOf (Refuses 8 0) o ≡ fitted (planOn x) o
   not-fitting t o e l =
       let k : length o < length text = leb-false (length text) (length o) (sym e ∙ not-true t l) in
       rw (lt-ltb (length o) (length text) k)

@@ -19,7 +19,7 @@ use Rattle.scheduling.specs.Rounds.{Rounded}
 use Rattle.scheduling.specs.declared.schedule.Scheduled.{Scheduled}
 use Rattle.round_costs.specs.Costs.{roundOf, told, Result, resultOf, roundCosts}
 use Rattle.cost_bits.specs.ToldBits.{bitsIn}
-use Rattle.round_costs.specs.declared.rounds.RoundCosts.the-variants.{Chosen, Ended, Refused as TurnsBack}
+use Rattle.round_costs.specs.declared.rounds.RoundCosts.the-variants.{Chosen, Ended, Refused as Refuses}
 
 -- ---- the bits of one cost
 
@@ -40,7 +40,7 @@ module _ (x : List ℕ) (round : ℕ) (costs : List ℕ) (s : Scheduled) (h : Ro
 -- ---- the entry, by what the reading says
 
 module _ (x : List ℕ) (round : ℕ) (o : List ℕ) (v : Reading) (is : v ≡ reading Query x) where
-  pub costs-back : (k l : ℕ) → v ≡ Refused k l → resultOf (TurnsBack k l) o ≡ roundCosts x round o
+  pub costs-back : (k l : ℕ) → v ≡ Refused k l → resultOf (Refuses k l) o ≡ roundCosts x round o
   unfolding roundCosts
   costs-back k l e = rw (← is, e)
 

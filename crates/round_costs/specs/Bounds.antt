@@ -20,7 +20,7 @@ use Rattle.model.specs.Scheduling.{State, atomOf, numbers, lowerEager, emitAt, 
 use Rattle.cost.specs.QueryAtoms.{atomsIn}
 use Rattle.cost.specs.Choice.{Memory, fresh, recorded, emittedBy, byCost, choose, choose-fair, roundsFrom}
 use Rattle.plan_facts.specs.QueryPlans.{atoms-number}
-use Rattle.round_costs.specs.Costs.{Answer as RoundAnswer, Chosen, Ended, TurnedBack, toldBy, roundOf, roundCosts}
+use Rattle.round_costs.specs.Costs.{Answer as RoundAnswer, Chosen, Ended, Invalid, toldBy, roundOf, roundCosts}
 
 -- the atom, where one is chosen, is one of n
 Among : ℕ → Option ℕ → Type 0
@@ -57,7 +57,7 @@ module _ (fs : List (List ℕ)) (qs : List Atom) (n : ℕ) (few : length qs ≤ 
 abbrev pub RoundWithin : RoundAnswer → Type 0
 RoundWithin (Chosen i) = i < 64
 RoundWithin Ended = Unit {0}
-RoundWithin (TurnedBack k l) = (k ≤ 7) × (l ≤ 32769)
+RoundWithin (Invalid k l) = (k ≤ 7) × (l ≤ 32769)
 
 told-within : (c : Option ℕ) (cs : List (Option Float)) (o : List ℕ) → Among 64 c → RoundWithin (toldBy c cs o .answer)
 unfolding Among

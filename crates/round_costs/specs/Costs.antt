@@ -13,7 +13,7 @@ use Rattle.cost.specs.QueryAtoms.{atomsIn}
 use Rattle.cost.specs.Choice.{Memory, rounds}
 use Rattle.cost_bits.specs.CostBits.{costBits}
 use Rattle.round_costs.specs.declared.rounds.RoundCosts.{RoundCosts}
-use Rattle.round_costs.specs.declared.rounds.RoundCosts.the-variants.{Chosen as Chose, Ended as Over, Refused as TurnsBack}
+use Rattle.round_costs.specs.declared.rounds.RoundCosts.the-variants.{Chosen as Chose, Ended as Over, Refused as Refuses}
 use Rattle.cost_bits.specs.ToldBits.{bitsIn}
 
 pub data Answer : Type 0 where
@@ -22,7 +22,7 @@ pub data Answer : Type 0 where
   -- no atom is a candidate
   Ended : Answer
   -- number, line
-  TurnedBack : ℕ → ℕ → Answer
+  Invalid : ℕ → ℕ → Answer
 
 pub record Result : Type 0 where
   pub answer : Answer
@@ -32,7 +32,7 @@ pub record Result : Type 0 where
 abbrev pub answerOf : RoundCosts → Answer
 answerOf (Chose i) = Chosen i
 answerOf Over = Ended
-answerOf (TurnsBack k l) = TurnedBack k l
+answerOf (Refuses k l) = Invalid k l
 
 -- "result and lent output follow from the inputs, refusals too"
 abbrev pub resultOf : RoundCosts → List ℕ → Result
@@ -52,7 +52,7 @@ told m out = toldBy (m .chosen) (m .costs) out
 
 -- "Nothing is written" on a refusal
 abbrev afterReading : Reading → List ℕ → ℕ → List ℕ → Result
-afterReading (Refused k l) x r out = record { answer = TurnedBack k l; output = out }
+afterReading (Refused k l) x r out = record { answer = Invalid k l; output = out }
 afterReading (Accepted n c) x r out = told (roundOf (framesOf x) r) out
 
 -- round number r, from 0, of the query text x

@@ -14,7 +14,7 @@ same-length : tie.Need-same-length
 same-length c = search needs
 
 returns : tie.Need-returns
-returns c = tells-some _ _ _ _ _ _ (c .before .before .before .before .some-match .result) (c .before .before .before .before .some-match .ensures) (c .before .before .told .ensures)
+returns c = tells-some _ _ _ _ _ _ (c .before .before .before .before .some-match .result) (c .before .before .before .before .some-match .ensures .1) (c .before .before .told .ensures)
 
 pub rimdovek-some-match-spec : {M : Type 1} → statement M
 rimdovek-some-match-spec =
