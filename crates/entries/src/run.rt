@@ -1,7 +1,8 @@
 // The run of a plan over a table.
 ghost use mathlib.Core.Path.{_≡_};
 ghost use Rattle.running.specs.Run.{run as runOf};
-ghost use Rattle.entries.specs.Outcomes.{statusBy, resultOf};
+ghost use Rattle.runner.specs.Halts.{statusNumber};
+ghost use Rattle.entries.specs.Outcomes.{statusOf, statusBy, resultOf};
 use execution::texts::run_texts;
 
 pub enum Status {
@@ -28,6 +29,17 @@ fn status_of(number: u8) -> Status
         return Status::Spent;
     }
     Status::Full
+}
+
+// A status as a number: 0 done, 1 spent, 2 full.
+pub fn status_number(s: Status) -> u8
+    ensures { λ r. ⌜ r ≡ statusNumber (statusOf s) ⌝ }
+{
+    match s {
+        Status::Done => 0,
+        Status::Spent => 1,
+        Status::Full => 2,
+    }
 }
 
 // Runs a plan over a table, with an allowance of tries, into a lent output.

@@ -92,7 +92,17 @@ fn run_sized(plan: &[u8], table: &[u8], allowance: u64, out: &mut [u8]) -> Ended
         let mut rows = [0u64; TINY_ROWS];
         let mut children = [0u16; TINY_CHILDREN];
         let mut links = [0u16; TINY_LINKS];
-        return run_table(plan, table, &mut sheet, &mut index, &mut rows, &mut children, &mut links, allowance, out);
+        return run_table(
+            plan,
+            table,
+            &mut sheet,
+            &mut index,
+            &mut rows,
+            &mut children,
+            &mut links,
+            allowance,
+            out,
+        );
     }
     if table.len() <= SHORT_TEXT {
         let mut sheet = [0u8; SHORT_SHEET];
@@ -100,7 +110,17 @@ fn run_sized(plan: &[u8], table: &[u8], allowance: u64, out: &mut [u8]) -> Ended
         let mut rows = [0u64; SHORT_ROWS];
         let mut children = [0u16; SHORT_CHILDREN];
         let mut links = [0u16; SHORT_LINKS];
-        return run_table(plan, table, &mut sheet, &mut index, &mut rows, &mut children, &mut links, allowance, out);
+        return run_table(
+            plan,
+            table,
+            &mut sheet,
+            &mut index,
+            &mut rows,
+            &mut children,
+            &mut links,
+            allowance,
+            out,
+        );
     }
     let mut rows = [0u64; MOST_ROWS];
     let mut links = [0u16; MOST_LINKS];
@@ -108,12 +128,32 @@ fn run_sized(plan: &[u8], table: &[u8], allowance: u64, out: &mut [u8]) -> Ended
         let mut sheet = [0u8; MIDDLE_SHEET];
         let mut index = [0u16; MIDDLE_INDEX];
         let mut children = [0u16; MIDDLE_CHILDREN];
-        return run_table(plan, table, &mut sheet, &mut index, &mut rows, &mut children, &mut links, allowance, out);
+        return run_table(
+            plan,
+            table,
+            &mut sheet,
+            &mut index,
+            &mut rows,
+            &mut children,
+            &mut links,
+            allowance,
+            out,
+        );
     }
     let mut sheet = [0u8; LONG_SHEET];
     let mut index = [0u16; LONG_INDEX];
     let mut children = [0u16; LONG_CHILDREN];
-    run_table(plan, table, &mut sheet, &mut index, &mut rows, &mut children, &mut links, allowance, out)
+    run_table(
+        plan,
+        table,
+        &mut sheet,
+        &mut index,
+        &mut rows,
+        &mut children,
+        &mut links,
+        allowance,
+        out,
+    )
 }
 
 // The run of a plan text, with a sheet and an index that are lent for it.

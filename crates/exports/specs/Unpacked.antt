@@ -15,7 +15,8 @@ use Rattle.planner.specs.AnswerBounds.{Within, plan-within}
 use Rattle.round_costs.specs.Bounds.{RoundWithin, round-within}
 use Rattle.running.specs.Run.{Outcome, Refused, Ran, run, Reply, Rejected, Match, None, Exhausted, Replies}
 use Rattle.running.specs.RefusalBounds.{Within as RefusedWithin, run-within, reply-within}
-use Rattle.run_answers.specs.Runs.{code, packedRun}
+use Rattle.run_answers.specs.Runs.{packedRun}
+use Rattle.runner.specs.Halts.{statusNumber}
 use Rattle.run_answers.specs.Replied.{packedReply}
 use Rattle.run_answers.proofs.RunLaws.{few-codes, within-told}
 use Rattle.exports.specs.Plans.{packedAnswer}
@@ -72,7 +73,7 @@ round-told x round o = by (roundCosts x round o .answer) (round-within x round o
 -- the number n tells how a run ended and the bytes written, these by their last 32 bits; or a refusal
 abbrev pub TellsRun : Outcome → ℕ → Type 0
 TellsRun (Refused k x l) n = TellsRefusal k x l n
-TellsRun (Ran c tries matches w) n = TellsWritten (code c) w n
+TellsRun (Ran c tries matches w) n = TellsWritten (statusNumber c) w n
 
 -- The outcome of every run of any two texts is told so.
 pub run-told : (p t : List ℕ) (A : ℕ) (o : List ℕ) → TellsRun (run p t A o .outcome) (packedRun (run p t A o .outcome))
@@ -80,7 +81,7 @@ run-told p t A o = by (run p t A o .outcome) (run-within p t A o)
   where
     by : (a : Outcome) → ((k x l : ℕ) → a ≡ Refused k x l → RefusedWithin k x l) → TellsRun a (packedRun a)
     by (Refused k x l) h = within-told k x l (h k x l refl)
-    by (Ran c tries matches w) h = written-told (code c) w (few-codes c)
+    by (Ran c tries matches w) h = written-told (statusNumber c) w (few-codes c)
 
 -- ---- `rimdovek_some_match`
 

@@ -12,10 +12,6 @@ packedRefusal k x l = 0x8000_0000_0000_0000 + k * 0x100_0000 + x * 0x1_0000 + l 
 abbrev pub packedCounts : ℕ → ℕ → ℕ → ℕ → ℕ
 packedCounts b s t r = ((b % 0x8000 * 0x1_0000 + s % 0x1_0000) * 0x1_0000 + t % 0x1_0000) * 0x1_0000 + r % 0x1_0000
 
--- "done, spent or full", "some match, none .. or spent": 0, 1, and 2 for all others
-abbrev pub codeOf : ℕ → ℕ
-codeOf k = pick (eqb k 0) 0 (pick (eqb k 1) 1 2)
-
 -- a run: its code in bits 32 and 33, the bytes written below
 abbrev pub packedWritten : ℕ → ℕ → ℕ
 packedWritten c w = c * 0x1_0000_0000 + w % 0x1_0000_0000

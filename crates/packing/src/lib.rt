@@ -1,6 +1,6 @@
 // The answers of the C functions as one number each; what C reads out of them stands in specs/Unpacked.antt.
 ghost use mathlib.Core.Path.{_≡_};
-ghost use Rattle.packing.specs.Packed.{codeOf, packedRefusal, packedCounts, packedWritten, packedChoice};
+ghost use Rattle.packing.specs.Packed.{packedRefusal, packedCounts, packedWritten, packedChoice};
 
 // A refusal: the document's number, the text (0 query, 1 plan, 2 table) and the line.
 pub fn refusal(number: u8, text: u8, line: usize) -> u64
@@ -21,25 +21,12 @@ pub fn counts(bytes: usize, steps: usize, tallied: usize, rejected: usize) -> u6
     ((b * 0x1_0000 + s) * 0x1_0000 + t) * 0x1_0000 + r
 }
 
-// How a run ended: 0 done, 1 spent, 2 full; and what the second entry found: 0 none, 1 spent, 2 a match.
-pub fn code(status: u8) -> u8
-    ensures { λ r. ⌜ r ≡ codeOf status ⌝ }
-{
-    if status == 0 {
-        return 0;
-    }
-    if status == 1 {
-        return 1;
-    }
-    2
-}
-
-// A run: how it ended, and the bytes written.
+// A run: how it ended (0 done, 1 spent, 2 full), and the bytes written.
 pub fn written(status: u8, bytes: usize) -> u64
-    ensures { λ r. ⌜ r ≡ packedWritten (codeOf status) bytes ⌝ }
+    ensures { λ r. ⌜ r ≡ packedWritten status bytes ⌝ }
 {
     let w = (bytes % 0x1_0000_0000) as u64;
-    (code(status) as u64) * 0x1_0000_0000 + w
+    (status as u64) * 0x1_0000_0000 + w
 }
 
 // A round: the atom chosen, where one was found.

@@ -3,6 +3,7 @@ use answer_lines::end_line;
 use answer_lines::refusal_line;
 use answer_lines::turned_line;
 use entries::run::Outcome;
+use entries::run::status_number;
 use fitting::fit::Planned;
 
 // Room for a text: one byte more than it may have, so that a longer text is seen to be too long.
@@ -51,7 +52,7 @@ pub fn print_run(answer: Outcome, out: &[u8]) {
         Outcome::Refused(number, text, line) => print_turned(number, text, line),
         Outcome::Ran(status, tries, matches, written) => print_ran(
             out,
-            status,
+            status_number(status),
             tries,
             matches,
             written,

@@ -3,6 +3,7 @@ ghost use mathlib.Core.Path.{_≡_};
 ghost use Rattle.entries.specs.Outcomes.{outcomeOf};
 ghost use Rattle.run_answers.specs.Runs.{packedRun, triesIn, matchesIn};
 use entries::run::Outcome;
+use entries::run::status_number;
 use packing::refusal;
 use packing::written;
 
@@ -12,7 +13,7 @@ pub fn packed(o: Outcome) -> u64
 {
     match o {
         Outcome::Refused(number, text, line) => refusal(number, text, line),
-        Outcome::Ran(status, _, _, bytes) => written(status, bytes),
+        Outcome::Ran(status, _, _, bytes) => written(status_number(status), bytes),
     }
 }
 
