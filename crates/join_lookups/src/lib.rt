@@ -1,2 +1,2 @@
 // The lookups of a Join by the operands that are bound: how many, and their bytes.
-pub mod lookups;
+pub mod operands;

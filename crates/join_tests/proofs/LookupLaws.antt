@@ -13,7 +13,7 @@ use Rattle.records.specs.Lookups.{operandAt, lookupAt}
 use Rattle.join_tests.specs.Arrays.{given, reachFits}
 use Rattle.records.specs.Lookups.{lookupsOf}
 use Rattle.join_tests.specs.Lookups.{opSeen, reprSeen, operandSeen, positionSeen, lookupSeen, noneSeen, seenFrom, seenIn, seenFault, joinTested}
-use Rattle.join_tests.specs.declared.lookups.Seen.{Seen}
+use Rattle.join_tests.specs.declared.seen.Seen.{Seen}
 use Rattle.join_tests.specs.declared.joins.Tested.{Tested}
 
 -- ---- one lookup more

@@ -14,7 +14,7 @@ use Rattle.model.specs.Reading.{lookupReads, isRepr, namedByRepr}
 use Rattle.model.specs.Refusing.{countOps, joinOp}
 use Rattle.join_tests.specs.Arrays.{fitsShape, reachOf}
 use Rattle.join_tests.specs.Lookups.{opSeen, operandSeen, larger, lookupSeen, noneSeen, seenFrom, seenIn}
-use Rattle.join_tests.specs.declared.lookups.Seen.{Seen}
+use Rattle.join_tests.specs.declared.seen.Seen.{Seen}
 
 -- ---- how far positions reach, in any shape x
 

@@ -9,7 +9,7 @@ use Rattle.model.specs.Atoms.{Operand, local, global, wild, Lookup, ByOp, ByChi
 use Rattle.model.specs.Bound.{Bound, has}
 use Rattle.records.specs.Lookups.{lookupsOf}
 use Rattle.join_tests.specs.Arrays.{given, reachFits, reachOf}
-use Rattle.join_tests.specs.declared.lookups.Seen.{Seen}
+use Rattle.join_tests.specs.declared.seen.Seen.{Seen}
 use Rattle.join_tests.specs.declared.joins.Tested.{Tested}
 
 -- ---- one lookup more

@@ -3,8 +3,8 @@ ghost use mathlib.Core.Path.{_≡_};
 ghost use Rattle.join_tests.specs.Arrays.{boundIn};
 ghost use Rattle.join_tests.specs.Lookups.{seenFault, joinTested};
 use super::arrays::reach_fits;
-use super::lookups::Seen;
-use super::lookups::lookups_seen;
+use super::seen::Seen;
+use super::seen::lookups_seen;
 use fields::field::wide;
 
 // A fault's number, or 0; and the operator of a Join's ByOp.

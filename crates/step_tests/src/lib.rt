@@ -1,3 +1,3 @@
 // The tests of a plan's step other than a Join.
-pub mod rows;
+pub mod faults;
 pub mod simple;

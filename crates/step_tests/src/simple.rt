@@ -4,11 +4,11 @@ ghost use lib.ListN.{getD};
 ghost use Rattle.plans.specs.StepFrames.{stepOf};
 ghost use Rattle.join_tests.specs.Arrays.{boundIn, pickedIn, opsIn};
 ghost use Rattle.step_tests.specs.Steps.{simple, childStepFault, childGlobalFault, pairFault, globalStepFault, literalStepFault, simpleFault};
-use super::rows::child_fault;
-use super::rows::global_fault;
-use super::rows::literal_fault;
-use super::rows::meets;
-use super::rows::row_read;
+use super::faults::child_fault;
+use super::faults::global_fault;
+use super::faults::literal_fault;
+use super::faults::meets;
+use super::faults::row_read;
 use hex::byte_at;
 use join_tests::arrays::is_bound;
 

@@ -17,7 +17,7 @@ use Rattle.running.specs.Validation.{globalOf, lookupGlobals, allGiven, stepFau
 use Rattle.join_tests.specs.Arrays.{boundIn, pickedIn, opsIn, given, reachFits}
 use Rattle.records.specs.Lookups.{lookupsOf}
 use Rattle.join_tests.specs.Lookups.{operandSeen, lookupSeen, noneSeen, seenIn, seenFault, joinTested}
-use Rattle.join_tests.specs.declared.lookups.Seen.{Seen}
+use Rattle.join_tests.specs.declared.seen.Seen.{Seen}
 use Rattle.join_tests.specs.declared.joins.Tested.{Tested}
 use Rattle.join_tests.proofs.SeenLaws.{seen-all, seen-read, seen-free, seen-ops, seen-op, seen-reach, fitsIn}
 use Rattle.step_tests.specs.declared.simple.Simple.{Simple}

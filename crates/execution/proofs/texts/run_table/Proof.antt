@@ -1,84 +1,65 @@
+-- `execution::texts::run_table` meets its contract.
 use Rattle.reading.proofs.ReadLaws.{read-within, read-fits, read-sheet, read-index}
 use Rattle.execution.proofs.TextLaws.{sheet-lent, table-refused, table-run}
 use borrow.Author.Needs.{needs}
 use Rattle.execution.proofs.texts.run_table.Statement.{statement}
 use Rattle.execution.proofs.texts.run_table.Tie as tie
-use Rattle.execution.proofs.texts.run_table.Reads as reads
-use Rattle.execution.proofs.texts.run_table.Lts as lts
 use Rattle.execution.proofs.world.refused.Reads as refused-reads
 use Rattle.execution.proofs.world.run_sheets.Reads as run-sheets-reads
 use Rattle.first_reading.proofs.first.sheet_size.Reads as sheet-size-reads
 use Rattle.reading.proofs.second.read_indexed.Reads as read-indexed-reads
 
--- src/texts.rt:66:11
 read-indexed-requires : tie.Need-read-indexed-requires
 read-indexed-requires c κs = search needs
 
--- src/texts.rt:67:26
 enum-known-k : tie.Need-enum-known-k
 enum-known-k c = search needs
 
--- src/texts.rt:67:38
 refused-requires : tie.Need-refused-requires
 refused-requires c κs = search needs
 
--- src/texts.rt:68:27
 enum-known-lines : tie.Need-enum-known-lines
 enum-known-lines c = search needs
 
--- src/texts.rt:69:17
 sheet-size-requires : tie.Need-sheet-size-requires
 sheet-size-requires c κs = search needs
 
--- src/texts.rt:72:17
 slice-reshare-prefix-run-sheets : tie.Need-slice-reshare-prefix-run-sheets
 slice-reshare-prefix-run-sheets c = read-within _ _ _ _ _ (c .before .before .before .before .before .before .before .before .read-indexed .ensures) _ _ (c .before .before .lines .given .1) _ (c .sheet-size .ensures)
 
--- src/texts.rt:72:17
 slice-aggregate-run-sheets : tie.Need-slice-aggregate-run-sheets
 slice-aggregate-run-sheets c = read-fits _ _ _ _ _ (c .before .before .before .before .before .before .before .before .before .read-indexed .ensures) _ _ (c .before .before .before .lines .given .1) _ (c .before .sheet-size .ensures)
 
--- src/texts.rt:70:13
 run-sheets-requires : tie.Need-run-sheets-requires
 run-sheets-requires c κs = (c .before .before .before .before .before .before .before .before .before .before .before .before .before .before .before .before .before .before .before .before .before .before .before .before .before .pre .0, (read-index _ _ _ _ _ (c .before .before .before .before .before .before .before .before .before .before .before .before .before .before .read-indexed .ensures) _ _ (c .before .before .before .before .before .before .before .before .lines .given .1) _ (c .before .before .before .before .before .before .sheet-size .ensures), sheet-lent _ _ _ _ _ _ (c .before .before .before .before .before .before .before .before .before .before .before .before .before .before .before .before .before .before .before .before .before .before .before .before .before .pre .1) _ (c .before .before .before .before .before .before .before .before .before .before .before .before .before .before .read-indexed .ensures .is) _ _ (c .before .before .before .before .before .before .before .before .lines .given .1) _ (read-sheet _ _ _ _ _ (c .before .before .before .before .before .before .before .before .before .before .before .before .before .before .read-indexed .ensures) _ _ (c .before .before .before .before .before .before .before .before .lines .given .1) _ (c .before .before .before .before .before .before .sheet-size .ensures))))
 
--- src/texts.rt:51:1
 same-length : tie.Need-same-length
 same-length c = search needs
 
--- src/texts.rt:51:1
 same-length-2 : tie.Need-same-length-2
 same-length-2 c = search needs
 
--- src/texts.rt:51:1
 returns : tie.Need-returns
 returns c = table-refused _ _ _ (c .before .before .before .before .before .before .before .before .read-indexed .ensures .is) _ _ (c .before .before .k .given .1) _ _ _ (c .refused .ensures)
 
--- src/texts.rt:51:1
 same-length-3 : tie.Need-same-length-3
 same-length-3 c = search needs
 
--- src/texts.rt:51:1
 same-length-4 : tie.Need-same-length-4
 same-length-4 c = search needs
 
--- src/texts.rt:51:1
 same-length-5 : tie.Need-same-length-5
 same-length-5 c = search needs
 
--- src/texts.rt:51:1
 same-length-6 : tie.Need-same-length-6
 same-length-6 c = search needs
 
--- src/texts.rt:51:1
 same-length-7 : tie.Need-same-length-7
 same-length-7 c = search needs
 
--- src/texts.rt:51:1
 same-length-8 : tie.Need-same-length-8
 same-length-8 c = search needs
 
--- src/texts.rt:51:1
 returns-2 : tie.Need-returns-2
 returns-2 c = table-run _ _ _ (c .before .before .before .before .before .before .before .before .before .before .before .before .before .before .before .before .before .before .before .before .before .before .before .read-indexed .ensures .is) _ _ (c .before .before .before .before .before .before .before .before .before .before .before .before .before .before .before .before .before .lines .given .1) _ (read-sheet _ _ _ _ _ (c .before .before .before .before .before .before .before .before .before .before .before .before .before .before .before .before .before .before .before .before .before .before .before .read-indexed .ensures) _ _ (c .before .before .before .before .before .before .before .before .before .before .before .before .before .before .before .before .before .lines .given .1) _ (c .before .before .before .before .before .before .before .before .before .before .before .before .before .before .before .sheet-size .ensures)) _ _ _ _ (c .before .before .before .before .before .before .before .before .run-sheets .ensures)
 

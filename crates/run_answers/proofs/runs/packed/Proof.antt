@@ -1,38 +1,30 @@
+-- `run_answers::runs::packed` meets its contract.
 use Rattle.run_answers.proofs.RunLaws.{packed-back, packed-ran}
 use borrow.Author.Needs.{needs}
 use Rattle.run_answers.proofs.runs.packed.Statement.{statement}
 use Rattle.run_answers.proofs.runs.packed.Tie as tie
-use Rattle.run_answers.proofs.runs.packed.Reads as reads
-use Rattle.run_answers.proofs.runs.packed.Lts as lts
 use Rattle.entries.proofs.run.status_number.Reads as status-number-reads
 use Rattle.packing.proofs.refusal.Reads as refusal-reads
 use Rattle.packing.proofs.written.Reads as written-reads
 
--- src/runs.rt:15:26
 enum-known-o : tie.Need-enum-known-o
 enum-known-o c = search needs
 
--- src/runs.rt:15:49
 refusal-requires : tie.Need-refusal-requires
 refusal-requires c κs = search needs
 
--- src/runs.rt:16:22
 enum-known-o-2 : tie.Need-enum-known-o-2
 enum-known-o-2 c = search needs
 
--- src/runs.rt:16:54
 status-number-requires : tie.Need-status-number-requires
 status-number-requires c κs = search needs
 
--- src/runs.rt:16:46
 written-requires : tie.Need-written-requires
 written-requires c κs = search needs
 
--- src/runs.rt:11:1
 returns : tie.Need-returns
 returns c = packed-back _ _ _ _ _ (c .before .before .o .given .1) (c .refusal .ensures)
 
--- src/runs.rt:11:1
 returns-2 : tie.Need-returns-2
 returns-2 c = packed-ran _ _ _ _ _ _ _ (c .before .before .before .o2 .given .1) (c .before .status-number .ensures) (c .written .ensures)
 
