@@ -1,8 +1,9 @@
 // The run from text to text: the plan is read, then the table, with arrays by the lengths of the two.
-ghost use mathlib.Core.Path.{_≡_};
+ghost use Prim.Native.Nat.{_≤_};
+ghost use lib.ListN.{length};
 ghost use Rattle.frames.specs.Sheet.{framesIn};
 ghost use Rattle.first_reading.specs.First.{framesOf};
-ghost use Rattle.reading.specs.IndexedReading.{Lent};
+ghost use Rattle.reading.specs.IndexedReading.{Lent, tinyText, shortText, middleText};
 ghost use Rattle.running.specs.Validation.{validation};
 ghost use Rattle.validation.specs.Plans.{PlanSheet};
 ghost use Rattle.execution.specs.Ends.{haltIn, haltOf, tableTests, TableLent, Ends};
@@ -81,68 +82,17 @@ fn run_table(
     }
 }
 
-// The same with arrays of its own, by the table's length.
-fn run_sized(plan: &[u8], table: &[u8], allowance: u64, out: &mut [u8]) -> Ended
+// The same with arrays of its own: for a tiny table.
+fn run_tiny(plan: &[u8], table: &[u8], allowance: u64, out: &mut [u8]) -> Ended
     requires { ⌜ PlanSheet (now plan) ⌝ }
+    requires { ⌜ length (now table) ≤ tinyText ⌝ }
     ensures { λ r. ⌜ Ends (tableTests (framesIn (now (plan .entry))) (now (table .entry))) (haltIn (framesIn (now (plan .entry))) (framesOf (now (table .entry))) allowance (now (out .entry))) (now (out .entry)) (now (out .exit)) r ⌝ }
 {
-    if table.len() <= TINY_TEXT {
-        let mut sheet = [0u8; TINY_SHEET];
-        let mut index = [0u16; TINY_INDEX];
-        let mut rows = [0u64; TINY_ROWS];
-        let mut children = [0u16; TINY_CHILDREN];
-        let mut links = [0u16; TINY_LINKS];
-        return run_table(
-            plan,
-            table,
-            &mut sheet,
-            &mut index,
-            &mut rows,
-            &mut children,
-            &mut links,
-            allowance,
-            out,
-        );
-    }
-    if table.len() <= SHORT_TEXT {
-        let mut sheet = [0u8; SHORT_SHEET];
-        let mut index = [0u16; SHORT_INDEX];
-        let mut rows = [0u64; SHORT_ROWS];
-        let mut children = [0u16; SHORT_CHILDREN];
-        let mut links = [0u16; SHORT_LINKS];
-        return run_table(
-            plan,
-            table,
-            &mut sheet,
-            &mut index,
-            &mut rows,
-            &mut children,
-            &mut links,
-            allowance,
-            out,
-        );
-    }
-    let mut rows = [0u64; MOST_ROWS];
-    let mut links = [0u16; MOST_LINKS];
-    if table.len() <= MIDDLE_TEXT {
-        let mut sheet = [0u8; MIDDLE_SHEET];
-        let mut index = [0u16; MIDDLE_INDEX];
-        let mut children = [0u16; MIDDLE_CHILDREN];
-        return run_table(
-            plan,
-            table,
-            &mut sheet,
-            &mut index,
-            &mut rows,
-            &mut children,
-            &mut links,
-            allowance,
-            out,
-        );
-    }
-    let mut sheet = [0u8; LONG_SHEET];
-    let mut index = [0u16; LONG_INDEX];
-    let mut children = [0u16; LONG_CHILDREN];
+    let mut sheet = [0u8; TINY_SHEET];
+    let mut index = [0u16; TINY_INDEX];
+    let mut rows = [0u64; TINY_ROWS];
+    let mut children = [0u16; TINY_CHILDREN];
+    let mut links = [0u16; TINY_LINKS];
     run_table(
         plan,
         table,
@@ -154,6 +104,94 @@ fn run_sized(plan: &[u8], table: &[u8], allowance: u64, out: &mut [u8]) -> Ended
         allowance,
         out,
     )
+}
+
+// For a short table.
+fn run_short(plan: &[u8], table: &[u8], allowance: u64, out: &mut [u8]) -> Ended
+    requires { ⌜ PlanSheet (now plan) ⌝ }
+    requires { ⌜ length (now table) ≤ shortText ⌝ }
+    ensures { λ r. ⌜ Ends (tableTests (framesIn (now (plan .entry))) (now (table .entry))) (haltIn (framesIn (now (plan .entry))) (framesOf (now (table .entry))) allowance (now (out .entry))) (now (out .entry)) (now (out .exit)) r ⌝ }
+{
+    let mut sheet = [0u8; SHORT_SHEET];
+    let mut index = [0u16; SHORT_INDEX];
+    let mut rows = [0u64; SHORT_ROWS];
+    let mut children = [0u16; SHORT_CHILDREN];
+    let mut links = [0u16; SHORT_LINKS];
+    run_table(
+        plan,
+        table,
+        &mut sheet,
+        &mut index,
+        &mut rows,
+        &mut children,
+        &mut links,
+        allowance,
+        out,
+    )
+}
+
+// For a middling table.
+fn run_middle(plan: &[u8], table: &[u8], allowance: u64, out: &mut [u8]) -> Ended
+    requires { ⌜ PlanSheet (now plan) ⌝ }
+    requires { ⌜ length (now table) ≤ middleText ⌝ }
+    ensures { λ r. ⌜ Ends (tableTests (framesIn (now (plan .entry))) (now (table .entry))) (haltIn (framesIn (now (plan .entry))) (framesOf (now (table .entry))) allowance (now (out .entry))) (now (out .entry)) (now (out .exit)) r ⌝ }
+{
+    let mut sheet = [0u8; MIDDLE_SHEET];
+    let mut index = [0u16; MIDDLE_INDEX];
+    let mut rows = [0u64; MOST_ROWS];
+    let mut children = [0u16; MIDDLE_CHILDREN];
+    let mut links = [0u16; MOST_LINKS];
+    run_table(
+        plan,
+        table,
+        &mut sheet,
+        &mut index,
+        &mut rows,
+        &mut children,
+        &mut links,
+        allowance,
+        out,
+    )
+}
+
+// For any table.
+fn run_long(plan: &[u8], table: &[u8], allowance: u64, out: &mut [u8]) -> Ended
+    requires { ⌜ PlanSheet (now plan) ⌝ }
+    ensures { λ r. ⌜ Ends (tableTests (framesIn (now (plan .entry))) (now (table .entry))) (haltIn (framesIn (now (plan .entry))) (framesOf (now (table .entry))) allowance (now (out .entry))) (now (out .entry)) (now (out .exit)) r ⌝ }
+{
+    let mut sheet = [0u8; LONG_SHEET];
+    let mut index = [0u16; LONG_INDEX];
+    let mut rows = [0u64; MOST_ROWS];
+    let mut children = [0u16; LONG_CHILDREN];
+    let mut links = [0u16; MOST_LINKS];
+    run_table(
+        plan,
+        table,
+        &mut sheet,
+        &mut index,
+        &mut rows,
+        &mut children,
+        &mut links,
+        allowance,
+        out,
+    )
+}
+
+// The same, by the table's length.
+fn run_sized(plan: &[u8], table: &[u8], allowance: u64, out: &mut [u8]) -> Ended
+    requires { ⌜ PlanSheet (now plan) ⌝ }
+    ensures { λ r. ⌜ Ends (tableTests (framesIn (now (plan .entry))) (now (table .entry))) (haltIn (framesIn (now (plan .entry))) (framesOf (now (table .entry))) allowance (now (out .entry))) (now (out .entry)) (now (out .exit)) r ⌝ }
+{
+    if table.len() <= TINY_TEXT {
+        return run_tiny(plan, table, allowance, out);
+    }
+    if table.len() <= SHORT_TEXT {
+        return run_short(plan, table, allowance, out);
+    }
+    if table.len() <= MIDDLE_TEXT {
+        return run_middle(plan, table, allowance, out);
+    }
+    run_long(plan, table, allowance, out)
 }
 
 // The run of a plan text, with a sheet and an index that are lent for it.
