@@ -12,3 +12,4 @@ pub mod SecondEntry
 pub mod AlikeLines
 pub mod Worked
 pub mod Marked
+pub mod Needed

@@ -10,10 +10,30 @@ const ROOM: usize = 65_536;
 
 pub fn lines() {
     println!("{:>10}  {:>10}  {:>6}  million tries a second", "the Rust", "ours", "ratio");
-    line("worked plan, 3 rows", TABLE);
+    line("worked plan, 3 rows", PLAN, TABLE);
     for rows in [100, 1_000] {
-        line(&format!("worked plan, {rows} rows"), &table(rows));
+        line(&format!("worked plan, {rows} rows"), PLAN, &table(rows));
     }
+    line("8 atoms, 1000 rows of 16 operators", &chain(), &linked());
+}
+
+/// A Join by operator, then seven each by its operator and by the class that is the child of the row before it.
+fn chain() -> String {
+    let mut text = String::from("3f080000000f00000000\n4000000100000000\n");
+    for k in 1..8 {
+        writeln!(text, "41{k:02x}{:02x}00", k - 1).expect("a string grows");
+        writeln!(text, "40{k:02x}{k:02x}0200{k:02x}000002{k:02x}0000").expect("a string grows");
+    }
+    text
+}
+
+/// 1,000 rows of 16 operators by turns, each with the next row's class as its child.
+fn linked() -> String {
+    let mut text = String::new();
+    for i in 0..1_000 {
+        writeln!(text, "30{i:04x}{:02x}01{:04x}", i % 16, (i + 1) % 1_000).expect("a string grows");
+    }
+    text
 }
 
 /// Rows of the worked example's two operators by turns; each of the first has a second's class as its child, so each is in one match.
@@ -27,13 +47,13 @@ fn table(rows: u16) -> String {
     text
 }
 
-fn line(name: &str, table: &str) {
-    let (runner, mut out) = (Runner::new(PLAN, table), vec![0; ROOM]);
+fn line(name: &str, plan: &str, table: &str) {
+    let (runner, mut out) = (Runner::new(plan, table), vec![0; ROOM]);
     let ran = runner.run(&mut out);
     let tries = ran.tries as usize;
     let mut again = vec![0; ROOM];
     let rust = 1_000.0 / best(tries, || drop(black_box(runner.run(black_box(&mut again)))));
-    match ours(table, &ran, &out) {
+    match ours(plan, table, &ran, &out) {
         Some(ours) => println!(
             "{rust:>10.1}  {ours:>10.1}  {:>6.2}  {name}, {tries} tries, {} matches",
             rust / ours,
@@ -48,9 +68,9 @@ fn line(name: &str, table: &str) {
 
 /// Million tries a second; the run must give the same tries, matches and lines.
 #[cfg(feature = "ours")]
-fn ours(table: &str, says: &Ran, lines: &[u8]) -> Option<f64> {
+fn ours(plan: &str, table: &str, says: &Ran, lines: &[u8]) -> Option<f64> {
     let mut out = vec![0; ROOM];
-    let mut run = || rimdovek_sys::run(black_box(PLAN.as_bytes()), black_box(table.as_bytes()), u64::MAX, &mut out);
+    let mut run = || rimdovek_sys::run(black_box(plan.as_bytes()), black_box(table.as_bytes()), u64::MAX, &mut out);
     let first = run().expect("it runs");
     let speed = 1_000.0 / best(says.tries as usize, || _ = black_box(run()));
     assert_eq!(
@@ -62,6 +82,6 @@ fn ours(table: &str, says: &Ran, lines: &[u8]) -> Option<f64> {
 }
 
 #[cfg(not(feature = "ours"))]
-fn ours(_: &str, _: &Ran, _: &[u8]) -> Option<f64> {
+fn ours(_: &str, _: &str, _: &Ran, _: &[u8]) -> Option<f64> {
     None
 }

@@ -178,10 +178,10 @@ pub struct Ran {
     pub matches: u64,
 }
 
-/// A run takes some 2,200 bytes of stack a Join: a plan up to this long stays below 1.5 MB.
+/// A run takes some 2,400 bytes of stack a Join and 220,000 besides: a plan up to this long stays below 1.9 MB.
 const SHORT_PLAN: usize = 16 << 10;
 
-/// Enough for the longest plan text that is accepted, which takes less than 6 MB.
+/// Enough for the longest plan text that is accepted, which takes less than 7 MB.
 const STACK: usize = 8 << 20;
 
 /// A call that runs a plan: on a thread of its own where the plan is long.
