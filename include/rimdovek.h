@@ -45,8 +45,8 @@ uint64_t rimdovek_round_costs(const uint8_t *query, size_t query_len, size_t rou
 
 /* Runs a plan over a table with an allowance of tries, a line for each match. Accepted: 0 done, 1 spent or 2 full in bits 32 and 33, the bytes
    written below, modulo 4,294,967,296: lend at most 4,294,967,295 bytes, so that they are told whole. Tries and matches are set; a refusal
-   sets 0. The run takes some @@2,200 bytes of stack for a Join and @@100,000 besides: @@250,000 for a plan of the planner, which has at most 64
-   Joins, and less than @@6,000,000 for the longest plan text that is accepted. */
+   sets 0. The run takes some 2,400 bytes of stack for a Join and 220,000 besides: 380,000 for a plan of the planner, which has at most 64
+   Joins, and less than 6,500,000 for the longest plan text that is accepted. */
 uint64_t rimdovek_run(const uint8_t *plan, size_t plan_len, const uint8_t *table, size_t table_len, uint64_t allowance, uint8_t *out,
                       size_t out_len, uint64_t *tries, uint64_t *matches);
 
