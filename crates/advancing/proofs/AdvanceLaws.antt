@@ -9,17 +9,17 @@ use lib.Dec.{T}
 use lib.ListN.{length, getD, set}
 use Rattle.frames.specs.Sheet.{frameAt}
 use Rattle.model.specs.Atoms.{Atom, Plain, Lit, LitBind, Eq, EqGlobal, Pred, Variadic}
-use Rattle.model.specs.Bound.{Bound, has, add, most}
+use Rattle.model.specs.Bound.{Bound, has, add, boundMost}
 use Rattle.model.specs.Lowering.{Emitted, lower}
 use Rattle.model.specs.Scheduling.{scans, emitAt, atomOf, numbers}
-use Rattle.model.specs.Scheduled.{unlowered-lt}
+use Rattle.model.proofs.Scheduled.{unlowered-lt}
 use Rattle.cost.specs.QueryAtoms.{atomOfFrame}
 use Rattle.cost.specs.Emitters.{recordAtom}
 use Rattle.recording.specs.Changed.{changedFrom, recordNumbers}
 use Rattle.recording.proofs.ChangedLaws.{changed-recorded}
 use Rattle.lowering.specs.AtomLines.{AtomLine, lowers, boundBehind, Lowers}
-use Rattle.passes.specs.Eager.{Went, LoweredEager, Lined, Located, Ready, atomsOf}
-use Rattle.passes.specs.LocatedLaws.{place-sized, place-within, number-among, line-ready}
+use Rattle.passes.specs.Eager.{Went, LoweredEager, Lined, Located, Ready, sheetAtoms}
+use Rattle.passes.proofs.LocatedLaws.{place-sized, place-within, number-among, line-ready}
 use Rattle.passes.proofs.EagerLaws.{went-one}
 use Rattle.advancing.specs.Advancing.{emittersOf, Advances, Takes, TakesNext}
 use Rattle.advancing.specs.declared.advance.Scheduler.{Scheduler}
@@ -28,8 +28,8 @@ use Rattle.advancing.specs.declared.advance.Scheduler.{Scheduler}
 
 module _ (x : List ℕ) (d e : Scheduler) where
   pub advances : (from : List ℕ) (n : ℕ) (l : List ℕ) → Located x from n → LoweredEager x (d .used) (d .bound) (d .order) (d .count) (e .used) (e .bound) (e .order) (e .count)
-      → l ≡ changedFrom (d .before) (e .used) 0 n → emittersOf e ≡ recordNumbers (atomsOf x) l (emittersOf d) → length (e .emitters) ≡ most → Advances x d e
-  advances from n l z w c q s = record { went = w; emitters = q ∙ rw c (changed-recorded (d .before) (e .used) (atomsOf x) 0 n (emittersOf d) (omega (arith, z .count))); size = s }
+      → l ≡ changedFrom (d .before) (e .used) 0 n → emittersOf e ≡ recordNumbers (sheetAtoms x) l (emittersOf d) → length (e .emitters) ≡ boundMost → Advances x d e
+  advances from n l z w c q s = record { went = w; emitters = q ∙ rw c (changed-recorded (d .before) (e .used) (sheetAtoms x) 0 n (emittersOf d) (omega (arith, z .count))); size = s }
 
 -- ---- the atom chosen
 
@@ -54,8 +54,8 @@ module _ (f : List ℕ) (i : ℕ) (U B : Bound) (O : List ℕ) (c : ℕ) (scan :
 
 -- ---- the atom chosen, by its number
 
-module _ (x from : List ℕ) (n i : ℕ) (U B : Bound) (O : List ℕ) (c : ℕ) (z : Located x from n) (h : i < n) (scan : scans (atomOf (atomsOf x) i) ≡ true) (new : has U i ≡ false) (y : Ready x U B O c) where
-  pub next-sized : (k : ℕ) → k ≡ i → k + most < length from
+module _ (x from : List ℕ) (n i : ℕ) (U B : Bound) (O : List ℕ) (c : ℕ) (z : Located x from n) (h : i < n) (scan : scans (atomOf (sheetAtoms x) i) ≡ true) (new : has U i ≡ false) (y : Ready x U B O c) where
+  pub next-sized : (k : ℕ) → k ≡ i → k + boundMost < length from
   next-sized k q = place-sized x from n z k (rw q h)
 
   pub next-within : (k : ℕ) → k ≡ i → Lined x from k
@@ -65,7 +65,7 @@ module _ (x from : List ℕ) (n i : ℕ) (U B : Bound) (O : List ℕ) (c : ℕ) 
   next-below = omega (arith, y .used, z .few)
 
   pub next-room : c < length O
-  next-room = omega (arith, unlowered-lt U i (numbers (atomsOf x)) new (number-among x from n z i h), y .room, y .order)
+  next-room = omega (arith, unlowered-lt U i (numbers (sheetAtoms x)) new (number-among x from n z i h), y .room, y .order)
 
   module _ (k : ℕ) (v : k ≡ i) (s : List ℕ) (l : s ≡ frameAt x (getD from k 0)) where
     line : s ≡ frameAt x (getD from i 0)
@@ -79,11 +79,11 @@ module _ (x from : List ℕ) (n i : ℕ) (U B : Bound) (O : List ℕ) (c : ℕ) 
 
     -- the scheduler behind it
     module _ (d e : Scheduler) (hU : d .used ≡ U) (hB : d .bound ≡ B) (hO : d .order ≡ O) (hc : d .count ≡ c) where
-      pub takes-next : Takes s i U B O c (e .used) (e .bound) (e .order) (e .count) → emittersOf e ≡ recordAtom (emittersOf d) i (atomOfFrame s) → e .before ≡ e .used → length (e .emitters) ≡ most → TakesNext x i d e
+      pub takes-next : Takes s i U B O c (e .used) (e .bound) (e .order) (e .count) → emittersOf e ≡ recordAtom (emittersOf d) i (atomOfFrame s) → e .before ≡ e .used → length (e .emitters) ≡ boundMost → TakesNext x i d e
       takes-next t q g m =
-          let a : atomOf (atomsOf x) i ≡ atomOfFrame s = z .is i h ∙ ap (λ (l : List ℕ). atomOfFrame l) (sym line) in
+          let a : atomOf (sheetAtoms x) i ≡ atomOfFrame s = z .is i h ∙ ap (λ (l : List ℕ). atomOfFrame l) (sym line) in
           record {
-            went = rw (hU, hB, hO, hc) (t .went (atomOf (atomsOf x)) (numbers (atomsOf x)) a (number-among x from n z i h));
+            went = rw (hU, hB, hO, hc) (t .went (atomOf (sheetAtoms x)) (numbers (sheetAtoms x)) a (number-among x from n z i h));
             used = rw hU (t .used);
             emitters = q ∙ ap (recordAtom (emittersOf d) i) (sym a);
             before = g;

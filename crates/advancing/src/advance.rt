@@ -3,11 +3,11 @@ ghost use mathlib.Core.Path.{_≡_};
 ghost use mathlib.Core.Bool.{true, false};
 ghost use Prim.Native.Nat.{_<_};
 ghost use lib.ListN.{length};
-ghost use Rattle.model.specs.Bound.{has, most};
+ghost use Rattle.model.specs.Bound.{has, boundMost};
 ghost use Rattle.model.specs.Scheduling.{scans, atomOf};
 ghost use Rattle.cost.specs.QueryAtoms.{atomOfFrame};
 ghost use Rattle.lowering.specs.AtomLines.{AtomLine};
-ghost use Rattle.passes.specs.Eager.{Located, atomsOf};
+ghost use Rattle.passes.specs.Eager.{Located, sheetAtoms};
 ghost use Rattle.advancing.specs.Advancing.{Prepared, Advances, Takes, TakesNext};
 use binding::sets::set_bound;
 use fields::field::wide;
@@ -66,7 +66,7 @@ fn take(
     requires { ⌜ AtomLine (now frame) ⌝ }
     requires { ⌜ scans (atomOfFrame (now frame)) ≡ true ⌝ }
     requires { ⌜ has (now used) i ≡ false ⌝ }
-    requires { ⌜ length (now bound) ≡ most ⌝ }
+    requires { ⌜ length (now bound) ≡ boundMost ⌝ }
     requires { ⌜ i < length (now used) ⌝ }
     requires { ⌜ c < length (now order) ⌝ }
     ensures { λ r. ⌜ Takes (now (frame .entry)) i (now (used .entry)) (now (bound .entry)) (now (order .entry)) c (now (used .exit)) (now (bound .exit)) (now (order .exit)) r ⌝ }
@@ -81,7 +81,7 @@ fn take(
 pub fn take_next(sheet: &[u8], from: &[u16], n: usize, i: u8, d: Scheduler) -> Scheduler
     requires { ⌜ Located (now sheet) (now from) n ⌝ }
     requires { ⌜ i < n ⌝ }
-    requires { ⌜ scans (atomOf (atomsOf (now sheet)) i) ≡ true ⌝ }
+    requires { ⌜ scans (atomOf (sheetAtoms (now sheet)) i) ≡ true ⌝ }
     requires { ⌜ has (d .used) i ≡ false ⌝ }
     requires { ⌜ Prepared (now sheet) d ⌝ }
     ensures { λ r. ⌜ TakesNext (now (sheet .entry)) i d r ⌝ }

@@ -7,7 +7,7 @@ use native.Mathlib.Numerals.{add-one}
 use lib.ListN.{length, getD, take, drop, set, length-set, drop-of-length-le}
 use lib.Seq.{take-suc-set, take-all, drop-cons}
 use Rattle.hex.specs.Digits.{hexDigit, digitsOf}
-use Rattle.answer_lines.specs.Lines.{lineOf, refusalLine, turnedLine}
+use Rattle.answer_lines.specs.Lines.{lineOf, refusalLine, runRefusalLine}
 
 pub high-digit : (b r : ℕ) → b < 256 → r ≡ hexDigit (b / 16 % 16) → r ≡ hexDigit (b / 16)
 high-digit b r h p = let e : b / 16 % 16 ≡ b / 16 = omega arith in rw e at p
@@ -48,5 +48,5 @@ module _ (f p : List ℕ) (i : ℕ) (s : Put f p i) where
 pub refusal-lined : (k l a b : ℕ) (o : List ℕ) → a ≡ l / 0x100 % 0x100 → b ≡ l % 0x100 → o ≡ lineOf (0xff ∷ k ∷ a ∷ b ∷ []) → o ≡ refusalLine k l
 refusal-lined k l a b o p q h = rw (← p, ← q) h
 
-pub turned-lined : (k x l a b : ℕ) (o : List ℕ) → a ≡ l / 0x100 % 0x100 → b ≡ l % 0x100 → o ≡ lineOf (0xff ∷ k ∷ a ∷ b ∷ x ∷ []) → o ≡ turnedLine k x l
-turned-lined k x l a b o p q h = rw (← p, ← q) h
+pub run-refusal-lined : (k x l a b : ℕ) (o : List ℕ) → a ≡ l / 0x100 % 0x100 → b ≡ l % 0x100 → o ≡ lineOf (0xff ∷ k ∷ a ∷ b ∷ x ∷ []) → o ≡ runRefusalLine k x l
+run-refusal-lined k x l a b o p q h = rw (← p, ← q) h

@@ -12,8 +12,8 @@ abbrev pub refusalLine : ℕ → ℕ → List ℕ
 refusalLine k l = lineOf (0xff ∷ k ∷ l / 0x100 % 0x100 ∷ l % 0x100 ∷ [])
 
 -- texts of a run: then the text, 01 plan or 02 table
-abbrev pub turnedLine : ℕ → ℕ → ℕ → List ℕ
-turnedLine k x l = lineOf (0xff ∷ k ∷ l / 0x100 % 0x100 ∷ l % 0x100 ∷ x ∷ [])
+abbrev pub runRefusalLine : ℕ → ℕ → ℕ → List ℕ
+runRefusalLine k x l = lineOf (0xff ∷ k ∷ l / 0x100 % 0x100 ∷ l % 0x100 ∷ x ∷ [])
 
 -- behind the matches of a run: 51 0000 status tries(8) matches(4), the matches modulo 4,294,967,296
 abbrev pub endLine : ℕ → ℕ → ℕ → List ℕ

@@ -3,7 +3,7 @@ ghost use mathlib.Core.Path.{_≡_};
 ghost use Prim.Native.Nat.{_+_, _*_, _/_, _%_};
 ghost use lib.ListN.{length};
 ghost use Rattle.hex.specs.Digits.{hexDigit};
-ghost use Rattle.answer_lines.specs.Lines.{lineOf, refusalLine, turnedLine, endLine};
+ghost use Rattle.answer_lines.specs.Lines.{lineOf, refusalLine, runRefusalLine, endLine};
 use hex::hex_digit;
 
 // The first digit of a byte.
@@ -46,8 +46,8 @@ pub fn refusal_line(number: u8, line: usize) -> [u8; 9]
 }
 
 // Refused texts of a run: ff number line(2) text.
-pub fn turned_line(number: u8, text: u8, line: usize) -> [u8; 11]
-    ensures { λ r. ⌜ r ≡ turnedLine number text line ⌝ }
+pub fn run_refusal_line(number: u8, text: u8, line: usize) -> [u8; 11]
+    ensures { λ r. ⌜ r ≡ runRefusalLine number text line ⌝ }
 {
     let l = line as u64;
     let frame = [0xff, number, low_byte(l / 0x100), low_byte(l), text];

@@ -9,11 +9,12 @@ use lib.ListN.{length, getD}
 use borrow.Author.Tests.{ne-eqb, ltb-true, not-true, not-false}
 use Rattle.model.specs.Atoms.{Operand, local, global, wild, localOf}
 use Rattle.model.specs.Bound.{Bound, has, add, hasAll}
-use Rattle.model.specs.Bools.{first, second}
+use Rattle.model.proofs.Bools.{first, second}
 use Rattle.model.specs.Lowering.{pvIsBound, pvMarkBound, markAll}
 use Rattle.model.specs.Premises.{numbersBelow}
-use Rattle.cost.specs.QueryAtoms.{operandAt, operandsFrom, bytesFrom}
-use Rattle.cost.specs.Operands.{local-at}
+use Rattle.cost.specs.QueryAtoms.{operandsFrom, bytesFrom}
+use Rattle.records.specs.Lookups.{operandAt}
+use Rattle.cost.proofs.Operands.{local-at}
 use Rattle.fields.specs.Fields.{width}
 use Rattle.kinds.specs.Kinds.{kindAt, fixedLength, itemsOf}
 use Rattle.frames.specs.Frames.{kindOf}

@@ -9,9 +9,9 @@ use Rattle.measure.specs.declared.SamplerConfig.{SamplerConfig}
 use Rattle.measure.specs.declared.Estimate.{Estimate}
 use Rattle.measure.specs.Bootstrap.{estimateOf}
 use Rattle.bit_patterns.specs.declared.Answer.{Answer}
-use Rattle.bit_patterns.specs.Answers.{told, answerOf, statusOf, meanLeft}
+use Rattle.bit_patterns.specs.Answers.{told, estimateAnswer, statusOf, meanLeft}
 
-pub measured-at-last : (cfg : SamplerConfig) (draws : List Float) (e : Estimate) (r : Answer) → (length draws ≡ 0 → ⊥) → length draws ≤ 64 → cfg .bootstrap ≤ 256 → e ≡ estimateOf cfg draws → r ≡ told e → r ≡ answerOf cfg draws
+pub measured-at-last : (cfg : SamplerConfig) (draws : List Float) (e : Estimate) (r : Answer) → (length draws ≡ 0 → ⊥) → length draws ≤ 64 → cfg .bootstrap ≤ 256 → e ≡ estimateOf cfg draws → r ≡ told e → r ≡ estimateAnswer cfg draws
 measured-at-last cfg draws e r n h b p q = rw (ne-eqb _ _ n, le-ltb _ _ h, le-ltb _ _ b, ← p) q
 
 -- what is told of an answer

@@ -34,8 +34,8 @@ told (Accepted m) = Mean (toBits binary64 m)
 told Rejected = Unreliable
 
 -- refused: no draw, more than 64 of them, or more than 256 resamples; else the measurement
-abbrev pub answerOf : SamplerConfig → List Float → Answer
-answerOf cfg draws =
+abbrev pub estimateAnswer : SamplerConfig → List Float → Answer
+estimateAnswer cfg draws =
     pick (eqb (length draws) 0) Refused
     (pick (ltb 64 (length draws)) Refused
     (pick (ltb 256 (cfg .bootstrap)) Refused

@@ -1,7 +1,7 @@
 // The numbers of the C functions: doubles go in and come out as their bits.
 ghost use mathlib.Core.Path.{_≡_};
 ghost use Rattle.splitmix.specs.SplitMix.{nextState, drawAt};
-ghost use Rattle.bit_patterns.specs.Answers.{fanOut, selectivityBits, settings, told, answerOf, statusOf, meanLeft};
+ghost use Rattle.bit_patterns.specs.Answers.{fanOut, selectivityBits, settings, told, estimateAnswer, statusOf, meanLeft};
 use measure::Estimate;
 use measure::FanOut;
 use measure::SamplerConfig;
@@ -53,7 +53,7 @@ fn tell(e: Estimate) -> Answer
 }
 
 fn measured_answer(draws: &[f64], cfg: SamplerConfig) -> Answer
-    ensures { λ r. ⌜ r ≡ answerOf cfg (now (draws .entry)) ⌝ }
+    ensures { λ r. ⌜ r ≡ estimateAnswer cfg (now (draws .entry)) ⌝ }
 {
     if draws.len() == 0 {
         return Answer::Refused;
@@ -69,7 +69,7 @@ fn measured_answer(draws: &[f64], cfg: SamplerConfig) -> Answer
 
 // The measurement from its draws; refused without draws, with more than 64, or with more than 256 resamples.
 pub fn estimate(draws: &[f64], k: usize, bootstrap: usize, cv: u64) -> Answer
-    ensures { λ r. ⌜ r ≡ answerOf (settings k bootstrap cv) (now (draws .entry)) ⌝ }
+    ensures { λ r. ⌜ r ≡ estimateAnswer (settings k bootstrap cv) (now (draws .entry)) ⌝ }
 {
     let cfg = SamplerConfig {
         k,

@@ -17,7 +17,7 @@ use Rattle.frames.specs.Sheet.{frameAt, framesIn}
 use Rattle.model.specs.Atoms.{Atom}
 use Rattle.model.specs.Bound.{Bound}
 use Rattle.model.specs.Scheduling.{atomOf, numbers}
-use Rattle.model.specs.Tabulate.{tabulate-at, tabulate-length}
+use Rattle.model.proofs.TabulateLaws.{tabulate-at, tabulate-length}
 use Rattle.model.specs.Cheapest.{Bid, Scan}
 use Rattle.query.specs.declared.statistics.Sampled.{Sampled}
 use Rattle.cost.specs.QueryAtoms.{atomOfFrame}
@@ -27,8 +27,8 @@ use Rattle.cost.specs.Costs.{estimateCost}
 use Rattle.cost.specs.Memo.{tallyAt}
 use Rattle.cost.specs.Choice.{isCandidate, offer, offered, offers}
 use Rattle.cost.specs.declared.memo.Sampling.{Sampling}
-use Rattle.plan_facts.specs.Remembered.{Grows, grows-self, cost-grows}
-use Rattle.passes.specs.Eager.{Located, atomsOf}
+use Rattle.plan_facts.proofs.Remembered.{Grows, grows-self, cost-grows}
+use Rattle.passes.specs.Eager.{Located, sheetAtoms}
 use Rattle.samples.specs.Remembering.{Remembers}
 use Rattle.item_pricing.specs.ItemCosts.{Stands}
 use Rattle.item_pricing.specs.declared.items.Costed.{Costed as CostedAs}
@@ -72,8 +72,8 @@ numbers-drop qs i l = drop-cons (numbers qs) i 0 (rw (tabulate-length (length qs
 -- the atoms from number i on, from the best so far, give what all atoms give, and their costs behind those that are noted
 pub record Scanning (x : List ℕ) (em : Emitters) (U B : Bound) (n : ℕ) (s₀ : Sampling) (keys₀ : List ℕ) (values₀ : List Float) (costs₀ keys : List ℕ) (values : List Float) (costs : List ℕ) (b : Best) (i : ℕ) : Type 0 where
   pub few : i ≤ n
-  pub is : candidates (framesIn x) em (atomsOf x) U B (drop i (numbers (atomsOf x))) (tallyAt keys (b .tallies)) (bidOf (b .found) (b .who) (b .price)) ≡ candidates (framesIn x) em (atomsOf x) U B (numbers (atomsOf x)) (tallyAt keys₀ s₀) none
-  pub costs-are : n ≤ length costs → take i costs ++ map costBits (offers (framesIn x) em (atomsOf x) U B (drop i (numbers (atomsOf x))) (tallyAt keys (b .tallies))) ≡ map costBits (offers (framesIn x) em (atomsOf x) U B (numbers (atomsOf x)) (tallyAt keys₀ s₀))
+  pub is : candidates (framesIn x) em (sheetAtoms x) U B (drop i (numbers (sheetAtoms x))) (tallyAt keys (b .tallies)) (bidOf (b .found) (b .who) (b .price)) ≡ candidates (framesIn x) em (sheetAtoms x) U B (numbers (sheetAtoms x)) (tallyAt keys₀ s₀) none
+  pub costs-are : n ≤ length costs → take i costs ++ map costBits (offers (framesIn x) em (sheetAtoms x) U B (drop i (numbers (sheetAtoms x))) (tallyAt keys (b .tallies))) ≡ map costBits (offers (framesIn x) em (sheetAtoms x) U B (numbers (sheetAtoms x)) (tallyAt keys₀ s₀))
   pub memo : Remembers (framesIn x) (s₀ .how) keys values (b .tallies)
   pub keys-size : length keys ≡ length keys₀
   pub values-size : length values ≡ length values₀
@@ -90,13 +90,13 @@ module _ (x from : List ℕ) (em : Emitters) (U B : Bound) (n : ℕ) (s₀ : Sam
     abbrev cost-now : Option Float
     cost-now = offer (framesIn x) em U B v (atomOfFrame s) (tallyAt keys (b .tallies))
 
-    rest-is : candidates (framesIn x) em (atomsOf x) U B (drop (suc i) (numbers (atomsOf x))) behind (orBest v cost-now (bidOf (b .found) (b .who) (b .price))) ≡ candidates (framesIn x) em (atomsOf x) U B (numbers (atomsOf x)) (tallyAt keys₀ s₀) none
+    rest-is : candidates (framesIn x) em (sheetAtoms x) U B (drop (suc i) (numbers (sheetAtoms x))) behind (orBest v cost-now (bidOf (b .found) (b .who) (b .price))) ≡ candidates (framesIn x) em (sheetAtoms x) U B (numbers (sheetAtoms x)) (tallyAt keys₀ s₀) none
     unfolding candidates
-    rest-is = rw (e, line, ← z .is i h) (rw (numbers-drop (atomsOf x) i (omega (arith, z .count))) at (r .is))
+    rest-is = rw (e, line, ← z .is i h) (rw (numbers-drop (sheetAtoms x) i (omega (arith, z .count))) at (r .is))
 
-    costs-rest : n ≤ length costs → take i costs ++ costBits cost-now ∷ map costBits (offers (framesIn x) em (atomsOf x) U B (drop (suc i) (numbers (atomsOf x))) behind) ≡ map costBits (offers (framesIn x) em (atomsOf x) U B (numbers (atomsOf x)) (tallyAt keys₀ s₀))
+    costs-rest : n ≤ length costs → take i costs ++ costBits cost-now ∷ map costBits (offers (framesIn x) em (sheetAtoms x) U B (drop (suc i) (numbers (sheetAtoms x))) behind) ≡ map costBits (offers (framesIn x) em (sheetAtoms x) U B (numbers (sheetAtoms x)) (tallyAt keys₀ s₀))
     unfolding offers
-    costs-rest l = rw (e, line, ← z .is i h) (rw (numbers-drop (atomsOf x) i (omega (arith, z .count))) at (r .costs-are l))
+    costs-rest l = rw (e, line, ← z .is i h) (rw (numbers-drop (sheetAtoms x) i (omega (arith, z .count))) at (r .costs-are l))
 
     -- one cost more is noted
     noted-size : (y : ℕ) → length (noted costs i y) ≡ length costs
@@ -106,9 +106,9 @@ module _ (x from : List ℕ) (em : Emitters) (U B : Bound) (n : ℕ) (s₀ : Sam
         by true = length-set costs i y
         by false = refl
 
-    costs-next : (y : ℕ) → y ≡ costBits cost-now → n ≤ length costs → take (i + 1) (noted costs i y) ++ map costBits (offers (framesIn x) em (atomsOf x) U B (drop (suc i) (numbers (atomsOf x))) behind) ≡ map costBits (offers (framesIn x) em (atomsOf x) U B (numbers (atomsOf x)) (tallyAt keys₀ s₀))
+    costs-next : (y : ℕ) → y ≡ costBits cost-now → n ≤ length costs → take (i + 1) (noted costs i y) ++ map costBits (offers (framesIn x) em (sheetAtoms x) U B (drop (suc i) (numbers (sheetAtoms x))) behind) ≡ map costBits (offers (framesIn x) em (sheetAtoms x) U B (numbers (sheetAtoms x)) (tallyAt keys₀ s₀))
     costs-next y q l =
-        rw (lt-ltb i (length costs) (omega arith), add-one i, take-suc-set costs i y (omega arith), append-assoc (take i costs) (y ∷ []) (map costBits (offers (framesIn x) em (atomsOf x) U B (drop (suc i) (numbers (atomsOf x))) behind)), q)
+        rw (lt-ltb i (length costs) (omega arith), add-one i, take-suc-set costs i y (omega arith), append-assoc (take i costs) (y ∷ []) (map costBits (offers (framesIn x) em (sheetAtoms x) U B (drop (suc i) (numbers (sheetAtoms x))) behind)), q)
         (costs-rest l)
 
     module _ (t : Bool) (cand : t ≡ isCandidate U v (atomOfFrame s)) where
@@ -130,9 +130,9 @@ module _ (x from : List ℕ) (em : Emitters) (U B : Bound) (n : ℕ) (s₀ : Sam
         one : isCandidate U v (atomOfFrame s) ≡ true
         one = sym cand ∙ not-false t g
 
-        pub cost-room : length (candidates (framesIn x) em (atomsOf x) U B (numbers (atomsOf x)) (tallyAt keys₀ s₀) none .next .memo) ≤ length keys₀ → length (estimateCost (framesIn x) em B v (atomOfFrame s) (tallyAt keys (b .tallies)) .tally .memo) ≤ length keys
+        pub cost-room : length (candidates (framesIn x) em (sheetAtoms x) U B (numbers (sheetAtoms x)) (tallyAt keys₀ s₀) none .next .memo) ≤ length keys₀ → length (estimateCost (framesIn x) em B v (atomOfFrame s) (tallyAt keys (b .tallies)) .tally .memo) ≤ length keys
         cost-room l =
-            let c = candidates-more (framesIn x) em (atomsOf x) U B (drop (suc i) (numbers (atomsOf x))) behind (orBest v cost-now (bidOf (b .found) (b .who) (b .price))) in
+            let c = candidates-more (framesIn x) em (sheetAtoms x) U B (drop (suc i) (numbers (sheetAtoms x))) behind (orBest v cost-now (bidOf (b .found) (b .who) (b .price))) in
             let k = rw rest-is at c in
             let q : length (behind .memo) ≤ length keys = omega (arith, r .keys-size) in
             rw one at q
@@ -152,16 +152,16 @@ module _ (x from : List ℕ) (em : Emitters) (U B : Bound) (n : ℕ) (s₀ : Sam
               costs-size = ap length w ∙ noted-size y ∙ r .costs-size;
             }
 
-  pub scanned : n ≤ i → Chose (framesIn x) (s₀ .how) keys values costs b (candidates (framesIn x) em (atomsOf x) U B (numbers (atomsOf x)) (tallyAt keys₀ s₀) none) (offers (framesIn x) em (atomsOf x) U B (numbers (atomsOf x)) (tallyAt keys₀ s₀))
+  pub scanned : n ≤ i → Chose (framesIn x) (s₀ .how) keys values costs b (candidates (framesIn x) em (sheetAtoms x) U B (numbers (sheetAtoms x)) (tallyAt keys₀ s₀) none) (offers (framesIn x) em (sheetAtoms x) U B (numbers (sheetAtoms x)) (tallyAt keys₀ s₀))
   unfolding candidates offers
   scanned h =
-      let m : length (numbers (atomsOf x)) ≡ i = omega (arith, z .count, tabulate-length (length (atomsOf x)) (λ k. k), r .few) in
-      let g : length (numbers (atomsOf x)) ≤ i = omega arith in
-      let l : length (offers (framesIn x) em (atomsOf x) U B (numbers (atomsOf x)) (tallyAt keys₀ s₀)) ≡ i = offers-length (framesIn x) em (atomsOf x) U B (numbers (atomsOf x)) (tallyAt keys₀ s₀) ∙ m in
-      let is = rw (drop-of-length-le (numbers (atomsOf x)) g) at (r .is) in
+      let m : length (numbers (sheetAtoms x)) ≡ i = omega (arith, z .count, tabulate-length (length (sheetAtoms x)) (λ k. k), r .few) in
+      let g : length (numbers (sheetAtoms x)) ≤ i = omega arith in
+      let l : length (offers (framesIn x) em (sheetAtoms x) U B (numbers (sheetAtoms x)) (tallyAt keys₀ s₀)) ≡ i = offers-length (framesIn x) em (sheetAtoms x) U B (numbers (sheetAtoms x)) (tallyAt keys₀ s₀) ∙ m in
+      let is = rw (drop-of-length-le (numbers (sheetAtoms x)) g) at (r .is) in
       record {
         best = ap (λ (c : Scan Tally Float). c .best) is;
         next = ap (λ (c : Scan Tally Float). c .next) is;
         memo = r .memo;
-        costs-are = λ w. rw l (sym (append-nil (take i costs)) ∙ rw (drop-of-length-le (numbers (atomsOf x)) g) at (r .costs-are (omega (arith, l, r .few))));
+        costs-are = λ w. rw l (sym (append-nil (take i costs)) ∙ rw (drop-of-length-le (numbers (sheetAtoms x)) g) at (r .costs-are (omega (arith, l, r .few))));
       }

@@ -6,12 +6,12 @@ ghost use Prim.Native.Nat.{_+_, _*_, _<_, _≤_};
 ghost use lib.ListN.{length};
 ghost use Rattle.frames.specs.Sheet.{framesIn};
 ghost use Rattle.indexing.specs.Index.{Indexed};
-ghost use Rattle.model.specs.Bound.{most};
+ghost use Rattle.model.specs.Bound.{boundMost};
 ghost use Rattle.model.specs.Scheduling.{numbers};
 ghost use Rattle.cost.specs.Emitters.{decode};
 ghost use Rattle.cost.specs.Memo.{tallyAt};
 ghost use Rattle.cost.specs.Choice.{offers};
-ghost use Rattle.passes.specs.Eager.{Located, atomsOf};
+ghost use Rattle.passes.specs.Eager.{Located, sheetAtoms};
 ghost use Rattle.prices.specs.Prices.{Priced};
 ghost use Rattle.samples.specs.Remembering.{Samples, Remembers};
 ghost use Rattle.choosing.specs.Choosing.{candidates, Chose};
@@ -42,13 +42,13 @@ pub fn cheapest(
     s: Sampling,
 ) -> Best
     requires { ⌜ Located (now sheet) (now from) n ⌝ }
-    requires { ⌜ (length (d .bound) ≡ most) × (length (d .emitters) ≡ most) ⌝ }
+    requires { ⌜ (length (d .bound) ≡ boundMost) × (length (d .emitters) ≡ boundMost) ⌝ }
     requires { ⌜ Samples (framesIn (now sheet)) (s .how) ⌝ }
     requires { ⌜ Remembers (framesIn (now sheet)) (s .how) (now keys) (now values) s ⌝ }
-    requires { ⌜ length (candidates (framesIn (now sheet)) (map decode (d .emitters)) (atomsOf (now sheet)) (d .used) (d .bound) (numbers (atomsOf (now sheet))) (tallyAt (now keys) s) none .next .memo) ≤ length (now keys) ⌝ }
+    requires { ⌜ length (candidates (framesIn (now sheet)) (map decode (d .emitters)) (sheetAtoms (now sheet)) (d .used) (d .bound) (numbers (sheetAtoms (now sheet))) (tallyAt (now keys) s) none .next .memo) ≤ length (now keys) ⌝ }
     requires { ⌜ Indexed (now sheet) (now index) ⌝ }
     requires { ⌜ Priced (now sheet) (now from) n (now prices) ⌝ }
-    ensures { λ r. ⌜ Chose (framesIn (now (sheet .entry))) (s .how) (now (keys .exit)) (now (values .exit)) (now (costs .exit)) r (candidates (framesIn (now (sheet .entry))) (map decode (d .emitters)) (atomsOf (now (sheet .entry))) (d .used) (d .bound) (numbers (atomsOf (now (sheet .entry)))) (tallyAt (now (keys .entry)) s) none) (offers (framesIn (now (sheet .entry))) (map decode (d .emitters)) (atomsOf (now (sheet .entry))) (d .used) (d .bound) (numbers (atomsOf (now (sheet .entry)))) (tallyAt (now (keys .entry)) s)) ⌝ }
+    ensures { λ r. ⌜ Chose (framesIn (now (sheet .entry))) (s .how) (now (keys .exit)) (now (values .exit)) (now (costs .exit)) r (candidates (framesIn (now (sheet .entry))) (map decode (d .emitters)) (sheetAtoms (now (sheet .entry))) (d .used) (d .bound) (numbers (sheetAtoms (now (sheet .entry)))) (tallyAt (now (keys .entry)) s) none) (offers (framesIn (now (sheet .entry))) (map decode (d .emitters)) (sheetAtoms (now (sheet .entry))) (d .used) (d .bound) (numbers (sheetAtoms (now (sheet .entry)))) (tallyAt (now (keys .entry)) s)) ⌝ }
 {
     let used = d.used;
     let bound = d.bound;

@@ -6,8 +6,8 @@ use native.Mathlib.Omega.{arith}
 use native.Mathlib.Decide.{decLt}
 use lib.ListN.{length, getD, set, take, length-set, List·getD-eq-default}
 use lib.Seq.{length-take-le, getD-set-same, getD-set-other, getD-take, ext-getD}
-use Rattle.base.specs.Lists.{any-default}
-use Rattle.model.specs.Tabulate.{tabulate-at, tabulate-length}
+use Rattle.base.proofs.Lists.{any-default}
+use Rattle.model.proofs.TabulateLaws.{tabulate-at, tabulate-length}
 use Rattle.cost_bits.specs.CostBits.{noCost}
 use Rattle.cost_bits.specs.ToldBits.{bitsIn}
 

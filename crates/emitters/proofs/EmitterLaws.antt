@@ -7,7 +7,7 @@ use native.Mathlib.Omega.{arith}
 use lib.ListN.{length, getD, set, List·getD-map}
 use borrow.Author.Tests.{eq-eqb, ne-eqb}
 use Rattle.model.specs.Bound.{put}
-use Rattle.cost.specs.QueryAtoms.{operandAt}
+use Rattle.records.specs.Lookups.{operandAt}
 use Rattle.cost.specs.Emitters.{Emitters, decode, from, orKeep, setEmitter, setOperand, copyEmitter, emitterOf}
 
 pub packed-is : (a s p x y z : ℕ) → a < 256 → s < 4 → p < 256 → x ≡ a → y ≡ s → z ≡ p → decode (1 + (x * 4 + y) * 256 + z) ≡ from a s p

@@ -6,7 +6,7 @@ ghost use Prim.Native.Nat.{ℕ, _+_, _*_, _<_, _≤_};
 ghost use lib.ListN.{length, getD};
 ghost use Rattle.model.specs.Atoms.{localOf};
 ghost use Rattle.model.specs.Premises.{numbersBelow};
-ghost use Rattle.cost.specs.QueryAtoms.{operandAt};
+ghost use Rattle.records.specs.Lookups.{operandAt};
 ghost use Rattle.cost.specs.Emitters.{decode, from, emitterOf, setEmitter, setOperand, copyEmitter};
 use hex::byte_at;
 

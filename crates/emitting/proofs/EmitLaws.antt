@@ -8,12 +8,12 @@ use lib.Dec.{T, ltb, leb}
 use lib.ListN.{length, getD}
 use lib.Seq.{length-take-le}
 use borrow.Author.Tests.{ltb-true, leb-true, eq-eqb, ne-eqb}
-use Rattle.base.specs.Choose.{both-hold}
+use Rattle.base.proofs.ChooseLaws.{both-hold}
 use Rattle.frame_tests.specs.Faults.{isAtom}
 use Rattle.kinds.specs.Kinds.{kinds, kindAt, fixedLength}
 use Rattle.frames.specs.Frames.{kindOf}
 use Rattle.model.specs.Atoms.{localOf, Step, Atom}
-use Rattle.model.specs.Bound.{Bound, add, most}
+use Rattle.model.specs.Bound.{Bound, add, boundMost}
 use Rattle.model.specs.Lowering.{childLookups, containsLookups, markAll, emitReadChildren, lower}
 use Rattle.model.specs.Premises.{numbersBelow}
 use Rattle.cost.specs.QueryAtoms.{operandsFrom, atomOfFrame}
@@ -69,9 +69,9 @@ plain-bound B k f h = rw h
 
 -- ---- a Plain
 
-module _ (f : List ℕ) (e : Emittable f) (h : getD f 0 0 ≡ 1) (B : Bound) (sized : length B ≡ most) (node : ℕ) (hn : node ≡ getD f 1 0) where
+module _ (f : List ℕ) (e : Emittable f) (h : getD f 0 0 ≡ 1) (B : Bound) (sized : length B ≡ boundMost) (node : ℕ) (hn : node ≡ getD f 1 0) where
   pub plain-node : node < length B
-  plain-node = rw (sized, hn) (ltb-true (getD f 1 0) most (node-kind f (e .atom .kind) (λ p. omega arith) (λ p. omega arith) (e .atom .variables)))
+  plain-node = rw (sized, hn) (ltb-true (getD f 1 0) boundMost (node-kind f (e .atom .kind) (λ p. omega arith) (λ p. omega arith) (e .atom .variables)))
 
   module _ (C : Bound) (g : C ≡ add B node) where
     pub plain-below : numbersBelow (length C) (flatMap localOf (itemOperands f)) ≡ true

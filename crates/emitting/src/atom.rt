@@ -2,7 +2,7 @@
 ghost use mathlib.Core.Path.{_≡_};
 ghost use Prim.Native.Nat.{_+_, _<_, _≤_};
 ghost use lib.ListN.{length, getD};
-ghost use Rattle.model.specs.Bound.{most};
+ghost use Rattle.model.specs.Bound.{boundMost};
 ghost use Rattle.model.specs.Lowering.{lower};
 ghost use Rattle.cost.specs.QueryAtoms.{atomOfFrame};
 ghost use Rattle.lowering.specs.AtomLines.{boundBehind};
@@ -22,7 +22,7 @@ use step_bytes::single::lone_step;
 fn emit_plain(frame: &[u8], k: u8, bound: &mut [bool], out: &mut [u8], at: usize) -> usize
     requires { ⌜ Emittable (now frame) ⌝ }
     requires { ⌜ getD (now frame) 0 0 ≡ 1 ⌝ }
-    requires { ⌜ length (now bound) ≡ most ⌝ }
+    requires { ⌜ length (now bound) ≡ boundMost ⌝ }
     requires { ⌜ at < 0x1000_0000 ⌝ }
     ensures { λ r. ⌜ now (bound .exit) ≡ boundBehind (now (bound .entry)) (lower (now (bound .entry)) k (atomOfFrame (now (frame .entry)))) ⌝ }
     ensures { λ r. ⌜ Emits (now (bound .entry)) k (atomOfFrame (now (frame .entry))) (now (out .entry)) at (now (out .exit)) r ⌝ }
@@ -91,7 +91,7 @@ fn emit_other(frame: &[u8], k: u8, bound: &[bool], out: &mut [u8], at: usize) ->
 // The steps of atom k, by its frame; what it binds is set.
 pub fn emit_atom(frame: &[u8], k: u8, bound: &mut [bool], out: &mut [u8], at: usize) -> usize
     requires { ⌜ Emittable (now frame) ⌝ }
-    requires { ⌜ length (now bound) ≡ most ⌝ }
+    requires { ⌜ length (now bound) ≡ boundMost ⌝ }
     requires { ⌜ at < 0x1000_0000 ⌝ }
     ensures { λ r. ⌜ now (bound .exit) ≡ boundBehind (now (bound .entry)) (lower (now (bound .entry)) k (atomOfFrame (now (frame .entry)))) ⌝ }
     ensures { λ r. ⌜ Emits (now (bound .entry)) k (atomOfFrame (now (frame .entry))) (now (out .entry)) at (now (out .exit)) r ⌝ }

@@ -29,8 +29,8 @@ abbrev pub outcomeOf : OutcomeAs → Outcome
 outcomeOf (Invalid k x l) = Refused k x l
 outcomeOf (Went s tries matches written) = Ran (statusOf s) tries matches written
 
-abbrev pub resultOf : OutcomeAs → List ℕ → Result
-resultOf r o = record { outcome = outcomeOf r; output = o }
+abbrev pub outcomeResult : OutcomeAs → List ℕ → Result
+outcomeResult r o = record { outcome = outcomeOf r; output = o }
 
 -- ---- the second entry
 

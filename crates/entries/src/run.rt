@@ -2,7 +2,7 @@
 ghost use mathlib.Core.Path.{_≡_};
 ghost use Rattle.running.specs.Run.{run as runOf};
 ghost use Rattle.runner.specs.Halts.{statusNumber};
-ghost use Rattle.entries.specs.Outcomes.{statusOf, statusBy, resultOf};
+ghost use Rattle.entries.specs.Outcomes.{statusOf, statusBy, outcomeResult};
 use execution::texts::run_texts;
 
 pub enum Status {
@@ -44,7 +44,7 @@ pub fn status_number(s: Status) -> u8
 
 // Runs a plan over a table, with an allowance of tries, into a lent output.
 pub fn run(plan: &[u8], table: &[u8], allowance: u64, out: &mut [u8]) -> Outcome
-    ensures { λ r. ⌜ resultOf r (now (out .exit)) ≡ runOf (now (plan .entry)) (now (table .entry)) allowance (now (out .entry)) ⌝ }
+    ensures { λ r. ⌜ outcomeResult r (now (out .exit)) ≡ runOf (now (plan .entry)) (now (table .entry)) allowance (now (out .entry)) ⌝ }
 {
     let e = run_texts(plan, table, allowance, out);
     if e.passed {

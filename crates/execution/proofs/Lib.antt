@@ -1,3 +1,1 @@
-pub mod StepLaws
-pub mod WorldLaws
 pub mod TextLaws

@@ -6,10 +6,10 @@ ghost use Rattle.first_reading.specs.First.{framesOf};
 ghost use Rattle.reading.specs.IndexedReading.{Lent, tinyText, shortText, middleText};
 ghost use Rattle.running.specs.Validation.{validation};
 ghost use Rattle.validation.specs.Plans.{PlanSheet};
-ghost use Rattle.execution.specs.Ends.{haltIn, haltOf, tableTests, TableLent, Ends};
-use super::world::Ended;
-use super::world::refused;
-use super::world::run_sheets;
+ghost use Rattle.world_run.specs.Ends.{Ends};
+ghost use Rattle.sheet_run.specs.SheetRuns.{haltIn};
+ghost use Rattle.table_run.specs.TableRuns.{tableTests};
+ghost use Rattle.execution.specs.TextRuns.{haltOf};
 use first_reading::first::Reading;
 use first_reading::first::sheet_size;
 use frame_tests::tests::Text;
@@ -25,6 +25,9 @@ use reading::second::TINY_INDEX;
 use reading::second::TINY_SHEET;
 use reading::second::TINY_TEXT;
 use reading::second::read_indexed;
+use table_run::tables::run_table;
+use world_run::world::Ended;
+use world_run::world::refused;
 
 // The most rows of a tiny, a short and a longer table: a row's line has ten digits or more. The rows' links have 512 numbers and two a row.
 const TINY_ROWS: usize = 51;
@@ -47,40 +50,6 @@ const SHORT_CHILDREN: usize = SHORT_SHEET / 2;
 const MIDDLE_CHILDREN: usize = MIDDLE_SHEET / 2;
 
 const LONG_CHILDREN: usize = LONG_SHEET / 2;
-
-// The run of the plan on a sheet over a table text, with the arrays that are lent for the table.
-fn run_table(
-    plan: &[u8],
-    table: &[u8],
-    sheet: &mut [u8],
-    index: &mut [u16],
-    rows: &mut [u64],
-    children: &mut [u16],
-    links: &mut [u16],
-    allowance: u64,
-    out: &mut [u8],
-) -> Ended
-    requires { ⌜ PlanSheet (now plan) ⌝ }
-    requires { ⌜ TableLent (now table) (now sheet) (now index) (now rows) (now children) (now links) ⌝ }
-    ensures { λ r. ⌜ Ends (tableTests (framesIn (now (plan .entry))) (now (table .entry))) (haltIn (framesIn (now (plan .entry))) (framesOf (now (table .entry))) allowance (now (out .entry))) (now (out .entry)) (now (out .exit)) r ⌝ }
-{
-    match read_indexed(Text::Table, table, sheet, index) {
-        Reading::Refused(k, line) => refused(k, 2, line),
-        Reading::Accepted(lines, _) => {
-            let size = sheet_size(table.len(), lines);
-            run_sheets(
-                plan,
-                &sheet[..size],
-                index,
-                rows,
-                children,
-                links,
-                allowance,
-                out,
-            )
-        }
-    }
-}
 
 // The same with arrays of its own: for a tiny table.
 fn run_tiny(plan: &[u8], table: &[u8], allowance: u64, out: &mut [u8]) -> Ended

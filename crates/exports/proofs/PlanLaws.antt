@@ -5,8 +5,8 @@ use mathlib.Core.List.{List}
 use native.Mathlib.Omega.{arith}
 use borrow.Author.Tests.{ne-eqb}
 use Rattle.fitting.specs.Planner.{Result, plan}
-use Rattle.planner.specs.AnswerBounds.{Within, plan-within}
-use Rattle.fitting.specs.Entry.{answerOf, resultOf}
+use Rattle.planner.proofs.AnswerBounds.{Within, plan-within}
+use Rattle.fitting.specs.Entry.{plannedAnswer, plannedResult}
 use Rattle.fitting.specs.declared.fit.Planned.{Planned}
 use Rattle.fitting.specs.declared.fit.Planned.the-variants.{Written, Refused}
 use Rattle.exports.specs.Plans.{packedAnswer, packedPlanned}
@@ -16,13 +16,13 @@ pub packed-case : (p q : Planned) (n : ℕ) → p ≡ q → n ≡ packedPlanned 
 packed-case p q n e h = h ∙ ap packedPlanned (sym e)
 
 -- a refusal has a number, and a plan has bytes
-packed-same : (p : Planned) → Within (answerOf p) → packedPlanned p ≡ packedAnswer (answerOf p)
+packed-same : (p : Planned) → Within (plannedAnswer p) → packedPlanned p ≡ packedAnswer (plannedAnswer p)
 packed-same (Written b s t r) w = refl
 packed-same (Refused zero l) w = let z : 21 ≤ 0 = w .planned refl in absurd (omega arith)
 packed-same (Refused (suc k) l) w = rw (ne-eqb (suc k) 0 (λ z. omega arith)) refl
 
-module _ (x o p : List ℕ) (r : Planned) (e : resultOf r p ≡ plan x o) where
-  answers : answerOf r ≡ plan x o .answer
+module _ (x o p : List ℕ) (r : Planned) (e : plannedResult r p ≡ plan x o) where
+  answers : plannedAnswer r ≡ plan x o .answer
   answers = ap (λ (q : Result). q .answer) e
 
   pub planned-number : (n : ℕ) → n ≡ packedPlanned r → n ≡ packedAnswer (plan x o .answer)

@@ -2,16 +2,16 @@
 use Prim.Native.Nat.{ℕ}
 use mathlib.Core.Path.{_≡_, ap, _∙_, sym}
 use mathlib.Core.List.{List}
-use Rattle.round_costs.specs.Costs.{Result, answerOf, resultOf, roundCosts}
+use Rattle.round_costs.specs.Costs.{Result, roundAnswer, roundResult, roundCosts}
 use Rattle.round_costs.specs.declared.rounds.RoundCosts.{RoundCosts}
 use Rattle.exports.specs.Rounds.{packedRound}
 
 -- the number of the case that was found
-pub packed-case : (p q : RoundCosts) (n : ℕ) → p ≡ q → n ≡ packedRound (answerOf q) → n ≡ packedRound (answerOf p)
-packed-case p q n e h = h ∙ ap (λ (r : RoundCosts). packedRound (answerOf r)) (sym e)
+pub packed-case : (p q : RoundCosts) (n : ℕ) → p ≡ q → n ≡ packedRound (roundAnswer q) → n ≡ packedRound (roundAnswer p)
+packed-case p q n e h = h ∙ ap (λ (r : RoundCosts). packedRound (roundAnswer r)) (sym e)
 
-module _ (x : List ℕ) (round : ℕ) (o p : List ℕ) (r : RoundCosts) (e : resultOf r p ≡ roundCosts x round o) where
-  pub round-number : (n : ℕ) → n ≡ packedRound (answerOf r) → n ≡ packedRound (roundCosts x round o .answer)
+module _ (x : List ℕ) (round : ℕ) (o p : List ℕ) (r : RoundCosts) (e : roundResult r p ≡ roundCosts x round o) where
+  pub round-number : (n : ℕ) → n ≡ packedRound (roundAnswer r) → n ≡ packedRound (roundCosts x round o .answer)
   round-number n h = h ∙ ap (λ (q : Result). packedRound (q .answer)) e
 
   pub round-output : p ≡ roundCosts x round o .output

@@ -3,10 +3,10 @@ use Prim.Native.Nat.{ℕ}
 use mathlib.Core.Path.{_≡_, ap, _∙_}
 use mathlib.Core.List.{List}
 use Rattle.running.specs.Run.{Outcome, Result, run}
-use Rattle.entries.specs.Outcomes.{outcomeOf, resultOf}
+use Rattle.entries.specs.Outcomes.{outcomeOf, outcomeResult}
 use Rattle.entries.specs.declared.run.Outcome.{Outcome as OutcomeAs}
 
-module _ (p t o q : List ℕ) (A : ℕ) (r : OutcomeAs) (is : resultOf r q ≡ run p t A o) where
+module _ (p t o q : List ℕ) (A : ℕ) (r : OutcomeAs) (is : outcomeResult r q ≡ run p t A o) where
   -- what is told of the outcome is told of the run's
   pub told-of-run : (f : Outcome → ℕ) (n : ℕ) → n ≡ f (outcomeOf r) → n ≡ f (run p t A o .outcome)
   told-of-run f n h = h ∙ ap (λ (x : Result). f (x .outcome)) is

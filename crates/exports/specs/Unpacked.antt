@@ -5,16 +5,17 @@ use mathlib.Core.Path.{_≡_, refl}
 use mathlib.Core.List.{List}
 use native.Mathlib.Omega.{arith}
 use borrow.Author.Tests.{ne-eqb}
-use Rattle.packing.specs.Unpacked.{TellsRefusal, TellsCounts, TellsWritten, TellsPlain, refusal-told, counts-told, written-told, plain-told}
+use Rattle.packing.specs.Unpacked.{TellsRefusal, TellsCounts, TellsWritten, TellsPlain}
+use Rattle.packing.proofs.UnpackedLaws.{refusal-told, counts-told, written-told, plain-told}
 use Rattle.frame_tests.specs.Faults.{textNumber}
 use Rattle.frame_tests.specs.declared.tests.Text.{Text}
 use Rattle.frame_tests.specs.declared.tests.Text.the-variants.{Query, Plan, Table}
 use Rattle.fitting.specs.Planner.{Answer, plan}
 use Rattle.round_costs.specs.Costs.{Answer as RoundAnswer, Chosen, Ended, Invalid, roundCosts}
-use Rattle.planner.specs.AnswerBounds.{Within, plan-within}
-use Rattle.round_costs.specs.Bounds.{RoundWithin, round-within}
+use Rattle.planner.proofs.AnswerBounds.{Within, plan-within}
+use Rattle.round_costs.proofs.Bounds.{RoundWithin, round-within}
 use Rattle.running.specs.Run.{Outcome, Refused, Ran, run, Reply, Rejected, Match, None, Exhausted, Replies}
-use Rattle.running.specs.RefusalBounds.{Within as RefusedWithin, run-within, reply-within}
+use Rattle.running.proofs.RefusalBounds.{Within as RefusedWithin, run-within, reply-within}
 use Rattle.run_answers.specs.Runs.{packedRun}
 use Rattle.runner.specs.Halts.{statusNumber}
 use Rattle.run_answers.specs.Replied.{packedReply}

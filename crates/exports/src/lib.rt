@@ -3,7 +3,7 @@
 ghost use mathlib.Core.Path.{_≡_};
 ghost use Rattle.splitmix.specs.SplitMix.{nextState, drawAt};
 ghost use Rattle.sqrt.specs.Sqrt.{sqrt as sqrtOf};
-ghost use Rattle.bit_patterns.specs.Answers.{selectivityBits, settings, answerOf, statusOf, meanLeft};
+ghost use Rattle.bit_patterns.specs.Answers.{selectivityBits, settings, estimateAnswer, statusOf, meanLeft};
 
 pub mod planning;
 pub mod rounds;
@@ -52,8 +52,8 @@ pub extern "C" fn rimdovek_estimate_draws(
     cv: u64,
     mean: &mut u64,
 ) -> u8
-    ensures status { λ r. ⌜ r ≡ statusOf (answerOf (settings k bootstrap cv) (now (draws .entry))) ⌝ }
-    ensures mean { λ r. ⌜ now (mean .exit) ≡ meanLeft (answerOf (settings k bootstrap cv) (now (draws .entry))) (now (mean .entry)) ⌝ }
+    ensures status { λ r. ⌜ r ≡ statusOf (estimateAnswer (settings k bootstrap cv) (now (draws .entry))) ⌝ }
+    ensures mean { λ r. ⌜ now (mean .exit) ≡ meanLeft (estimateAnswer (settings k bootstrap cv) (now (draws .entry))) (now (mean .entry)) ⌝ }
 {
     let a = bit_patterns::estimate(draws, k, bootstrap, cv);
     *mean = bit_patterns::mean_left(a, *mean);

@@ -1,6 +1,6 @@
 // The costs of a round for programs outside the prover.
 ghost use mathlib.Core.Path.{_≡_};
-ghost use Rattle.round_costs.specs.Costs.{answerOf, roundCosts};
+ghost use Rattle.round_costs.specs.Costs.{roundAnswer, roundCosts};
 ghost use Rattle.exports.specs.Rounds.{packedRound};
 use packing::choice;
 use packing::refusal;
@@ -9,7 +9,7 @@ use round_costs::rounds::round_costs;
 
 // The answer as one number.
 fn packed(r: RoundCosts) -> u64
-    ensures { λ n. ⌜ n ≡ packedRound (answerOf r) ⌝ }
+    ensures { λ n. ⌜ n ≡ packedRound (roundAnswer r) ⌝ }
 {
     match r {
         RoundCosts::Chosen(i) => choice(true, i),

@@ -13,7 +13,8 @@ use Rattle.model.specs.Atoms.{Operand, local, global, wild, localOf}
 use Rattle.model.specs.Bound.{Bound}
 use Rattle.model.specs.Lowering.{pvIsBound, pvMarkBound, markAll, readChild, emitReadChildren}
 use Rattle.model.specs.Premises.{numbersBelow}
-use Rattle.cost.specs.QueryAtoms.{operandAt, operandsFrom}
+use Rattle.cost.specs.QueryAtoms.{operandsFrom}
+use Rattle.records.specs.Lookups.{operandAt}
 use Rattle.plans.specs.StepFrames.{frameOf}
 use Rattle.plans.specs.PlanText.{textOf, textLength}
 use Rattle.binding.specs.ItemOperands.{itemOperands}

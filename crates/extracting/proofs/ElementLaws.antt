@@ -10,7 +10,8 @@ use Rattle.fields.specs.Fields.{width}
 use Rattle.kinds.specs.Kinds.{kindAt, fixedLength, itemsOf}
 use Rattle.frames.specs.Frames.{kindOf}
 use Rattle.model.specs.Limits.{lineEnd}
-use Rattle.cost.specs.QueryAtoms.{operandAt, atomOfFrame}
+use Rattle.cost.specs.QueryAtoms.{atomOfFrame}
+use Rattle.records.specs.Lookups.{operandAt}
 use Rattle.plans.specs.StepFrames.{tagOf, indexOf, frameOf}
 use Rattle.output.specs.Written.{Puts, PutsBytes, PutsFrames}
 use Rattle.output.proofs.PutLaws.{written-size, bytes-none, bytes-then, line-put}

@@ -7,7 +7,7 @@ ghost use lib.ListN.{length, getD};
 ghost use Rattle.model.specs.Atoms.{localOf};
 ghost use Rattle.model.specs.Lowering.{pvIsBound, pvMarkBound, markAll, readChild, emitReadChildren};
 ghost use Rattle.model.specs.Premises.{numbersBelow};
-ghost use Rattle.cost.specs.QueryAtoms.{operandAt};
+ghost use Rattle.records.specs.Lookups.{operandAt};
 ghost use Rattle.plans.specs.StepFrames.{frameOf};
 ghost use Rattle.binding.specs.ItemOperands.{itemOperands};
 ghost use Rattle.output.specs.Written.{PutsFrames};

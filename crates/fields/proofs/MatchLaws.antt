@@ -8,7 +8,7 @@ use lib.Dec.{T, eqb, eqb→eq}
 use lib.ListN.{getD}
 use borrow.Author.Tests.{ne-eqb}
 use Rattle.base.specs.Choose.{pick}
-use Rattle.base.specs.Table.{both-left, both-right}
+use Rattle.base.proofs.TableLaws.{both-left, both-right}
 
 -- k is none of ns, as the last arm is given it
 abbrev pub Others : Type 0 → List ℕ → ℕ → Type 0

@@ -12,7 +12,7 @@ use Rattle.fields.specs.declared.field.Field.the-variants.{Free, Most, V
 use Rattle.fields.specs.declared.field.Counts.{Counts}
 use Rattle.fields.specs.declared.field.Test.{Test}
 use Rattle.fields.specs.declared.field.Test.the-variants.{Limits, Range, Reals}
-use Rattle.field_values.specs.FieldValues.{endsFit, lookupFits, pathFits, realFits, restFits, siteFits}
+use Rattle.field_values.specs.FieldValues.{localTag, byOpTag, byReprTag, endsFit, lookupFits, pathFits, realFits, restFits, siteFits}
 
 -- "fields are one byte, big-endian if wider. .. An operand is tag (00 local, 01 global) and index." A free field takes any bytes; an element
 -- is an operand and its multiplicity.
@@ -58,10 +58,10 @@ fieldFits Lookup f i = lookupFits (getD f i 0) (getD f (i + 1) 0) (getD f (i + 2
 -- ---- test 5: "variable, global, literal or atom not below its count"
 
 abbrev pub operandIn : Counts → ℕ → ℕ → Bool
-operandIn n tag index = pick (eqb tag 0) (ltb index (n .variables)) (ltb index (n .globals))
+operandIn n tag index = pick (eqb tag localTag) (ltb index (n .variables)) (ltb index (n .globals))
 
 abbrev pub lookupIn : Counts → ℕ → ℕ → ℕ → Bool
-lookupIn n tag a b = pick (eqb tag 0) true (pick (eqb tag 2) (ltb a (n .variables)) (operandIn n a b))
+lookupIn n tag a b = pick (eqb tag byOpTag) true (pick (eqb tag byReprTag) (ltb a (n .variables)) (operandIn n a b))
 
 -- the field that begins at byte i of the frame f names nothing beyond the counts n
 unfoldable pub fieldIn : Counts → Field → List ℕ → ℕ → Bool

@@ -10,11 +10,12 @@ use lib.ListN.{length, getD, take, drop, drop-of-length-le, length-drop, length-
 use lib.Seq.{drop-cons, length-take-le, drop-at, take-add, take-nil}
 use lib.Dec.{eqb}
 use borrow.Author.Tests.{lt-ltb, le-ltb, eq-eqb, ne-eqb, eqb-true, eqb-false}
-use Rattle.base.specs.Choose.{pick, pick-elim}
+use Rattle.base.specs.Choose.{pick}
+use Rattle.base.proofs.ChooseLaws.{pick-elim}
 use Rattle.hex.specs.Digits.{bytesOf, shortAt}
 use Rattle.hex_lines.specs.Lines.{split, isHex, allDigits, hexLineIn, endOf}
 use Rattle.hex_lines.specs.Decoding.{Room, Decodes}
-use Rattle.hex_lines.specs.Cuts.{HexLine, hex-found, all-rest, end-is, cut}
+use Rattle.hex_lines.proofs.Cuts.{HexLine, hex-found, all-rest, end-is, cut}
 use Rattle.hex_lines.specs.declared.decode.Found.{Found}
 use Rattle.hex_lines.specs.declared.decode.Found.the-variants.{At, Nothing}
 use Rattle.frame_tests.specs.declared.tests.Text.{Text}
@@ -25,7 +26,8 @@ use Rattle.fields.specs.Limits.{textMost}
 use Rattle.frames.specs.Frames.{frameLength}
 use Rattle.frames.specs.Sheet.{frameAt, framesIn, laidOut, Whole}
 use Rattle.frame_tests.specs.Faults.{isCounted, counted, frameFault}
-use Rattle.first_reading.specs.First.{framesOf, lineFault, atEnd, orElse, or-stops, firstLines, firstFrom, firstLine, stepsSay, stepsRight, emptyText, firstReading, sheetSize, SheetRoom, Sheet, Lays, LinesLaid, FirstLaid}
+use Rattle.first_reading.specs.First.{framesOf, lineFault, atEnd, orElse, firstLines, firstFrom, firstLine, stepsSay, stepsRight, emptyText, firstReading, sheetSize, SheetRoom, Sheet, Lays, LinesLaid, FirstLaid}
+use Rattle.first_reading.proofs.ReadingLaws.{or-stops}
 use Rattle.frame_tests.proofs.FaultLaws.{fault-long}
 use Rattle.frames.proofs.SheetLaws.{no-frames, frame-before, frames-laid, laid-more, whole-more}
 

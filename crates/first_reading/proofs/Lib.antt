@@ -1,3 +1,4 @@
 pub mod FirstLaws
 pub mod StandLaws
 pub mod Lending
+pub mod ReadingLaws

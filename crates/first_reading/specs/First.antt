@@ -1,14 +1,13 @@
 -- "Each line is tested 1 to 4 in turn; after the last line comes a plan's step count": the first reading of a query, a plan or a table.
 use Prim.Native.Nat.{ℕ, zero, suc, _+_, _-_, _*_, _/_, _≤_}
-use mathlib.Core.Path.{_≡_, refl}
+use mathlib.Core.Path.{_≡_}
 use mathlib.Core.List.{List, [], _∷_, map}
 use mathlib.Core.Bool.{Bool}
-use native.Mathlib.Omega.{arith}
 use lib.ListN.{length, getD, take}
 use lib.Dec.{ltb, eqb}
 use Rattle.base.specs.Choose.{pick}
 use Rattle.hex.specs.Digits.{bytesOf, shortAt}
-use Rattle.hex_lines.specs.Lines.{split, isHex, endOf, lineAt}
+use Rattle.hex_lines.specs.Lines.{split, isHex, endOf}
 use Rattle.fields.specs.Limits.{textMost}
 use Rattle.frames.specs.Sheet.{frameAt, framesIn, Whole}
 use Rattle.frame_tests.specs.declared.tests.Text.{Text}
@@ -37,10 +36,6 @@ abbrev pub orElse : ℕ → ℕ → Reading → Reading
 orElse zero n a = a
 orElse (suc k) n a = Refused (suc k) (suc n)
 
-pub or-stops : (k n : ℕ) (a : Reading) → (k ≡ 0 → ⊥) → orElse k n a ≡ Refused k (suc n)
-or-stops zero n a h = absurd (h refl)
-or-stops (suc k) n a h = refl
-
 unfoldable pub firstLines : Text → ℕ → ℕ → List (List ℕ) → List ℕ → Reading
 unfolding lineFault
 firstLines t n c [] r = atEnd n c r
@@ -55,9 +50,6 @@ firstFrom t n c x = firstLines t n c (split x .ended) (split x .rest)
 -- a text's first line, and the steps that it gives as a plan's header, at its bytes 4 and 5: they are the lines after it
 abbrev pub firstLine : List ℕ → List ℕ
 firstLine x = take (endOf 0 x) x
-
-pub first-line : (x : List ℕ) → lineAt x 0 ≡ firstLine x
-first-line x = let e : endOf 0 x - 0 ≡ endOf 0 x = omega arith in rw e
 
 abbrev pub stepsSay : List ℕ → ℕ
 stepsSay x = shortAt (bytesOf (firstLine x)) 4

@@ -15,23 +15,23 @@ use Rattle.first_reading.specs.declared.first.Reading.the-variants.{Accepted}
 use Rattle.second_reading.specs.Second.{countsIn, reading}
 use Rattle.model.specs.Atoms.{Step}
 use Rattle.model.specs.Bound.{blank}
-use Rattle.model.specs.Lists.{getD-mem}
-use Rattle.model.specs.Tabulate.{tabulate-mem}
+use Rattle.model.proofs.ListsLaws.{getD-mem}
+use Rattle.model.proofs.TabulateLaws.{tabulate-mem}
 use Rattle.model.specs.Scheduling.{State, atomOf, numbers}
 use Rattle.cost.specs.Choice.{planned, remembered}
 use Rattle.plans.specs.StepFrames.{frameOf, headerOf}
-use Rattle.plans.specs.PlanText.{textOf, textLength, planText}
-use Rattle.plans.specs.PlanRead.{plan-length}
-use Rattle.plans.specs.Longest.{planMost}
-use Rattle.passes.specs.Eager.{Located, atomsOf}
+use Rattle.plans.specs.PlanText.{textOf, textLength, planText, planMost}
+use Rattle.plans.proofs.PlanRead.{plan-length}
+use Rattle.passes.specs.Eager.{Located, sheetAtoms}
 use Rattle.placing.specs.Places.{Places}
 use Rattle.scheduling.specs.Rounds.{Scheduling}
 use Rattle.scheduling.specs.declared.schedule.Scheduled.{Scheduled}
-use Rattle.writing.specs.Steps.{stepsAlong, countAlong, lowered-steps, lowered-count, Ordered}
+use Rattle.writing.specs.Steps.{stepsAlong, countAlong, Ordered}
+use Rattle.writing.proofs.CountLaws.{lowered-steps, lowered-count}
 use Rattle.output.specs.Written.{written, PutsFrames}
 use Rattle.fitting.specs.Planner.{Plan, stepsOf, planOf, fitted}
 use Rattle.fitting.specs.Promised.{read-back}
-use Rattle.fitting.specs.Entry.{planOn, resultOf}
+use Rattle.fitting.specs.Entry.{planOn, plannedResult}
 use Rattle.ordering.specs.Accepts.{Accepts}
 use Rattle.ordering.proofs.OrderLaws.{sheet-items, sheet-keys, places-located}
 use Rattle.fitting.specs.declared.fit.Planned.the-variants.{Written as Wrote, Refused as Refuses}
@@ -54,22 +54,22 @@ module _ (x from : List ℕ) (n : ℕ) (s : Scheduled) (a : Accepts x) (y : Plac
   z = places-located x from n a y
 
   abbrev steps-on : List Step
-  steps-on = planned (framesIn x) (atomsOf x) .steps
+  steps-on = planned (framesIn x) (sheetAtoms x) .steps
 
   steps-are : steps-on ≡ h .steps
   steps-are = ap (λ (st : State). st .steps) (h .is)
 
-  along : stepsAlong (atomOf (atomsOf x)) blank (take (s .count) (s .order)) ≡ steps-on
+  along : stepsAlong (atomOf (sheetAtoms x)) blank (take (s .count) (s .order)) ≡ steps-on
   along = lowered-steps (h .lowered) ∙ sym steps-are
 
-  counted : countAlong (atomOf (atomsOf x)) (take (s .count) (s .order)) ≡ length steps-on
+  counted : countAlong (atomOf (sheetAtoms x)) (take (s .count) (s .order)) ≡ length steps-on
   counted = lowered-count (h .lowered) ∙ ap length (sym steps-are)
 
   abbrev text : List ℕ
-  text = planText (countsIn Query x 0 .variables) (countsIn Query x 0 .globals) (countsIn Query x 0 .literals) (remembered (framesIn x) (atomsOf x) .tally .tallied) (remembered (framesIn x) (atomsOf x) .tally .rejected) steps-on
+  text = planText (countsIn Query x 0 .variables) (countsIn Query x 0 .globals) (countsIn Query x 0 .literals) (remembered (framesIn x) (sheetAtoms x) .tally .tallied) (remembered (framesIn x) (sheetAtoms x) .tally .rejected) steps-on
 
-  text-size : length text ≡ 21 + textLength (map frameOf (stepsAlong (atomOf (atomsOf x)) blank (take (s .count) (s .order))))
-  text-size = rw along (plan-length (countsIn Query x 0 .variables) (countsIn Query x 0 .globals) (countsIn Query x 0 .literals) (remembered (framesIn x) (atomsOf x) .tally .tallied) (remembered (framesIn x) (atomsOf x) .tally .rejected) steps-on)
+  text-size : length text ≡ 21 + textLength (map frameOf (stepsAlong (atomOf (sheetAtoms x)) blank (take (s .count) (s .order))))
+  text-size = rw along (plan-length (countsIn Query x 0 .variables) (countsIn Query x 0 .globals) (countsIn Query x 0 .literals) (remembered (framesIn x) (sheetAtoms x) .tally .tallied) (remembered (framesIn x) (sheetAtoms x) .tally .rejected) steps-on)
 
   -- the order is one of atoms, each of which can be emitted
   pub in-order : Ordered x from n (s .order) (s .count)
@@ -79,7 +79,7 @@ module _ (x from : List ℕ) (n : ℕ) (s : Scheduled) (a : Accepts x) (y : Plac
       record {
         within = w;
         few = h .few;
-        below = λ c k. let i = tabulate-mem (length (atomsOf x)) (λ (j : ℕ). j) (getD O c 0) (subst (λ (j : ℕ). List·Memᴰ j (numbers (atomsOf x))) (getD-take (s .count) O c 0 k) (h .known (getD (take (s .count) (s .order)) c 0) (getD-mem (take (s .count) (s .order)) c 0 (rw taken k)))) in omega (arith, i .below, i .is, z .count);
+        below = λ c k. let i = tabulate-mem (length (sheetAtoms x)) (λ (j : ℕ). j) (getD O c 0) (subst (λ (j : ℕ). List·Memᴰ j (numbers (sheetAtoms x))) (getD-take (s .count) O c 0 k) (h .known (getD (take (s .count) (s .order)) c 0) (getD-mem (take (s .count) (s .order)) c 0 (rw taken k)))) in omega (arith, i .below, i .is, z .count);
         line = λ k l. record { atom = z .line k l; few = rw (y .is k l) (let i = sheet-items x a k (omega (arith, y .count)) in omega arith) };
       }
 
@@ -95,20 +95,20 @@ module _ (x from : List ℕ) (n : ℕ) (s : Scheduled) (a : Accepts x) (y : Plac
   pub fits-always : (room : ℕ) → planMost ≤ room → true ≡ leb (length (planOn x .text)) room
   fits-always room l = subst (λ (p : Plan). true ≡ leb (length (p .text)) room) (sym (plan-on (a .text) x (a .sheet))) (fits-text (a .text) (a .lines) (a .atoms) (a .is) room l)
 
-  pub fits-measured : (room r : ℕ) → r ≡ 21 + textLength (map frameOf (stepsAlong (atomOf (atomsOf x)) blank (take (s .count) (s .order)))) → leb r room ≡ leb (length (planOn x .text)) room
+  pub fits-measured : (room r : ℕ) → r ≡ 21 + textLength (map frameOf (stepsAlong (atomOf (sheetAtoms x)) blank (take (s .count) (s .order)))) → leb r room ≡ leb (length (planOn x .text)) room
   fits-measured room r e = rw (text-is, text-size, e)
 
-  pub not-fitting : (t : Bool) (o : List ℕ) → t ≡ leb (length (planOn x .text)) (length o) → not t ≡ true → resultOf (Refuses 8 0) o ≡ fitted (planOn x) o
+  pub not-fitting : (t : Bool) (o : List ℕ) → t ≡ leb (length (planOn x .text)) (length o) → not t ≡ true → plannedResult (Refuses 8 0) o ≡ fitted (planOn x) o
   not-fitting t o e l =
       let k : length o < length text = leb-false (length text) (length o) (sym e ∙ not-true t l) in
       rw (lt-ltb (length o) (length text) k)
 
-  module _ (o p : List ℕ) (steps r : ℕ) (c : steps ≡ countAlong (atomOf (atomsOf x)) (take (s .count) (s .order))) (w : PutsFrames o 0 (headerOf (countsIn Query x 0 .variables) (countsIn Query x 0 .globals) (countsIn Query x 0 .literals) steps (s .tallied) (s .rejected) ∷ map frameOf (stepsAlong (atomOf (atomsOf x)) blank (take (s .count) (s .order)))) p r) where
-    is-text : textOf (headerOf (countsIn Query x 0 .variables) (countsIn Query x 0 .globals) (countsIn Query x 0 .literals) steps (s .tallied) (s .rejected) ∷ map frameOf (stepsAlong (atomOf (atomsOf x)) blank (take (s .count) (s .order)))) ≡ text
+  module _ (o p : List ℕ) (steps r : ℕ) (c : steps ≡ countAlong (atomOf (sheetAtoms x)) (take (s .count) (s .order))) (w : PutsFrames o 0 (headerOf (countsIn Query x 0 .variables) (countsIn Query x 0 .globals) (countsIn Query x 0 .literals) steps (s .tallied) (s .rejected) ∷ map frameOf (stepsAlong (atomOf (sheetAtoms x)) blank (take (s .count) (s .order)))) p r) where
+    is-text : textOf (headerOf (countsIn Query x 0 .variables) (countsIn Query x 0 .globals) (countsIn Query x 0 .literals) steps (s .tallied) (s .rejected) ∷ map frameOf (stepsAlong (atomOf (sheetAtoms x)) blank (take (s .count) (s .order)))) ≡ text
     unfolding planText
     is-text = rw (along, c ∙ counted, ← h .tallied, ← h .rejected)
 
-    pub fitting : (t : Bool) → t ≡ leb (length (planOn x .text)) (length o) → not t ≡ false → resultOf (Wrote r steps (s .tallied) (s .rejected)) p ≡ fitted (planOn x) o
+    pub fitting : (t : Bool) → t ≡ leb (length (planOn x .text)) (length o) → not t ≡ false → plannedResult (Wrote r steps (s .tallied) (s .rejected)) p ≡ fitted (planOn x) o
     unfolding written textLength
     fitting t g k =
         let l : length text ≤ length o = leb-true (length text) (length o) (sym g ∙ not-false t k) in

@@ -9,14 +9,15 @@ use Rattle.fitting.specs.declared.fit.Planned.{Planned}
 use Rattle.fitting.specs.declared.fit.Planned.the-variants.{Written as Wrote, Refused}
 
 -- bytes written, steps, tallied, rejected; or number and line
-abbrev pub answerOf : Planned → Answer
-answerOf (Wrote b s t r) = writes b s t r
-answerOf (Refused k l) = refusal k l
+abbrev pub plannedAnswer : Planned → Answer
+plannedAnswer (Wrote b s t r) = writes b s t r
+plannedAnswer (Refused k l) = refusal k l
 
 -- the answer r with the output o is what the definition gives
-abbrev pub resultOf : Planned → List ℕ → Result
-resultOf r o = record { answer = answerOf r; output = o }
+abbrev pub plannedResult : Planned → List ℕ → Result
+plannedResult r o = record { answer = plannedAnswer r; output = o }
 
 -- the plan of a sheet's frames
 abbrev pub planOn : List ℕ → Plan
-planOn s = planBy (frameAt s 0) (planned (framesIn s) (atomsIn (framesIn s)) .steps) (remembered (framesIn s) (atomsIn (framesIn s)) .tally .tallied) (remembered (framesIn s) (atomsIn (framesIn s)) .tally .rejected)
+planOn s =
+    planBy (frameAt s 0) (planned (framesIn s) (atomsIn (framesIn s)) .steps) (remembered (framesIn s) (atomsIn (framesIn s)) .tally .tallied) (remembered (framesIn s) (atomsIn (framesIn s)) .tally .rejected)

@@ -9,17 +9,20 @@ use Rattle.frame_tests.specs.declared.tests.Text.the-variants.{Query}
 use Rattle.first_reading.specs.declared.first.Reading.the-variants.{Accepted}
 use Rattle.second_reading.specs.Second.{reading}
 use Rattle.model.specs.Reading.{boundFirst}
-use Rattle.model.specs.Guarantee.{schedule-bound-first}
+use Rattle.model.proofs.Guarantee.{schedule-bound-first}
 use Rattle.cost.specs.QueryAtoms.{atomsIn}
-use Rattle.cost.specs.Choice.{fresh, choose, choose-fair, planned}
-use Rattle.plan_facts.specs.QueryPlans.{ReadBack, plan-read-back}
+use Rattle.cost.specs.Choice.{fresh, choose, planned}
+use Rattle.cost.proofs.ChoiceLaws.{choose-fair}
+use Rattle.plan_facts.specs.QueryPlans.{ReadBack}
+use Rattle.plan_facts.proofs.QueryPlansLaws.{plan-read-back}
 use Rattle.fitting.specs.Planner.{stepsOf, talliedOf, rejectedOf}
-use Rattle.ordering.specs.Accepted.{few-keys}
+use Rattle.ordering.proofs.Accepted.{few-keys}
 
 -- "no step of a plan reads a variable that no earlier step has bound", all 14 kinds
 pub bound-before-read : (x : List ℕ) → boundFirst [] [] (stepsOf x) ≡ true
 unfolding stepsOf planned
-bound-before-read x = schedule-bound-first (atomsIn (framesOf x)) (choose (framesOf x) (atomsIn (framesOf x))) fresh (choose-fair (framesOf x) (atomsIn (framesOf x))) [] [] (λ v. refl)
+bound-before-read x =
+    schedule-bound-first (atomsIn (framesOf x)) (choose (framesOf x) (atomsIn (framesOf x))) fresh (choose-fair (framesOf x) (atomsIn (framesOf x))) [] [] (λ v. refl)
 
 -- the plan as written is accepted, read back to the same steps, and at most 20,565 bytes long
 pub read-back : (x : List ℕ) (n c : ℕ) → reading Query x ≡ Accepted n c → ReadBack x (talliedOf x) (rejectedOf x) (stepsOf x)

@@ -6,7 +6,7 @@ ghost use Rattle.placing.specs.Places.{Places};
 ghost use Rattle.scheduling.specs.Rounds.{Scheduling};
 ghost use Rattle.fitting.specs.Planner.{fitted};
 ghost use Rattle.ordering.specs.Accepts.{Accepts};
-ghost use Rattle.fitting.specs.Entry.{planOn, resultOf};
+ghost use Rattle.fitting.specs.Entry.{planOn, plannedResult};
 use plan_text::text::plan_size;
 use plan_text::text::write_plan;
 use scheduling::schedule::Scheduled;
@@ -41,7 +41,7 @@ pub fn plan_in_order(sheet: &[u8], from: &[u16], n: usize, s: Scheduled, out: &m
     requires { ⌜ Accepts (now sheet) ⌝ }
     requires { ⌜ Places (now sheet) (now from) n ⌝ }
     requires { ⌜ Scheduling (now sheet) s ⌝ }
-    ensures { λ r. ⌜ resultOf r (now (out .exit)) ≡ fitted (planOn (now (sheet .entry))) (now (out .entry)) ⌝ }
+    ensures { λ r. ⌜ plannedResult r (now (out .exit)) ≡ fitted (planOn (now (sheet .entry))) (now (out .entry)) ⌝ }
 {
     if !fits(sheet, from, n, s, out.len()) {
         return Planned::Refused(8, 0);

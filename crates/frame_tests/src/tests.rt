@@ -66,7 +66,8 @@ fn is_atom(kind: u8) -> bool
     if 1 <= kind { kind <= 0x0e } else { false }
 }
 
-fn is_row(kind: u8) -> bool
+// Whether a kind is that of a row: 30 or 31.
+pub fn is_row(kind: u8) -> bool
     ensures { λ r. ⌜ r ≡ isRow kind ⌝ }
 {
     if kind == 0x30 { true } else { kind == 0x31 }

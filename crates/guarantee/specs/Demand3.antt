@@ -1,8 +1,8 @@
--- Demand 3, over the entries' definitions: `plan` and `run` from text to text. Proved in Found and Unrefused.
+-- Demand 3, over the entries' definitions: `plan` and `run` from text to text. Proved in Found and Unrefused of `fair_plans`.
 --
--- The words: `FairPlan x p` says that the text p is a plan of x by document 01's rules, whatever the costs and samples, `Runs x` that the query has neither predicates nor collections and no Eq that is never lowered, `planFor x` is the plan's
--- text, `InShapes` that each operator has the shape that the query uses, `Enough` what allowance and output must give, `Finds` that the
--- lines written are exactly those of the query's matches, each once.
+-- The words: `FairPlan x p` says that the text p is a plan of x by document 01's rules, whatever the costs and samples, `Runs x` that the query has
+-- neither predicates nor collections and no Eq that is never lowered, `planFor x` is the plan's text, `InShapes` that each operator has the shape that
+-- the query uses, `Enough` what allowance and output must give, `Finds` that the lines written are exactly those of the query's matches, each once.
 use Prim.Native.Nat.{ℕ, _≤_}
 use mathlib.Core.Path.{_≡_}
 use mathlib.Core.Logic.{_⊎_}
@@ -17,27 +17,29 @@ use Rattle.first_reading.specs.declared.first.Reading.the-variants.{Accepted}
 use Rattle.second_reading.specs.Second.{reading}
 use Rattle.model.specs.Atoms.{Atom, isRun}
 use Rattle.model.specs.Matching.{InShapes}
-use Rattle.model.specs.Alike.{alike, exact-same}
+use Rattle.model.proofs.Alike.{alike, exact-same}
 use Rattle.plan_facts.specs.QueryPlans.{atomsOf}
 use Rattle.fitting.specs.Planner.{plan}
 use Rattle.running.specs.Tables.{tableOf}
 use Rattle.running.specs.Validation.{Passed, Invalid, validation}
 use Rattle.running.specs.Run.{Result, run}
-use Rattle.guarantee.specs.Terms.{planFor, FairPlan, lineOf, EqualitiesLowered, Runs, GlobalsGiven, tableTests, Enough, Finds, Alike}
-use Rattle.guarantee.specs.PlanBack.{planner-fair}
+use Rattle.fair_plans.specs.Terms.{planFor, FairPlan, lineOf, EqualitiesLowered, Runs, GlobalsGiven, tableTests, Enough, Finds, Alike}
+use Rattle.fair_plans.proofs.PlanBack.{planner-fair}
 use Rattle.guarantee.specs.Equalities.{equalities-lowered}
-use Rattle.guarantee.specs.Unrefused.{only-the-table, plan-refusal}
-use Rattle.guarantee.specs.Found.{finds}
+use Rattle.fair_plans.proofs.Unrefused.{only-the-table, plan-refusal}
+use Rattle.fair_plans.proofs.Found.{finds}
 
 -- The text that the planner writes for an accepted query, where there is room for it, is the plan that is spoken of below.
-pub writes-plan : (x o : List ℕ) (n c : ℕ) → reading Query x ≡ Accepted n c → length (planFor x) ≤ length o → plan x o .output ≡ planFor x ++ drop (length (planFor x)) o
+pub writes-plan : (x o : List ℕ) (n c : ℕ) → reading Query x ≡ Accepted n c → length (planFor x) ≤ length o
+    → plan x o .output ≡ planFor x ++ drop (length (planFor x)) o
 unfolding plan
 writes-plan x o n c ok h = rw (ok, le-ltb (length o) (length (planFor x)) h)
 
 -- Every accepted query x that runs, every plan text p of it by a fair choice, every table text t in shape on which the run of the plan is not refused,
 -- whatever allowance and output that are enough: the run is done and writes the matches. That the run is not refused depends on neither: `not-refused`
 -- of Refusals.
-pub fair-demand3 : (x p t : List ℕ) (n c : ℕ) → reading Query x ≡ Accepted n c → FairPlan x p → Runs x → validation p t ≡ Passed → InShapes (tableOf t) (atomsOf x)
+pub fair-demand3 : (x p t : List ℕ) (n c : ℕ) → reading Query x ≡ Accepted n c → FairPlan x p → Runs x → validation p t ≡ Passed
+    → InShapes (tableOf t) (atomsOf x)
     → (A : ℕ) (o : List ℕ) → Enough p t A o → Finds x p t o (run p t A o)
 fair-demand3 = finds
 
@@ -52,18 +54,21 @@ lowered-runs = equalities-lowered
 
 -- The plan is the cause of no refusal: over a table in shape, with a class for every global that an atom names, the run is refused as the
 -- table alone is.
-pub no-refusal : (x t : List ℕ) (n c : ℕ) → reading Query x ≡ Accepted n c → Runs x → InShapes (tableOf t) (atomsOf x) → GlobalsGiven x t → validation (planFor x) t ≡ tableTests t
+pub no-refusal : (x t : List ℕ) (n c : ℕ) → reading Query x ≡ Accepted n c → Runs x → InShapes (tableOf t) (atomsOf x) → GlobalsGiven x t
+    → validation (planFor x) t ≡ tableTests t
 no-refusal x t n c ok q = only-the-table x (planFor x) t n c ok (planner-fair x n c ok) (q .kinds)
 
 -- Over any table at all its lines are refused for 11 or for a missing global alone: it is accepted as a text, and none is 9 or 10.
 -- (That no step of a plan, of any of the 14 kinds, reads a variable that no earlier step has bound is `bound-before-read` of the planner's
 -- Promised.)
-pub no-nine-no-ten : (x t : List ℕ) (n c : ℕ) → reading Query x ≡ Accepted n c → Runs x → (k l : ℕ) → validation (planFor x) t ≡ Invalid k planText l → (k ≡ 11) ⊎ (k ≡ 5)
+pub no-nine-no-ten : (x t : List ℕ) (n c : ℕ) → reading Query x ≡ Accepted n c → Runs x → (k l : ℕ) → validation (planFor x) t ≡ Invalid k planText l
+    → (k ≡ 11) ⊎ (k ≡ 5)
 no-nine-no-ten x t n c ok q = plan-refusal x (planFor x) t n c ok (planner-fair x n c ok) (q .kinds)
 
 -- The plans of two queries alike in header and atoms, by whatever fair choices, find the same lines, as often. (So are two texts that differ in the
 -- order of lines and in costs, fan-outs and samples: `alike-lines` of AlikeLines.)
-pub same-lines : (x y p r t : List ℕ) → Alike x y → (o : List ℕ) (a : Result) (f : Finds x p t o a) (u : List ℕ) (b : Result) (g : Finds y r t u b) → Perm (f .lines) (g .lines)
+pub same-lines : (x y p r t : List ℕ) → Alike x y → (o : List ℕ) (a : Result) (f : Finds x p t o a) (u : List ℕ) (b : Result) (g : Finds y r t u b)
+    → Perm (f .lines) (g .lines)
 same-lines x y p r t s o a f u b g =
     let e = exact-same (tableOf t) (lineOf x) (atomsOf x) (atomsOf y) (s .atoms) (f .lines) (f .matches-are) in
     alike (tableOf t) none (lineOf y) (atomsOf y) (f .lines) (g .lines) (rw (s .variables, s .literals) at e) (g .matches-are)

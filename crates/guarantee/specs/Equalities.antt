@@ -5,14 +5,14 @@ use mathlib.Core.Path.{_≡_, sym, _∙_, ap, subst}
 use mathlib.Core.Bool.{true, false}
 use mathlib.Core.List.{List, [], List·Memᴰ, List·Memᴰ·not-nil}
 use lib.Dec.{T}
-use Rattle.model.specs.Bools.{true-false}
+use Rattle.model.proofs.Bools.{true-false}
 use Rattle.model.specs.Atoms.{Atom, Plain, Lit, LitBind, Eq, EqGlobal, Pred, Variadic, depsOf, isRun}
 use Rattle.model.specs.Scheduling.{atomOf}
-use Rattle.model.specs.Scheduled.{mem-at}
+use Rattle.model.proofs.Scheduled.{mem-at}
 use Rattle.model.specs.Waiting.{isEq, Unbound, unboundEq, DepsBelow}
-use Rattle.model.specs.Unlowered.{never-lowered}
+use Rattle.model.proofs.Unlowered.{never-lowered}
 use Rattle.plan_facts.specs.QueryPlans.{atomsOf}
-use Rattle.guarantee.specs.Terms.{EqualitiesLowered, Runs}
+use Rattle.fair_plans.specs.Terms.{EqualitiesLowered, Runs}
 
 no-deps : (a : Atom) → isRun a ≡ true → (d : ℕ) → List·Memᴰ d (depsOf a) → ⊥
 no-deps (Plain n o cs) r d m = List·Memᴰ·not-nil m

@@ -1,15 +1,8 @@
--- The words of demand 3, and the theorem
-pub mod Terms
+-- Demand 3, over the words of `fair_plans`
 pub mod Demand3
--- Its parts
-pub mod PlanBack
 pub mod Equalities
-pub mod Globals
-pub mod Unrefused
-pub mod Below
-pub mod Found
 pub mod SecondEntry
-pub mod AlikeLines
+-- Its premises met, and each of them needed; the marked examples
 pub mod Worked
-pub mod Marked
 pub mod Needed
+pub mod Marked

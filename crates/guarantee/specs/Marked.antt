@@ -6,7 +6,7 @@ use Rattle.planner.specs.Marked as plans
 use Rattle.running.specs.Run as runs
 use Rattle.running.specs.Examples as examples
 
-pub marked : (map plans.answered plans.table ≡ map (λ (r : plans.Row). record { answer = r .says; output = r .leaves }) plans.table)
+pub marked : (map plans.answered plans.table ≡ map (λ (r : plans.PlanCase). record { answer = r .says; output = r .leaves }) plans.table)
     × ((map (λ (m : plans.Mark). m .bits) plans.numbers ≡ map (λ (m : plans.Mark). m .is) plans.numbers)
-    × (map examples.answered examples.table ≡ map (λ (r : examples.Row). record { outcome = r .says; output = r .leaves }) examples.table))
+    × (map examples.answered examples.table ≡ map (λ (r : examples.RunCase). record { outcome = r .says; output = r .leaves }) examples.table))
 marked = (plans.right .0, (plans.right .1, examples.right))

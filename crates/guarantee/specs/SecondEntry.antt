@@ -12,14 +12,14 @@ use Rattle.second_reading.specs.Second.{reading}
 use Rattle.model.specs.Running.{Env, Event, trace, attempts}
 use Rattle.model.specs.Matching.{InShapes, Line, line, IsMatch}
 use Rattle.model.specs.Limits.{Answer, SomeMatch, NoMatch, OutOfTries, Answers}
-use Rattle.model.specs.Answered.{none-to, none-back, some-is}
+use Rattle.model.proofs.Answered.{none-to, none-back, some-is}
 use Rattle.plan_facts.specs.QueryPlans.{atomsOf}
 use Rattle.running.specs.Tables.{tableOf}
 use Rattle.running.specs.Validation.{Passed, validation}
 use Rattle.running.specs.Run.{unbound, events, matchLine, Match, None, replied, Replies, rejects, answers}
-use Rattle.guarantee.specs.Terms.{FairPlan, fairSteps, lineOf, Runs}
-use Rattle.guarantee.specs.PlanBack.{plan-steps, plan-counts}
-use Rattle.guarantee.specs.Found.{events-are, lines-exact}
+use Rattle.fair_plans.specs.Terms.{FairPlan, fairSteps, lineOf, Runs}
+use Rattle.fair_plans.proofs.PlanBack.{plan-steps, plan-counts}
+use Rattle.fair_plans.proofs.Found.{events-are, lines-exact}
 
 -- the line y is a match of the query x over the table t
 abbrev pub MatchOf : List ℕ → List ℕ → Line → Type 0
@@ -46,7 +46,8 @@ module _ (x p t : List ℕ) (n c : ℕ) (ok : reading Query x ≡ Accepted n c) 
           record { none-holds = r .none-holds; ended = rw es (r .ended) }
 
   pub none-said : NoneExists x p t A → Replies p t A None
-  none-said h = answers NoMatch passed (subst (λ (k : List Event). Answers A k NoMatch) (sym es) (none-back (tableOf t) none (lineOf x) (atomsOf x) (fairSteps f) unbound (lines-exact x p t n c ok f q passed sh) A (record { none-holds = h .none-holds; ended = rw es at (h .ended) }))) refl
+  none-said h =
+      answers NoMatch passed (subst (λ (k : List Event). Answers A k NoMatch) (sym es) (none-back (tableOf t) none (lineOf x) (atomsOf x) (fairSteps f) unbound (lines-exact x p t n c ok f q passed sh) A (record { none-holds = h .none-holds; ended = rw es at (h .ended) }))) refl
 
   pub match-is : (y : Line) → Replies p t A (Match y) → MatchOf x t y
   match-is y (rejects k u l h e) = let z : _≡_ {A = ℕ} 0 1 = cc in absurd (omega arith)

@@ -15,11 +15,11 @@ use Rattle.base.specs.Choose.{pick}
 use Rattle.hex_lines.specs.declared.decode.Found.{Found}
 use Rattle.hex_lines.specs.declared.decode.Found.the-variants.{At, Nothing}
 use Rattle.hex.specs.Digits.{digitValue, bytesOf}
-use Rattle.hex.specs.Bytes.{bytes-length, bytes-take, byte-is}
-use Rattle.hex_lines.specs.Lines.{hexLineOf}
-use Rattle.hex_lines.specs.Scan.{scan, stoppedAt}
+use Rattle.hex.proofs.Bytes.{bytes-length, bytes-take, byte-is}
+use Rattle.hex_lines.specs.Lines.{hexLineOf, stoppedAt}
+use Rattle.hex_lines.proofs.Scan.{scan}
 use Rattle.hex_lines.specs.Decoding.{Room, Decodes, Passes}
-use Rattle.hex_lines.specs.Cuts.{hex-found}
+use Rattle.hex_lines.proofs.Cuts.{hex-found}
 use Rattle.hex_lines.proofs.ScanLaws.{scan-starts, scan-again, scan-stops, scan-ends}
 
 -- the digits from `at` up to i are laid behind the sheet's first `to`, up to j

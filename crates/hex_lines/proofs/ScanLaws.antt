@@ -13,8 +13,8 @@ use Rattle.base.specs.Choose.{pick}
 use Rattle.hex_lines.specs.declared.decode.Found.{Found}
 use Rattle.hex_lines.specs.declared.decode.Found.the-variants.{Nothing}
 use Rattle.hex.specs.Digits.{digitValue}
-use Rattle.hex_lines.specs.Lines.{hexLineOf, endOf, lineAt}
-use Rattle.hex_lines.specs.Scan.{scan, scan-line, stoppedAt}
+use Rattle.hex_lines.specs.Lines.{hexLineOf, endOf, lineAt, stoppedAt}
+use Rattle.hex_lines.proofs.Scan.{scan, scan-line}
 
 module _ (t : List ℕ) (at i : ℕ) where
   -- the pass over a line's digits: it starts, goes on, meets another byte, meets the end

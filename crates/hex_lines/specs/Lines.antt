@@ -57,3 +57,7 @@ endOf at (b ∷ t) = pick (eqb b 10) at (endOf (suc at) t)
 -- the line of the text x that begins at i
 abbrev pub lineAt : List ℕ → ℕ → List ℕ
 lineAt x i = take (endOf i (drop i x) - i) (drop i x)
+
+-- the digits from `at` up to i are a whole line where 0a follows, and there are some, and their number is even
+abbrev pub stoppedAt : ℕ → ℕ → ℕ → Found
+stoppedAt at i b = pick (eqb b 10) (pick (eqb (i - at) 0) Nothing (pick (eqb ((i - at) % 2) 0) (At i) Nothing)) Nothing

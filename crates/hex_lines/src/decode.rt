@@ -1,7 +1,7 @@
 // A line of digits, laid as bytes on a sheet.
 ghost use mathlib.Core.Path.{_≡_};
 ghost use Prim.Native.Nat.{_+_, _*_, _-_, _%_, _<_, _≤_};
-ghost use Rattle.hex_lines.specs.Scan.{stoppedAt};
+ghost use Rattle.hex_lines.specs.Lines.{stoppedAt};
 ghost use Rattle.hex_lines.specs.Decoding.{Room, Decodes};
 use hex::digit_value;
 

@@ -10,8 +10,10 @@ use lib.ListN.{length, getD, take, drop, drop-of-length-le}
 use lib.Seq.{drop-cons, getD-take, length-take-le, take-all, take-length, take-nil, take-take}
 use lib.Dec.{T, eqb, leb, ltb, leb→le}
 use borrow.Author.Tests.{lt-ltb, le-ltb, eq-eqb, ne-eqb, le-leb, lt-leb, eqb-true, leb-true, leb-false, ltb-false}
-use Rattle.base.specs.Choose.{pick, pick-elim}
-use Rattle.base.specs.Table.{all, both-left, both-right}
+use Rattle.base.specs.Choose.{pick}
+use Rattle.base.proofs.ChooseLaws.{pick-elim}
+use Rattle.base.specs.Table.{all}
+use Rattle.base.proofs.TableLaws.{both-left, both-right}
 use Rattle.kinds.specs.Kinds.{Kind, kinds, kindAt, fixedLength}
 use Rattle.frames.specs.Frames.{kindOf, frameLength}
 use Rattle.kinds.proofs.KindLaws.{held}

@@ -14,7 +14,7 @@ use Rattle.query.specs.Statistics.{denominator}
 use Rattle.query.specs.declared.statistics.Sampled.{Sampled}
 use Rattle.cost.specs.Emitters.{Emitters}
 use Rattle.cost.specs.Memo.{tallyAt}
-use Rattle.cost.specs.QueryAtoms.{operandAt}
+use Rattle.records.specs.Lookups.{operandAt}
 use Rattle.cost.specs.Costs.{sampled, orMeasured}
 use Rattle.item_pricing.specs.ItemCosts.{itemProbe, itemCost, costBehind, Stands, costAt}
 use Rattle.prices.specs.Items.{itemFan, orFan}

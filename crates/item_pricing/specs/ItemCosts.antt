@@ -14,7 +14,7 @@ use Rattle.model.specs.Bound.{Bound}
 use Rattle.model.specs.Lowering.{pvIsBound}
 use Rattle.cost.specs.Emitters.{Emitters}
 use Rattle.cost.specs.Memo.{tallyAt}
-use Rattle.cost.specs.QueryAtoms.{operandAt}
+use Rattle.records.specs.Lookups.{operandAt}
 use Rattle.cost.specs.Costs.{Costed as Cost, sampled, orMeasured, times}
 use Rattle.binding.specs.ItemOperands.{itemOperands}
 use Rattle.samples.specs.declared.sampled.Probe.{Probe}

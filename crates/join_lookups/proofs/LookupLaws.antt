@@ -15,11 +15,12 @@ use Rattle.kinds.specs.Kinds.{kinds, kindAt, fixedLength, itemsOf}
 use Rattle.frames.specs.Frames.{kindOf}
 use Rattle.model.specs.Atoms.{Operand, Lookup}
 use Rattle.model.specs.Bound.{Bound}
-use Rattle.model.specs.Lists.{one}
+use Rattle.set_model.specs.Lists.{one}
 use Rattle.model.specs.Lowering.{pvIsBound, childLookups, containsLookups}
-use Rattle.cost.specs.QueryAtoms.{operandAt, operandsFrom}
+use Rattle.cost.specs.QueryAtoms.{operandsFrom}
+use Rattle.records.specs.Lookups.{operandAt}
 use Rattle.plans.specs.StepFrames.{lookupBytes}
-use Rattle.plans.specs.StepsRead.{lookup-wide}
+use Rattle.plans.proofs.StepsRead.{lookup-wide}
 use Rattle.binding.proofs.OperandLaws.{operands-more}
 use Rattle.output.specs.Written.{PutsBytes}
 use Rattle.output.proofs.PutLaws.{written-size, bytes-none, bytes-then}

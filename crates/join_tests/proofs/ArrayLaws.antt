@@ -7,7 +7,7 @@ use lib.Dec.{eqb, leb}
 use lib.ListN.{length, getD, List·getD-eq-default, List·getD-map}
 use native.Mathlib.Omega.{arith}
 use borrow.Author.Tests.{eq-eqb, ne-eqb}
-use Rattle.base.specs.Lists.{any-default}
+use Rattle.base.proofs.Lists.{any-default}
 use Rattle.model.specs.Atoms.{unset}
 use Rattle.model.specs.Bound.{has}
 use Rattle.join_tests.specs.Arrays.{isBound, isPicked, boundIn, pickedIn, opsIn, given, reachFits}

@@ -9,15 +9,16 @@ use lib.Dec.{T, leb, ltb, eqb, leb→le, ltb→lt, eqb→eq, lt→ltb}
 use lib.ListN.{getD, length, length-map, List·getD-map, List·getD-eq-default}
 use borrow.Author.Tests.{lt-ltb, le-ltb, ltb-true, ltb-false, eq-eqb, ne-eqb}
 use Rattle.base.specs.Choose.{pick}
-use Rattle.base.specs.Lists.{map-at}
-use Rattle.base.specs.Table.{both-left, both-right, all, tabulates, entry}
+use Rattle.base.proofs.Lists.{map-at}
+use Rattle.base.proofs.TableLaws.{both-left, both-right, tabulates, entry}
+use Rattle.base.specs.Table.{all}
 use Rattle.fields.specs.declared.field.Field.{Field}
 use Rattle.fields.specs.declared.field.Field.the-variants.{Free}
 use Rattle.fields.specs.Fields.{width}
 use Rattle.kinds.specs.Kinds.{Kind, kinds, kindAt, noKind, fixedLength, itemsOf, lengthOf}
 use Rattle.fields.proofs.MatchLaws.{Others, listed, unlisted, covers, others}
 use Rattle.fields.specs.Codes.{code, decode}
-use Rattle.kinds.specs.Rows.{packed, testsOf, codesOf, lengthsOf, placeOf, lengthTable, rowOf, looked}
+use Rattle.kinds.specs.Rows.{packed, testsOf, codesOf, lengthsOf, lengthsAt, rowOf, looked}
 
 -- what a test says of every kind of the table
 pub held : (P : Kind → Bool) (l : List Kind) (i : ℕ) → T (all P l) → T (P noKind) → T (P (getD l i noKind))
@@ -32,44 +33,22 @@ many : length kinds ≡ 77
 unfolding kinds
 many = refl
 
--- a column of the table: its entry at a kind's place is the kind's, where that holds of all kinds, as is computed, and of the last place
-module _ (g : Kind → ℕ) (xs : List ℕ) (kept : T (tabulates (λ (k : ℕ). getD xs (placeOf k) 0) 0 (map g kinds))) (last : getD xs 47 0 ≡ g noKind) where
-  numbered : (b : ℕ) → b < 77 → getD xs (placeOf b) 0 ≡ g (kindAt b)
-  unfolding kindAt
-  numbered b h =
-      let l : b < length kinds = rw many h in
-      let m : b < length (map g kinds) = rw (length-map kinds g) l in
-      sym (entry (λ (k : ℕ). getD xs (placeOf k) 0) (map g kinds) kept b m) ∙ map-at g kinds b 0 noKind l
-
-  other : (b : ℕ) → 77 ≤ b → getD xs (placeOf b) 0 ≡ g (kindAt b)
-  unfolding kindAt
-  other b h =
-      let l : length kinds ≤ b = rw many h in
-      rw (
-        le-ltb b 0x18 (omega arith),
-        le-ltb b 0x20 (omega arith),
-        le-ltb b 0x24 (omega arith),
-        le-ltb b 0x30 (omega arith),
-        le-ltb b 0x33 (omega arith),
-        le-ltb b 0x3f (omega arith),
-        le-ltb b 0x4d (omega arith),
-        List·getD-eq-default kinds noKind l,
-      )
-      last
-
-  column : (b : ℕ) → getD xs (placeOf b) 0 ≡ g (kindAt b)
-  column b = go (ltb b 77) refl
-    where
-      go : (t : Bool) → ltb b 77 ≡ t → getD xs (placeOf b) 0 ≡ g (kindAt b)
-      go true e = numbered b (ltb-true b 77 e)
-      go false e = other b (ltb-false b 77 e)
-
-  at-place : (b p w : ℕ) → p ≡ placeOf b → w ≡ p → getD xs w 0 ≡ g (kindAt b)
-  at-place b p w q e = rw (e, q) (column b)
-
-pub length-at : (b p w : ℕ) → p ≡ placeOf b → w ≡ p → getD lengthTable w 0 ≡ lengthsOf (kindAt b)
+computed : T (tabulates lengthsAt 0 (map lengthsOf kinds))
 unfolding kinds
-length-at = at-place lengthsOf lengthTable tt refl
+computed = tt
+
+-- the byte of a kind is the kind's, as is computed over all kinds
+pub lengths-at : (b w : ℕ) → w ≡ b → b < 77 → lengthsAt w ≡ lengthsOf (kindAt b)
+unfolding kindAt
+lengths-at b w e h =
+    let l : b < length kinds = rw many h in
+    let m : b < length (map lengthsOf kinds) = rw (length-map kinds lengthsOf) l in
+    rw e (sym (entry lengthsAt (map lengthsOf kinds) computed b m) ∙ map-at lengthsOf kinds b 0 noKind l)
+
+-- and 1 where there is none
+pub lengths-beyond : (b : ℕ) → 77 ≤ b → 1 ≡ lengthsOf (kindAt b)
+unfolding kindAt
+lengths-beyond b h = let l : length kinds ≤ b = rw many h in rw (List·getD-eq-default kinds noKind l)
 
 pub fixed-most : (b : ℕ) → fixedLength (kindAt b) < 16
 unfolding kindAt kinds all

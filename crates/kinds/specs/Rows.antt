@@ -1,8 +1,8 @@
 -- The table by kind as the program keeps it: a byte with the lengths, and one number with the rest but the key, a field by its code. Each is made
 -- from the table of Kinds.
-use Prim.Native.Nat.{ℕ, _+_, _-_, _*_}
+use Prim.Native.Nat.{ℕ, _+_, _*_, _/_, _%_, _^_}
 use mathlib.Core.List.{List, [], _∷_, map}
-use lib.Dec.{ltb}
+use lib.ListN.{getD}
 use Rattle.base.specs.Choose.{pick}
 use Rattle.fields.specs.Fields.{width}
 use Rattle.kinds.specs.Kinds.{Kind, fixedLength}
@@ -16,26 +16,23 @@ use Rattle.fields.specs.declared.field.Test.the-variants.{Limits, Range, Reals}
 abbrev pub lengthsOf : Kind → ℕ
 lengthsOf r = width (r .item) * 16 + fixedLength r
 
--- the place of a kind in the table of lengths; the last one is that of every byte that is no kind
-abbrev pub placeOf : ℕ → ℕ
-placeOf b =
-    pick (ltb b 0x18) b
-    (pick (ltb b 0x20) 47
-    (pick (ltb b 0x24) (b - 8)
-    (pick (ltb b 0x30) 47
-    (pick (ltb b 0x33) (b - 20)
-    (pick (ltb b 0x3f) 47
-    (pick (ltb b 0x4d) (b - 32)
-    47))))))
+-- the bytes of the kinds 00 to 4f, eight to a number, the lowest kind in the lowest byte
+abbrev pub lengthWords : List ℕ
+lengthWords =
+    0x24_13_03_03_04_08_24_04
+    ∷ 0x01_25_24_35_34_26_25_25
+    ∷ 0x01_01_01_0a_0b_0d_06_06
+    ∷ 0x01_01_01_01_01_01_01_01
+    ∷ 0x01_01_01_01_0a_26_23_0c
+    ∷ 0x01_01_01_01_01_01_01_01
+    ∷ 0x01_01_01_01_01_04_08_25
+    ∷ 0x0a_01_01_01_01_01_01_01
+    ∷ 0x26_03_03_03_03_05_04_44
+    ∷ 0x01_01_01_02_06_03_25_35
+    ∷ []
 
-abbrev pub lengthTable : List ℕ
-lengthTable =
-    0x04 ∷ 0x24 ∷ 0x08 ∷ 0x04 ∷ 0x03 ∷ 0x03 ∷ 0x13 ∷ 0x24
-    ∷ 0x25 ∷ 0x25 ∷ 0x26 ∷ 0x34 ∷ 0x35 ∷ 0x24 ∷ 0x25 ∷ 0x01
-    ∷ 0x06 ∷ 0x06 ∷ 0x0d ∷ 0x0b ∷ 0x0a ∷ 0x01 ∷ 0x01 ∷ 0x01
-    ∷ 0x0c ∷ 0x23 ∷ 0x26 ∷ 0x0a ∷ 0x25 ∷ 0x08 ∷ 0x04 ∷ 0x0a
-    ∷ 0x44 ∷ 0x04 ∷ 0x05 ∷ 0x03 ∷ 0x03 ∷ 0x03 ∷ 0x03 ∷ 0x26
-    ∷ 0x35 ∷ 0x25 ∷ 0x03 ∷ 0x06 ∷ 0x02 ∷ 0x01 ∷ 0x01 ∷ 0x01 ∷ []
+abbrev pub lengthsAt : ℕ → ℕ
+lengthsAt k = getD lengthWords (k / 8) 0 / 2 ^ (8 * (k % 8)) % 256
 
 -- ---- the rest
 

@@ -5,94 +5,37 @@ ghost use Prim.Native.Nat.{ℕ, _+_, _<_, _≤_, _*_, _%_};
 ghost use lib.ListN.{length, getD};
 ghost use Rattle.fields.specs.Fields.{width as widthOf};
 ghost use Rattle.kinds.specs.Kinds.{kindAt, fixedLength};
-ghost use Rattle.kinds.specs.Rows.{lengthsOf, placeOf, testsOf, codesOf, rowOf};
+ghost use Rattle.kinds.specs.Rows.{lengthsOf, testsOf, codesOf, rowOf};
 use fields::field::wide;
 
-// "Each kind's fixed length and item width stand in one table": the item width in the high four binary places, 0 where there are no items; the
-// fixed length in the low four. A byte that is no kind has length 1. An array is laid on the stack at each look-up, 48 bytes by three moves.
-const LENGTHS: [u8; 48] = [
-    0x04,
-    0x24,
-    0x08,
-    0x04,
-    0x03,
-    0x03,
-    0x13,
-    0x24,
-    0x25,
-    0x25,
-    0x26,
-    0x34,
-    0x35,
-    0x24,
-    0x25,
-    0x01,
-    0x06,
-    0x06,
-    0x0d,
-    0x0b,
-    0x0a,
-    0x01,
-    0x01,
-    0x01,
-    0x0c,
-    0x23,
-    0x26,
-    0x0a,
-    0x25,
-    0x08,
-    0x04,
-    0x0a,
-    0x44,
-    0x04,
-    0x05,
-    0x03,
-    0x03,
-    0x03,
-    0x03,
-    0x26,
-    0x35,
-    0x25,
-    0x03,
-    0x06,
-    0x02,
-    0x01,
-    0x01,
-    0x01,
+// "Each kind's fixed length and item width stand in one table": a byte a kind, eight to a word, the lowest kind in the lowest byte. Of a byte the
+// high four binary places are the item width, 0 where there are no items, and the low four the fixed length; a byte that is no kind has length 1.
+// The array is laid on the stack at each look-up, so it is words: ten stores, not eighty.
+const LENGTHS: [u64; 10] = [
+    0x24_13_03_03_04_08_24_04,
+    0x01_25_24_35_34_26_25_25,
+    0x01_01_01_0a_0b_0d_06_06,
+    0x01_01_01_01_01_01_01_01,
+    0x01_01_01_01_0a_26_23_0c,
+    0x01_01_01_01_01_01_01_01,
+    0x01_01_01_01_01_04_08_25,
+    0x0a_01_01_01_01_01_01_01,
+    0x26_03_03_03_03_05_04_44,
+    0x01_01_01_02_06_03_25_35,
 ];
 
-// The place of a kind in the table: those of one text stand together, and the last place is that of every other byte.
-fn place(kind: u8) -> u8
-    ensures { λ r. ⌜ (r ≡ placeOf kind) × (r < 48) ⌝ }
-{
-    if kind < 0x18 {
-        return kind;
-    }
-    if kind < 0x20 {
-        return 47;
-    }
-    if kind < 0x24 {
-        return kind - 8;
-    }
-    if kind < 0x30 {
-        return 47;
-    }
-    if kind < 0x33 {
-        return kind - 20;
-    }
-    if kind < 0x3f {
-        return 47;
-    }
-    if kind < 0x4d {
-        return kind - 32;
-    }
-    47
-}
+// No kind is this high.
+const KINDS_END: u8 = 0x4d;
 
 pub fn lengths(kind: u8) -> u8
     ensures { λ r. ⌜ r ≡ lengthsOf (kindAt kind) ⌝ }
 {
-    LENGTHS[wide(place(kind))]
+    if KINDS_END <= kind {
+        return 1;
+    }
+    let k = wide(kind);
+    let word = LENGTHS[k / 8];
+    low_byte(word >> (8 * (k % 8)))
 }
 
 pub fn fixed_length(kind: u8) -> usize

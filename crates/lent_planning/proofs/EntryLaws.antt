@@ -8,12 +8,12 @@ use Rattle.first_reading.specs.declared.first.Reading.{Reading}
 use Rattle.first_reading.specs.declared.first.Reading.the-variants.{Accepted, Refused}
 use Rattle.second_reading.specs.Second.{reading}
 use Rattle.fitting.specs.Planner.{Plan, Result, fitted, plan}
-use Rattle.fitting.specs.Entry.{planOn, resultOf}
+use Rattle.fitting.specs.Entry.{planOn, plannedResult}
 use Rattle.fitting.specs.declared.fit.Planned.the-variants.{Refused as Refuses}
 use Rattle.fitting.proofs.FitLaws.{plan-on}
 
 module _ (x o : List ℕ) (v : Reading) (is : v ≡ reading Query x) where
-  pub planned-back : (k l : ℕ) → v ≡ Refused k l → resultOf (Refuses k l) o ≡ plan x o
+  pub planned-back : (k l : ℕ) → v ≡ Refused k l → plannedResult (Refuses k l) o ≡ plan x o
   unfolding plan
   planned-back k l e = rw (← is, e)
 

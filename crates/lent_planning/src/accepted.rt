@@ -4,7 +4,7 @@ ghost use Rattle.indexing.specs.Index.{Indexed};
 ghost use Rattle.reading.specs.IndexedReading.{Lent};
 ghost use Rattle.fitting.specs.Planner.{fitted, plan as planned};
 ghost use Rattle.ordering.specs.Accepts.{Accepts};
-ghost use Rattle.fitting.specs.Entry.{planOn, resultOf};
+ghost use Rattle.fitting.specs.Entry.{planOn, plannedResult};
 use first_reading::first::Reading;
 use first_reading::first::sheet_size;
 use fitting::fit::Planned;
@@ -17,7 +17,7 @@ use reading::second::read_indexed;
 fn plan_accepted(sheet: &[u8], index: &[u16], out: &mut [u8]) -> Planned
     requires { ⌜ Accepts (now sheet) ⌝ }
     requires { ⌜ Indexed (now sheet) (now index) ⌝ }
-    ensures { λ r. ⌜ resultOf r (now (out .exit)) ≡ fitted (planOn (now (sheet .entry))) (now (out .entry)) ⌝ }
+    ensures { λ r. ⌜ plannedResult r (now (out .exit)) ≡ fitted (planOn (now (sheet .entry))) (now (out .entry)) ⌝ }
 {
     let mut from = [0u16; 128];
     let n = atom_places(sheet, &mut from);
@@ -28,7 +28,7 @@ fn plan_accepted(sheet: &[u8], index: &[u16], out: &mut [u8]) -> Planned
 // The plan, by a sheet for the query's frames and an index of them that are lent.
 pub fn plan_by(text: &[u8], sheet: &mut [u8], index: &mut [u16], out: &mut [u8]) -> Planned
     requires { ⌜ Lent (now text) (now sheet) (now index) ⌝ }
-    ensures { λ r. ⌜ resultOf r (now (out .exit)) ≡ planned (now (text .entry)) (now (out .entry)) ⌝ }
+    ensures { λ r. ⌜ plannedResult r (now (out .exit)) ≡ planned (now (text .entry)) (now (out .entry)) ⌝ }
 {
     match read_indexed(Text::Query, text, sheet, index) {
         Reading::Refused(k, line) => Planned::Refused(k, line),

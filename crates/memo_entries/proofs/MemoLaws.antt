@@ -10,10 +10,10 @@ use lib.Seq.{getD-set-same, getD-set-other}
 use native.Mathlib.Numerals.{add-one}
 use borrow.Author.Tests.{eqb-true, lt-ltb, le-ltb}
 use Rattle.base.specs.Choose.{pick}
-use Rattle.model.specs.Bools.{first, second}
+use Rattle.model.proofs.Bools.{first, second}
 use Rattle.cost.specs.Sampling.{sameKey, isKnown}
 use Rattle.cost.specs.Memo.{unpackKey, entryKey, memoAt}
-use Rattle.plan_facts.specs.Remembered.{same-self}
+use Rattle.plan_facts.proofs.Remembered.{same-self}
 use Rattle.memo_entries.specs.Remembered.{Placed}
 
 -- a number is what stands above its lowest byte, and that byte

@@ -5,7 +5,7 @@ use mathlib.Core.List.{List}
 use lib.ListN.{length, getD}
 use lib.Ieee.{Float}
 use borrow.Author.Tests.{eq-eqb, ne-eqb}
-use Rattle.base.specs.Lists.{any-default}
+use Rattle.base.proofs.Lists.{any-default}
 use Rattle.measure.specs.Selectivity.{zero64}
 use Rattle.measure.specs.declared.FanOut.the-variants.{Measured, Unmeasured}
 use Rattle.cost.specs.Memo.{hasValue}

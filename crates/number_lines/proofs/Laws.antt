@@ -14,7 +14,7 @@ use Rattle.hex_lines.specs.declared.decode.Found.the-variants.{At, Nothing}
 use Rattle.hex.specs.Digits.{bytesOf, longAt}
 use Rattle.hex_lines.specs.Lines.{hexLineOf}
 use Rattle.hex_lines.specs.Decoding.{Decodes}
-use Rattle.hex.specs.Bytes.{bytes-length, bytes-take}
+use Rattle.hex.proofs.Bytes.{bytes-length, bytes-take}
 use Rattle.number_lines.specs.Numbers.{numberOf, before, numbersOf}
 use Rattle.number_lines.specs.declared.Line.{Line}
 use Rattle.number_lines.specs.declared.Line.the-variants.{Number, Other}

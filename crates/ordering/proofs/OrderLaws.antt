@@ -16,17 +16,19 @@ use Rattle.second_reading.specs.Second.{reading}
 use Rattle.measure.specs.declared.SamplerConfig.{SamplerConfig}
 use Rattle.query.specs.Statistics.{settings}
 use Rattle.query.specs.declared.statistics.Sampled.the-variants.{On, Off}
-use Rattle.model.specs.Bound.{most}
+use Rattle.model.specs.Bound.{boundMost}
 use Rattle.cost.specs.QueryAtoms.{atomFrames}
 use Rattle.cost.specs.Choice.{rounds, remembered}
-use Rattle.plan_facts.specs.Remembered.{keysMost, FewKeys, never, nothing-sampled}
+use Rattle.cost.specs.Memo.{keysMost}
+use Rattle.plan_facts.proofs.Remembered.{FewKeys, never, nothing-sampled}
 use Rattle.lowering.specs.AtomLines.{AtomLine}
-use Rattle.passes.specs.Eager.{Located, atomsOf}
-use Rattle.placing.specs.Places.{Places, frames-length, located}
+use Rattle.passes.specs.Eager.{Located, sheetAtoms}
+use Rattle.placing.specs.Places.{Places}
+use Rattle.placing.proofs.LocatedPlaces.{frames-length, located}
 use Rattle.prices.specs.Prices.{rowSize, tableSize, FewItems}
 use Rattle.samples.specs.Remembering.{Samples}
 use Rattle.ordering.specs.Accepts.{Accepts}
-use Rattle.ordering.specs.Accepted.{Small, frames-few, atom-lines, atom-items, rounds-memo, rounds-keys, few-keys, small-settings}
+use Rattle.ordering.proofs.Accepted.{Small, frames-few, atom-lines, atom-items, rounds-memo, rounds-keys, few-keys, small-settings}
 
 -- ---- by what the reading says
 
@@ -36,7 +38,7 @@ accepts x v is n c e s h = record { text = x; lines = n; atoms = c; is = sym is 
 -- ---- the sheet of an accepted query
 
 module _ (s : List ℕ) (a : Accepts s) where
-  pub sheet-few : length (atomFrames (framesIn s)) ≤ most
+  pub sheet-few : length (atomFrames (framesIn s)) ≤ boundMost
   sheet-few = rw (a .sheet .frames) (frames-few (a .text) (a .lines) (a .atoms) (a .is))
 
   -- its places fit two bytes
@@ -49,13 +51,13 @@ module _ (s : List ℕ) (a : Accepts s) where
   pub sheet-items : (k : ℕ) → k < length (atomFrames (framesIn s)) → itemsOf (kindOf (getD (atomFrames (framesIn s)) k [])) (getD (atomFrames (framesIn s)) k []) ≤ itemsMost
   sheet-items = rw (a .sheet .frames) (atom-items (a .text) (a .lines) (a .atoms) (a .is))
 
-  pub sheet-memo : (f : ℕ) → length (rounds (framesIn s) (atomsOf s) f .memory .tally .memo) ≤ itemsMost * length (atomsOf s)
+  pub sheet-memo : (f : ℕ) → length (rounds (framesIn s) (sheetAtoms s) f .memory .tally .memo) ≤ itemsMost * length (sheetAtoms s)
   sheet-memo = rw (a .sheet .frames) (rounds-memo (a .text) (a .lines) (a .atoms) (a .is))
 
-  pub sheet-rounds : (f : ℕ) → FewKeys (rounds (framesIn s) (atomsOf s) f .memory .tally)
+  pub sheet-rounds : (f : ℕ) → FewKeys (rounds (framesIn s) (sheetAtoms s) f .memory .tally)
   sheet-rounds = rw (a .sheet .frames) (rounds-keys (a .text) (a .lines) (a .atoms) (a .is))
 
-  pub sheet-keys : FewKeys (remembered (framesIn s) (atomsOf s) .tally)
+  pub sheet-keys : FewKeys (remembered (framesIn s) (sheetAtoms s) .tally)
   sheet-keys = rw (a .sheet .frames) (few-keys (a .text) (a .lines) (a .atoms) (a .is))
 
   pub sheet-settings : (cfg : SamplerConfig) → settings (framesIn s) ≡ On cfg → Small cfg
@@ -66,8 +68,8 @@ module _ (s : List ℕ) (a : Accepts s) where
 pub samples-nothing : (fs : List (List ℕ)) → settings fs ≡ Off → Samples fs Off
 samples-nothing fs e = record { set = sym e; nodes = λ cfg h. never cfg h; resamples = λ cfg h. never cfg h }
 
-pub remembers-nothing : (x : List ℕ) (f : ℕ) → settings (framesIn x) ≡ Off → length (rounds (framesIn x) (atomsOf x) f .memory .tally .memo) ≤ 1
-remembers-nothing x f e = rw (nothing-sampled (framesIn x) (atomsOf x) f e) (omega arith)
+pub remembers-nothing : (x : List ℕ) (f : ℕ) → settings (framesIn x) ≡ Off → length (rounds (framesIn x) (sheetAtoms x) f .memory .tally .memo) ≤ 1
+remembers-nothing x f e = rw (nothing-sampled (framesIn x) (sheetAtoms x) f e) (omega arith)
 
 pub samples-some : (x : List ℕ) (cfg : SamplerConfig) → Accepts x → settings (framesIn x) ≡ On cfg → Samples (framesIn x) (On cfg)
 samples-some x cfg a e = record {
@@ -76,11 +78,11 @@ samples-some x cfg a e = record {
   resamples = λ c h. sheet-settings x a c (e ∙ h) .rounds;
 }
 
-pub remembers-some : (x : List ℕ) (f : ℕ) → Accepts x → length (rounds (framesIn x) (atomsOf x) f .memory .tally .memo) ≤ keysMost
+pub remembers-some : (x : List ℕ) (f : ℕ) → Accepts x → length (rounds (framesIn x) (sheetAtoms x) f .memory .tally .memo) ≤ keysMost
 remembers-some x f a = sheet-rounds x a f .memo-few
 
 -- where there are few atoms, few keys
-pub remembers-few : (x from : List ℕ) (n m f : ℕ) → Accepts x → Places x from n → n ≤ m → length (rounds (framesIn x) (atomsOf x) f .memory .tally .memo) ≤ itemsMost * m
+pub remembers-few : (x from : List ℕ) (n m f : ℕ) → Accepts x → Places x from n → n ≤ m → length (rounds (framesIn x) (sheetAtoms x) f .memory .tally .memo) ≤ itemsMost * m
 remembers-few x from n m f a p h = omega (arith, sheet-memo x a f, p .count, frames-length (framesIn x))
 
 -- where its atoms stand

@@ -5,8 +5,8 @@ ghost use lib.ListN.{length};
 ghost use Rattle.frames.specs.Sheet.{framesIn};
 ghost use Rattle.indexing.specs.Index.{Indexed};
 ghost use Rattle.cost.specs.Choice.{rounds};
-ghost use Rattle.plan_facts.specs.Remembered.{keysMost};
-ghost use Rattle.passes.specs.Eager.{atomsOf};
+ghost use Rattle.cost.specs.Memo.{keysMost};
+ghost use Rattle.passes.specs.Eager.{sheetAtoms};
 ghost use Rattle.placing.specs.Places.{Places};
 ghost use Rattle.prices.specs.Prices.{rowSize};
 ghost use Rattle.samples.specs.Remembering.{Samples};
@@ -40,7 +40,7 @@ fn order_by(
     requires { ⌜ Indexed (now sheet) (now index) ⌝ }
     requires { ⌜ Samples (framesIn (now sheet)) how ⌝ }
     requires { ⌜ (length (now values) ≡ length (now keys)) × (length (now keys) ≤ keysMost) ⌝ }
-    requires { ⌜ length (rounds (framesIn (now sheet)) (atomsOf (now sheet)) (suc last) .memory .tally .memo) ≤ length (now keys) ⌝ }
+    requires { ⌜ length (rounds (framesIn (now sheet)) (sheetAtoms (now sheet)) (suc last) .memory .tally .memo) ≤ length (now keys) ⌝ }
     ensures { λ r. ⌜ Rounded (now (sheet .entry)) last (now (costs .exit)) r ⌝ }
 {
     fill_prices(sheet, index, from, n, prices);
@@ -88,7 +88,7 @@ fn order_few(
     requires { ⌜ Indexed (now sheet) (now index) ⌝ }
     requires { ⌜ Samples (framesIn (now sheet)) how ⌝ }
     requires { ⌜ (length (now values) ≡ length (now keys)) × (length (now keys) ≤ keysMost) ⌝ }
-    requires { ⌜ length (rounds (framesIn (now sheet)) (atomsOf (now sheet)) (suc last) .memory .tally .memo) ≤ length (now keys) ⌝ }
+    requires { ⌜ length (rounds (framesIn (now sheet)) (sheetAtoms (now sheet)) (suc last) .memory .tally .memo) ≤ length (now keys) ⌝ }
     requires { ⌜ n ≤ 4 ⌝ }
     ensures { λ r. ⌜ Rounded (now (sheet .entry)) last (now (costs .exit)) r ⌝ }
 {
@@ -139,7 +139,7 @@ fn order_in(
     requires { ⌜ Indexed (now sheet) (now index) ⌝ }
     requires { ⌜ Samples (framesIn (now sheet)) how ⌝ }
     requires { ⌜ (length (now values) ≡ length (now keys)) × (length (now keys) ≤ keysMost) ⌝ }
-    requires { ⌜ length (rounds (framesIn (now sheet)) (atomsOf (now sheet)) (suc last) .memory .tally .memo) ≤ length (now keys) ⌝ }
+    requires { ⌜ length (rounds (framesIn (now sheet)) (sheetAtoms (now sheet)) (suc last) .memory .tally .memo) ≤ length (now keys) ⌝ }
     ensures { λ r. ⌜ Rounded (now (sheet .entry)) last (now (costs .exit)) r ⌝ }
 {
     if n <= FEW_ATOMS {

@@ -8,13 +8,13 @@ use native.Mathlib.Numerals.{add-one}
 use lib.ListN.{length, getD, set, take, length-append, length-set}
 use lib.Seq.{set-out, length-sets, length-take-le, take-suc}
 use Rattle.hex.specs.Digits.{hexDigit, digitsOf}
-use Rattle.hex.specs.Bytes.{digits-length}
+use Rattle.hex.proofs.Bytes.{digits-length}
 use Rattle.kinds.specs.Kinds.{kindAt, fixedLength}
 use Rattle.frames.specs.Frames.{kindOf, frameLength}
 use Rattle.frames.specs.Sheet.{frameAt}
 use Rattle.model.specs.Limits.{lineEnd}
 use Rattle.plans.specs.PlanText.{textOf, textLength}
-use Rattle.plans.specs.Texts.{text-length}
+use Rattle.plans.proofs.Texts.{text-length}
 use Rattle.plans.specs.StepFrames.{wordBytes}
 use Rattle.output.specs.Written.{fixedIn, written, Puts, PutsBytes, PutsFrames}
 

@@ -7,11 +7,12 @@ use native.Mathlib.Omega.{arith}
 use lib.Dec.{eqb, ltb}
 use lib.ListN.{length, getD, replicate}
 use borrow.Author.Tests.{ltb-true, lt-ltb}
-use Rattle.base.specs.Choose.{pick, both-hold}
+use Rattle.base.specs.Choose.{pick}
+use Rattle.base.proofs.ChooseLaws.{both-hold}
 use Rattle.frame_tests.specs.Faults.{isAtom}
 use Rattle.first_reading.specs.declared.first.Reading.{Reading}
 use Rattle.first_reading.specs.declared.first.Reading.the-variants.{Accepted}
-use Rattle.reading.specs.Formed.{or-passes}
+use Rattle.reading.proofs.Formed.{or-passes}
 use Rattle.frame_keys.specs.Keys.{keyGiven}
 use Rattle.second_reading.specs.Second.{secondFault, secondFrom}
 use Rattle.fields.specs.Fields.{width, fieldIn, fieldPasses, operandIn}
@@ -22,8 +23,8 @@ use Rattle.fields.specs.declared.field.Field.{Field}
 use Rattle.fields.specs.declared.field.Field.the-variants.{Operand, Element}
 use Rattle.fields.specs.declared.field.Test.the-variants.{Range, Reals}
 use Rattle.model.specs.Atoms.{local, global, localOf, varsIn}
-use Rattle.model.specs.Bools.{both, first, second}
-use Rattle.model.specs.Bound.{most}
+use Rattle.model.proofs.Bools.{both, first, second}
+use Rattle.model.specs.Bound.{boundMost}
 use Rattle.model.specs.Premises.{numbersBelow}
 use Rattle.cost.specs.QueryAtoms.{operandsFrom, atomOfFrame, atomFrames}
 use Rattle.lowering.specs.AtomLines.{AtomLine}
@@ -75,8 +76,8 @@ module _ (n : Counts) where
       (λ r h. both (both-hold (ltb (getD r 0 0) (n .variables)) _ (both-hold (passAll (fieldPasses Range n) (kindAt 14 .fields) (14 ∷ r) 1) _ h .0) .0) (items-in Operand operand-in (14 ∷ r) 5 (getD (14 ∷ r) 4 0) (both-hold (passAll (fieldPasses Range n) (kindAt 14 .fields) (14 ∷ r) 1) _ h .1)))
 
   -- a frame of an atom that passes test 5, with at most 64 variables
-  pub atom-line : (f : List ℕ) → isAtom (getD f 0 0) ≡ true → n .variables ≤ most → framePasses (fieldPasses Range n) f ≡ true → AtomLine f
-  atom-line f a l h = record { kind = a; variables = below-more (n .variables) most (varsIn (atomOfFrame f)) l (vars-in f a h) }
+  pub atom-line : (f : List ℕ) → isAtom (getD f 0 0) ≡ true → n .variables ≤ boundMost → framePasses (fieldPasses Range n) f ≡ true → AtomLine f
+  atom-line f a l h = record { kind = a; variables = below-more (n .variables) boundMost (varsIn (atomOfFrame f)) l (vars-in f a h) }
 
   -- ---- the second reading
 
@@ -89,7 +90,7 @@ module _ (n : Counts) where
       by false h = absurd (omega arith)
 
   -- where it accepts, with at most 64 variables, each atom's frame is an AtomLine
-  pub accepted-lines : n .variables ≤ most → (fs earlier : List (List ℕ)) (k : ℕ) (a : Reading) (l c : ℕ) → secondFrom n earlier k fs a ≡ Accepted l c → (j : ℕ) → j < length (atomFrames fs) → AtomLine (getD (atomFrames fs) j [])
+  pub accepted-lines : n .variables ≤ boundMost → (fs earlier : List (List ℕ)) (k : ℕ) (a : Reading) (l c : ℕ) → secondFrom n earlier k fs a ≡ Accepted l c → (j : ℕ) → j < length (atomFrames fs) → AtomLine (getD (atomFrames fs) j [])
   unfolding secondFrom atomFrames
   accepted-lines m [] earlier k a l c h j g = absurd (omega arith)
   accepted-lines m (f ∷ fs) earlier k a l c h j g = by (isAtom (getD f 0 0)) refl j g (accepted-lines m fs (earlier ++ f ∷ []) (suc k) a l c (r .1))

@@ -15,16 +15,16 @@ use lib.Seq.{take-suc, take-suc-set, take-length}
 use Rattle.frames.proofs.SheetLaws.{frame-part}
 use Rattle.frames.specs.Sheet.{frameAt}
 use Rattle.model.specs.Atoms.{Atom, Step}
-use Rattle.model.specs.Tabulate.{tabulate-at, tabulate-length}
-use Rattle.model.specs.Bound.{Bound, has, add, addAll, most}
+use Rattle.model.proofs.TabulateLaws.{tabulate-at, tabulate-length}
+use Rattle.model.specs.Bound.{Bound, has, add, addAll, boundMost}
 use Rattle.model.specs.Lowering.{Emitted, lower, Lowered, done, more}
 use Rattle.model.specs.Scheduling.{State, isFree, unlowered, tryAt, eagerPass, lowerEager, atomOf, numbers}
-use Rattle.model.specs.Scheduled.{unlowered-lt, lower-eager-is}
+use Rattle.model.proofs.Scheduled.{unlowered-lt, lower-eager-is}
 use Rattle.cost.specs.QueryAtoms.{atomOfFrame}
 use Rattle.lowering.specs.AtomLines.{lowers, boundBehind, Lowers}
-use Rattle.passes.specs.Eager.{state, Went, Tries, atomsOf, Lined, Located, Ready, Passed, LoweredEager}
+use Rattle.passes.specs.Eager.{state, Went, Tries, sheetAtoms, Lined, Located, Ready, Passed, LoweredEager}
 use Rattle.binding.proofs.SetLaws.{add-size}
-use Rattle.passes.specs.LocatedLaws.{number-among}
+use Rattle.passes.proofs.LocatedLaws.{number-among}
 
 -- ---- composition
 
@@ -133,7 +133,7 @@ has-room i U O c t is h room = room (sym is ∙ h)
 -- ---- the line of an atom
 
 -- by its two places
-module _ (x from : List ℕ) (k at e : ℕ) (p : at ≡ getD from k 0) (q : e ≡ getD from (k + most) 0) (l : Lined x from k) where
+module _ (x from : List ℕ) (k at e : ℕ) (p : at ≡ getD from k 0) (q : e ≡ getD from (k + boundMost) 0) (l : Lined x from k) where
   ends : e ≡ at + length (frameAt x at)
   ends = q ∙ l .ends ∙ rw (← p)
 
@@ -151,11 +151,11 @@ module _ (x from : List ℕ) (k at e : ℕ) (p : at ≡ getD from k 0) (q : e �
 -- i atoms are tried
 pub record Passing (x : List ℕ) (n : ℕ) (U₀ B₀ : Bound) (O₀ : List ℕ) (c₀ : ℕ) (U B : Bound) (O : List ℕ) (c i : ℕ) : Type 0 where
   pub few : i ≤ n
-  pub went : Went (atomOf (atomsOf x)) (numbers (atomsOf x)) (eagerPass (atomOf (atomsOf x)) (numbers (atomsOf x)) (take i (numbers (atomsOf x)))) U₀ B₀ O₀ c₀ U B O c
+  pub went : Went (atomOf (sheetAtoms x)) (numbers (sheetAtoms x)) (eagerPass (atomOf (sheetAtoms x)) (numbers (sheetAtoms x)) (take i (numbers (sheetAtoms x)))) U₀ B₀ O₀ c₀ U B O c
 
 pub passing-none : (x : List ℕ) (n : ℕ) (U B : Bound) (O : List ℕ) (c : ℕ) → Passing x n U B O c U B O c 0
 unfolding eagerPass
-passing-none x n U B O c = record { few = omega arith; went = went-none _ _ (eagerPass (atomOf (atomsOf x)) (numbers (atomsOf x)) []) U B O c (λ ss. refl) }
+passing-none x n U B O c = record { few = omega arith; went = went-none _ _ (eagerPass (atomOf (sheetAtoms x)) (numbers (sheetAtoms x)) []) U B O c (λ ss. refl) }
 
 pass-append : (at : ℕ → Atom) (js ks ls : List ℕ) (st : State) → eagerPass at js (ks ++ ls) st ≡ eagerPass at js ls (eagerPass at js ks st)
 unfolding eagerPass
@@ -168,14 +168,14 @@ pass-snoc at js ks i = λ j st. pass-append at js ks (i ∷ []) st j
 
 module _ (x from : List ℕ) (n : ℕ) (U₀ B₀ : Bound) (O₀ : List ℕ) (c₀ : ℕ) (U B : Bound) (O : List ℕ) (c i : ℕ) (p : Passing x n U₀ B₀ O₀ c₀ U B O c i) (z : Located x from n) where
   module _ (h : i < n) where
-    number : getD (numbers (atomsOf x)) i 0 ≡ i
-    number = tabulate-at (length (atomsOf x)) (λ k. k) i 0 (rw (← z .count) h)
+    number : getD (numbers (sheetAtoms x)) i 0 ≡ i
+    number = tabulate-at (length (sheetAtoms x)) (λ k. k) i 0 (rw (← z .count) h)
 
-    within : i < length (numbers (atomsOf x))
-    within = rw (tabulate-length (length (atomsOf x)) (λ k. k), ← z .count) h
+    within : i < length (numbers (sheetAtoms x))
+    within = rw (tabulate-length (length (sheetAtoms x)) (λ k. k), ← z .count) h
 
-    one-more : take (i + 1) (numbers (atomsOf x)) ≡ take i (numbers (atomsOf x)) ++ i ∷ []
-    one-more = rw (add-one i, take-suc (numbers (atomsOf x)) i 0 within, number)
+    one-more : take (i + 1) (numbers (sheetAtoms x)) ≡ take i (numbers (sheetAtoms x)) ++ i ∷ []
+    one-more = rw (add-one i, take-suc (numbers (sheetAtoms x)) i 0 within, number)
 
     module _ (l : List ℕ) (v : ℕ) (line : l ≡ frameAt x (getD from i 0)) (narrow : v ≡ i) where
       pub number-below : Ready x U₀ B₀ O₀ c₀ → v < length U
@@ -183,24 +183,24 @@ module _ (x from : List ℕ) (n : ℕ) (U₀ B₀ : Bound) (O₀ : List ℕ) (c�
 
       pub order-room : Ready x U₀ B₀ O₀ c₀ → (has U v ≡ false → c < length O)
       order-room r g =
-          let k = unlowered-lt U i (numbers (atomsOf x)) (rw narrow at g) (number-among x from n z i h) in
+          let k = unlowered-lt U i (numbers (sheetAtoms x)) (rw narrow at g) (number-among x from n z i h) in
           omega (arith, p .went .left, p .went .order-size, r .room, r .order)
 
       pub passing-again : (U′ C : Bound) (P : List ℕ) (d : ℕ) → Tries l v U B O c U′ C P d → Passing x n U₀ B₀ O₀ c₀ U′ C P d (i + 1)
       passing-again U′ C P d t = record {
         few = omega arith;
-        went = rw (one-more, pass-snoc (atomOf (atomsOf x)) (numbers (atomsOf x)) (take i (numbers (atomsOf x))) i)
-            (went-then (atomOf (atomsOf x)) (numbers (atomsOf x)) (eagerPass (atomOf (atomsOf x)) (numbers (atomsOf x)) (take i (numbers (atomsOf x)))) (tryAt (atomOf (atomsOf x)) (numbers (atomsOf x)) i) (p .went)
-            ((rw (narrow, line) at t) .went (atomOf (atomsOf x)) (numbers (atomsOf x)) (z .is i h) (number-among x from n z i h)));
+        went = rw (one-more, pass-snoc (atomOf (sheetAtoms x)) (numbers (sheetAtoms x)) (take i (numbers (sheetAtoms x))) i)
+            (went-then (atomOf (sheetAtoms x)) (numbers (sheetAtoms x)) (eagerPass (atomOf (sheetAtoms x)) (numbers (sheetAtoms x)) (take i (numbers (sheetAtoms x)))) (tryAt (atomOf (sheetAtoms x)) (numbers (sheetAtoms x)) i) (p .went)
+            ((rw (narrow, line) at t) .went (atomOf (sheetAtoms x)) (numbers (sheetAtoms x)) (z .is i h) (number-among x from n z i h)));
       }
 
-  pub bound-sized : Ready x U₀ B₀ O₀ c₀ → length B ≡ most
+  pub bound-sized : Ready x U₀ B₀ O₀ c₀ → length B ≡ boundMost
   bound-sized r = p .went .bound-size ∙ r .bound
 
   pub passed : n ≤ i → Passed x U₀ B₀ O₀ c₀ U B O c
   passed h =
-      let e : i ≡ length (numbers (atomsOf x)) = omega (arith, p .few, z .count, tabulate-length (length (atomsOf x)) (λ k. k)) in
-      rw (e, take-length (numbers (atomsOf x))) at (p .went)
+      let e : i ≡ length (numbers (sheetAtoms x)) = omega (arith, p .few, z .count, tabulate-length (length (sheetAtoms x)) (λ k. k)) in
+      rw (e, take-length (numbers (sheetAtoms x))) at (p .went)
 
 -- ---- passes until one lowers nothing
 
@@ -223,10 +223,10 @@ went-same atomAt js f g U B O c U′ C P d h w = record {
 
 module _ (x : List ℕ) where
   abbrev at : ℕ → Atom
-  at = atomOf (atomsOf x)
+  at = atomOf (sheetAtoms x)
 
   abbrev js : List ℕ
-  js = numbers (atomsOf x)
+  js = numbers (sheetAtoms x)
 
   abbrev pass : State → State
   pass = eagerPass at js js
@@ -255,9 +255,9 @@ module _ (x : List ℕ) where
   -- `go` is the passes so far; more are to come unless the last took nothing
   pub record Repeating (U₀ B₀ : Bound) (O₀ : List ℕ) (c₀ : ℕ) (U B : Bound) (O : List ℕ) (c : ℕ) (more : Bool) : Type 0 where
     pub go : State → State
-    pub went : Went (atomOf (atomsOf x)) (numbers (atomsOf x)) go U₀ B₀ O₀ c₀ U B O c
-    pub last : more ≡ false → (ss : List Step) → lowerEager (atomOf (atomsOf x)) (numbers (atomsOf x)) (state U₀ B₀ ss) ≡ go (state U₀ B₀ ss)
-    pub again : more ≡ true → (ss : List Step) → lowerEager (atomOf (atomsOf x)) (numbers (atomsOf x)) (state U₀ B₀ ss) ≡ lowerEager (atomOf (atomsOf x)) (numbers (atomsOf x)) (go (state U₀ B₀ ss))
+    pub went : Went (atomOf (sheetAtoms x)) (numbers (sheetAtoms x)) go U₀ B₀ O₀ c₀ U B O c
+    pub last : more ≡ false → (ss : List Step) → lowerEager (atomOf (sheetAtoms x)) (numbers (sheetAtoms x)) (state U₀ B₀ ss) ≡ go (state U₀ B₀ ss)
+    pub again : more ≡ true → (ss : List Step) → lowerEager (atomOf (sheetAtoms x)) (numbers (sheetAtoms x)) (state U₀ B₀ ss) ≡ lowerEager (atomOf (sheetAtoms x)) (numbers (sheetAtoms x)) (go (state U₀ B₀ ss))
 
   pub no-pass : (U B : Bound) (O : List ℕ) (c : ℕ) → Repeating U B O c U B O c true
   no-pass U B O c = record { go = λ st. st; went = went-none at js (λ st. st) U B O c (λ ss. refl); last = λ h. absurd (subst T h tt); again = λ h ss. refl }
@@ -270,10 +270,10 @@ module _ (x : List ℕ) where
     no-more h = went-same at js (lowerEager at js) (r .go) U₀ B₀ O₀ c₀ U B O c (r .last h) (r .went)
 
     module _ (h : more ≡ true) (U′ C : Bound) (P : List ℕ) (d : ℕ) (w : Passed x U B O c U′ C P d) where
-      pub fewer-left : unlowered U′ (numbers (atomsOf x)) + pick (not (eqb d c)) 1 0 < unlowered U (numbers (atomsOf x)) + pick more 1 0
+      pub fewer-left : unlowered U′ (numbers (sheetAtoms x)) + pick (not (eqb d c)) 1 0 < unlowered U (numbers (sheetAtoms x)) + pick more 1 0
       fewer-left = rw h (by (eqb d c) refl)
         where
-          by : (t : Bool) → eqb d c ≡ t → unlowered U′ (numbers (atomsOf x)) + pick (not t) 1 0 < unlowered U (numbers (atomsOf x)) + 1
+          by : (t : Bool) → eqb d c ≡ t → unlowered U′ (numbers (sheetAtoms x)) + pick (not t) 1 0 < unlowered U (numbers (sheetAtoms x)) + 1
           by true e = omega (arith, w .left, w .count)
           by false e = let k : (d ≡ c → ⊥) = eqb-false d c e in omega (arith, w .left, w .count, above (w .count) k)
             where

@@ -1,2 +1,3 @@
 pub mod EagerLaws
 pub mod AcceptedLaws
+pub mod LocatedLaws

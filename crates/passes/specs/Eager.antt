@@ -5,7 +5,7 @@ use mathlib.Core.List.{List, _++_, List·Memᴰ}
 use lib.ListN.{length, getD, take}
 use Rattle.frames.specs.Sheet.{frameAt, framesIn}
 use Rattle.model.specs.Atoms.{Atom, Step}
-use Rattle.model.specs.Bound.{Bound, addAll, most}
+use Rattle.model.specs.Bound.{Bound, addAll, boundMost}
 use Rattle.model.specs.Lowering.{Lowered}
 use Rattle.model.specs.Scheduling.{State, unlowered, tryAt, eagerPass, lowerEager, atomOf, numbers}
 use Rattle.cost.specs.QueryAtoms.{atomOfFrame, atomsIn}
@@ -35,33 +35,33 @@ pub record Tries (f : List ℕ) (i : ℕ) (U B : Bound) (O : List ℕ) (c : ℕ)
   pub went : (atomAt : ℕ → Atom) (js : List ℕ) → atomAt i ≡ atomOfFrame f → List·Memᴰ i js → Went atomAt js (tryAt atomAt js i) U B O c U′ C P d
 
 -- the atoms of a sheet
-abbrev pub atomsOf : List ℕ → List Atom
-atomsOf x = atomsIn (framesIn x)
+abbrev pub sheetAtoms : List ℕ → List Atom
+sheetAtoms x = atomsIn (framesIn x)
 
 -- `from` has the place where the frame of atom k begins, and 64 places behind it the one where it ends
 pub record Lined (x from : List ℕ) (k : ℕ) : Type 0 where
-  pub within : getD from (k + most) 0 ≤ length x
-  pub ends : getD from (k + most) 0 ≡ getD from k 0 + length (frameAt x (getD from k 0))
+  pub within : getD from (k + boundMost) 0 ≤ length x
+  pub ends : getD from (k + boundMost) 0 ≡ getD from k 0 + length (frameAt x (getD from k 0))
 
 -- the first n of `from` are where the atoms' frames begin
 pub record Located (x from : List ℕ) (n : ℕ) : Type 0 where
-  pub count : n ≡ length (atomsOf x)
-  pub few : n ≤ most
-  pub size : n + most ≤ length from
+  pub count : n ≡ length (sheetAtoms x)
+  pub few : n ≤ boundMost
+  pub size : n + boundMost ≤ length from
   pub within : (k : ℕ) → k < n → Lined x from k
-  pub is : (k : ℕ) → k < n → atomOf (atomsOf x) k ≡ atomOfFrame (frameAt x (getD from k 0))
+  pub is : (k : ℕ) → k < n → atomOf (sheetAtoms x) k ≡ atomOfFrame (frameAt x (getD from k 0))
   pub line : (k : ℕ) → k < n → AtomLine (frameAt x (getD from k 0))
 
 -- arrays of 64 places, with room in the order for the atoms that are left
 pub record Ready (x : List ℕ) (U B : Bound) (O : List ℕ) (c : ℕ) : Type 0 where
-  pub used : length U ≡ most
-  pub bound : length B ≡ most
-  pub order : length O ≡ most
-  pub room : c + unlowered U (numbers (atomsOf x)) ≤ most
+  pub used : length U ≡ boundMost
+  pub bound : length B ≡ boundMost
+  pub order : length O ≡ boundMost
+  pub room : c + unlowered U (numbers (sheetAtoms x)) ≤ boundMost
 
 -- a pass over the atoms, and passes until one lowers nothing
 abbrev pub Passed : List ℕ → Bound → Bound → List ℕ → ℕ → Bound → Bound → List ℕ → ℕ → Type 0
-Passed x = Went (atomOf (atomsOf x)) (numbers (atomsOf x)) (eagerPass (atomOf (atomsOf x)) (numbers (atomsOf x)) (numbers (atomsOf x)))
+Passed x = Went (atomOf (sheetAtoms x)) (numbers (sheetAtoms x)) (eagerPass (atomOf (sheetAtoms x)) (numbers (sheetAtoms x)) (numbers (sheetAtoms x)))
 
 abbrev pub LoweredEager : List ℕ → Bound → Bound → List ℕ → ℕ → Bound → Bound → List ℕ → ℕ → Type 0
-LoweredEager x = Went (atomOf (atomsOf x)) (numbers (atomsOf x)) (lowerEager (atomOf (atomsOf x)) (numbers (atomsOf x)))
+LoweredEager x = Went (atomOf (sheetAtoms x)) (numbers (sheetAtoms x)) (lowerEager (atomOf (sheetAtoms x)) (numbers (sheetAtoms x)))

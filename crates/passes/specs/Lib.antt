@@ -1,2 +1,1 @@
 pub mod Eager
-pub mod LocatedLaws

@@ -4,7 +4,7 @@ ghost use mathlib.Core.Bool.{false};
 ghost use Prim.Native.Nat.{_+_, _<_};
 ghost use lib.ListN.{length, getD};
 ghost use Rattle.frames.specs.Sheet.{frameAt};
-ghost use Rattle.model.specs.Bound.{has, most};
+ghost use Rattle.model.specs.Bound.{has, boundMost};
 ghost use Rattle.lowering.specs.AtomLines.{AtomLine};
 ghost use Rattle.passes.specs.Eager.{Tries, Lined, Located, Ready, Passed, LoweredEager};
 use binding::sets::is_set;
@@ -24,7 +24,7 @@ fn try_at(
     c: usize,
 ) -> usize
     requires { ⌜ AtomLine (now frame) ⌝ }
-    requires { ⌜ length (now bound) ≡ most ⌝ }
+    requires { ⌜ length (now bound) ≡ boundMost ⌝ }
     requires { ⌜ i < length (now used) ⌝ }
     requires { ⌜ (has (now used) i ≡ false → c < length (now order)) ⌝ }
     ensures { λ r. ⌜ Tries (now (frame .entry)) i (now (used .entry)) (now (bound .entry)) (now (order .entry)) c (now (used .exit)) (now (bound .exit)) (now (order .exit)) r ⌝ }
@@ -45,7 +45,7 @@ fn try_at(
 
 // The frame of the k-th atom.
 pub fn atom_line<'a, 'b>(sheet: &'a [u8], from: &'b [u16], k: usize) -> &'a [u8]
-    requires { ⌜ k + most < length (now from) ⌝ }
+    requires { ⌜ k + boundMost < length (now from) ⌝ }
     requires { ⌜ Lined (now sheet) (now from) k ⌝ }
     ensures { λ r. ⌜ now r ≡ frameAt (now (sheet .entry)) (getD (now (from .entry)) k 0) ⌝ }
 {

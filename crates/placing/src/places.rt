@@ -5,7 +5,7 @@ ghost use Prim.Native.Nat.{_+_, _<_, _≤_};
 ghost use lib.ListN.{length, getD};
 ghost use Rattle.frame_tests.specs.Faults.{isAtom};
 ghost use Rattle.frames.specs.Sheet.{framesIn};
-ghost use Rattle.model.specs.Bound.{most};
+ghost use Rattle.model.specs.Bound.{boundMost};
 ghost use Rattle.cost.specs.QueryAtoms.{atomFrames};
 ghost use Rattle.placing.specs.Places.{Places, Noted};
 use frames::frame::frame_at;
@@ -13,7 +13,7 @@ use hex::byte_at;
 
 // Notes where a frame begins and ends, if it is an atom's; n are noted before. How many now are.
 fn note_place(frame: &[u8], at: usize, end: usize, from: &mut [u16], n: usize) -> usize
-    requires { ⌜ (isAtom (getD (now frame) 0 0) ≡ true → n + most < length (now from)) ⌝ }
+    requires { ⌜ (isAtom (getD (now frame) 0 0) ≡ true → n + boundMost < length (now from)) ⌝ }
     requires { ⌜ (at < 65536) × (end < 65536) ⌝ }
     ensures { λ r. ⌜ Noted (now (frame .entry)) at end (now (from .entry)) n (now (from .exit)) r ⌝ }
 {
@@ -31,8 +31,8 @@ fn note_place(frame: &[u8], at: usize, end: usize, from: &mut [u16], n: usize) -
 
 // The places of all atoms, which fit two bytes, and how many they are.
 pub fn atom_places(sheet: &[u8], from: &mut [u16]) -> usize
-    requires { ⌜ length (atomFrames (framesIn (now sheet))) ≤ most ⌝ }
-    requires { ⌜ length (now from) ≡ most + most ⌝ }
+    requires { ⌜ length (atomFrames (framesIn (now sheet))) ≤ boundMost ⌝ }
+    requires { ⌜ length (now from) ≡ boundMost + boundMost ⌝ }
     requires { ⌜ length (now sheet) < 65536 ⌝ }
     ensures { λ r. ⌜ Places (now (sheet .entry)) (now (from .exit)) r ⌝ }
 {

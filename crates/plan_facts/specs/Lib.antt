@@ -1,5 +1,2 @@
-pub mod AtomFrames
 pub mod QueryPlans
-pub mod Emitted
-pub mod Pigeonhole
-pub mod Remembered
+pub mod Examples

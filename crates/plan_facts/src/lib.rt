@@ -1,1 +1,1 @@
-// What an accepted query says of its plan: theorems alone; they stand in specs/.
+// What an accepted query says of its plan: definitions in specs/, theorems in proofs/.

@@ -9,7 +9,7 @@ ghost use Rattle.frame_tests.specs.declared.tests.Text.the-variants.{Query};
 ghost use Rattle.second_reading.specs.Second.{countsIn};
 ghost use Rattle.plans.specs.PlanText.{textLength};
 ghost use Rattle.plans.specs.StepFrames.{frameOf, headerOf};
-ghost use Rattle.passes.specs.Eager.{Located, atomsOf};
+ghost use Rattle.passes.specs.Eager.{Located, sheetAtoms};
 ghost use Rattle.writing.specs.Steps.{Ordered, stepsAlong};
 ghost use Rattle.output.specs.Written.{PutsFrames};
 use frame_tests::tests::Text;
@@ -28,7 +28,7 @@ fn narrow(x: usize) -> u16
 pub fn plan_size(sheet: &[u8], from: &[u16], n: usize, order: &[u8], count: usize) -> usize
     requires { ⌜ Located (now sheet) (now from) n ⌝ }
     requires { ⌜ Ordered (now sheet) (now from) n (now order) count ⌝ }
-    ensures { λ r. ⌜ r ≡ 21 + textLength (map frameOf (stepsAlong (atomOf (atomsOf (now (sheet .entry)))) blank (take count (now (order .entry))))) ⌝ }
+    ensures { λ r. ⌜ r ≡ 21 + textLength (map frameOf (stepsAlong (atomOf (sheetAtoms (now (sheet .entry)))) blank (take count (now (order .entry))))) ⌝ }
 {
     let mut bound = [false; 64];
     let mut none = [0u8; 1];
@@ -52,7 +52,7 @@ pub fn write_plan(
     requires { ⌜ steps < 65536 ⌝ }
     requires { ⌜ tallied < 65536 ⌝ }
     requires { ⌜ rejected < 65536 ⌝ }
-    ensures { λ r. ⌜ PutsFrames (now (out .entry)) 0 (headerOf (countsIn Query (now (sheet .entry)) 0 .variables) (countsIn Query (now (sheet .entry)) 0 .globals) (countsIn Query (now (sheet .entry)) 0 .literals) steps tallied rejected ∷ map frameOf (stepsAlong (atomOf (atomsOf (now (sheet .entry)))) blank (take count (now (order .entry))))) (now (out .exit)) r ⌝ }
+    ensures { λ r. ⌜ PutsFrames (now (out .entry)) 0 (headerOf (countsIn Query (now (sheet .entry)) 0 .variables) (countsIn Query (now (sheet .entry)) 0 .globals) (countsIn Query (now (sheet .entry)) 0 .literals) steps tallied rejected ∷ map frameOf (stepsAlong (atomOf (sheetAtoms (now (sheet .entry)))) blank (take count (now (order .entry))))) (now (out .exit)) r ⌝ }
 {
     let counts = counts_of(Text::Query, sheet, 0);
     let at = header(

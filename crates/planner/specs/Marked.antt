@@ -33,7 +33,7 @@ use Rattle.plans.specs.PlanText.{textOf, planText}
 use Rattle.fitting.specs.Planner.{Answer, writes, refusal, Result, stepsOf, planOf, plan}
 
 -- a query, a lent output, the answer, and the output then
-pub record Row : Type 0 where
+pub record PlanCase : Type 0 where
   pub query : List ℕ
   pub lent : List ℕ
   pub says : Answer
@@ -43,10 +43,10 @@ abbrev room : ℕ → List ℕ
 room n = replicate n 0
 
 -- a query that is refused leaves the output as it was
-abbrev refused : List ℕ → ℕ → ℕ → Row
+abbrev refused : List ℕ → ℕ → ℕ → PlanCase
 refused x k l = record { query = x; lent = room 30; says = refusal k l; leaves = room 30 }
 
-unfoldable pub table : List Row
+unfoldable pub table : List PlanCase
 table =
     refused (ascii "000\n") 1 1
     ∷ refused (ascii "99\n") 2 1
@@ -74,7 +74,7 @@ table =
     }
     ∷ []
 
-abbrev pub answered : Row → Result
+abbrev pub answered : PlanCase → Result
 answered r = plan (r .query) (r .lent)
 
 -- numbers that are computed, and what they are
@@ -95,6 +95,6 @@ numbers =
     ∷ record { bits = selectivity 0x4008_0000_0000_0000 0; is = 0x3fe0_0000_0000_0000 }
     ∷ []
 
-pub right : (map answered table ≡ map (λ (r : Row). record { answer = r .says; output = r .leaves }) table) × (map (λ (m : Mark). m .bits) numbers ≡ map (λ (m : Mark). m .is) numbers)
+pub right : (map answered table ≡ map (λ (r : PlanCase). record { answer = r .says; output = r .leaves }) table) × (map (λ (m : Mark). m .bits) numbers ≡ map (λ (m : Mark). m .is) numbers)
 unfolding table plan planOf stepsOf reading framesOf split kindAt passAll fieldPasses planned remembered atomsIn atomOfFrame operandsFrom bytesFrom put hasAll blank tabulate markAll emitReadChildren childLookups lower unlowered eagerPass passesUpTo roundsUpTo atomOf scan cheapest begins find opCard atomCard baseCard denominator byChildPos settings setChildren recordAtom recordEmitters childCosts estimateCost ofInt ofBits lt mul div planText textOf frameOf flatMap numbers wholeRoot leadingZeros toBits
 right = (refl, refl)

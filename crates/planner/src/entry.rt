@@ -1,7 +1,7 @@
 // The entry: a query text and a lent output.
 ghost use mathlib.Core.Path.{_≡_};
 ghost use Rattle.fitting.specs.Planner.{plan as planned};
-ghost use Rattle.fitting.specs.Entry.{resultOf};
+ghost use Rattle.fitting.specs.Entry.{plannedResult};
 use fitting::fit::Planned;
 use lent_planning::accepted::plan_by;
 use reading::second::LONG_INDEX;
@@ -18,7 +18,7 @@ use reading::second::TINY_TEXT;
 
 // Plans a query text into a lent output.
 pub fn plan(text: &[u8], out: &mut [u8]) -> Planned
-    ensures { λ r. ⌜ resultOf r (now (out .exit)) ≡ planned (now (text .entry)) (now (out .entry)) ⌝ }
+    ensures { λ r. ⌜ plannedResult r (now (out .exit)) ≡ planned (now (text .entry)) (now (out .entry)) ⌝ }
 {
     if text.len() <= TINY_TEXT {
         let mut sheet = [0u8; TINY_SHEET];

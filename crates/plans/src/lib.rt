@@ -1,1 +1,1 @@
-// The plan as text: definitions and theorems alone; they stand in specs/.
+// The plan as text: definitions in specs/, theorems in proofs/.

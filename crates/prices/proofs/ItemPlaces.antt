@@ -10,7 +10,7 @@ use Rattle.kinds.specs.Kinds.{kindAt, fixedLength, itemsOf}
 use Rattle.frames.specs.Frames.{kindOf}
 use Rattle.model.specs.Bound.{Bound}
 use Rattle.model.specs.Lowering.{pvIsBound}
-use Rattle.cost.specs.QueryAtoms.{operandAt}
+use Rattle.records.specs.Lookups.{operandAt}
 use Rattle.prices.specs.Items.{ItemsOf, itemAt}
 use Rattle.prices.specs.declared.items.Items.{Items}
 use Rattle.prices.specs.declared.items.Item.{Item}

@@ -18,14 +18,14 @@ use Rattle.measure.specs.declared.FanOut.the-variants.{Measured, Unmeasured}
 use Rattle.query.specs.Statistics.{baseCard, denominator, byChildPos, byContains, byRepr, nodes}
 use Rattle.model.specs.Bound.{Bound}
 use Rattle.prices.specs.Items.{itemFan, orFan, ItemsOf, itemAt, reprSelectivity, reprCost}
-use Rattle.prices.specs.Prices.{rowSize, itemPrice, ItemPriced, ItemsPriced, RowItems, Row, rowAt, atomFrame, FewItems, Priced}
+use Rattle.prices.specs.Prices.{rowSize, itemPrice, ItemPriced, ItemsPriced, RowItems, AtomPrices, rowAt, atomFrame, FewItems, Priced}
 use Rattle.prices.specs.declared.items.Items.{Items}
 use Rattle.prices.specs.declared.items.Item.{Item}
-use Rattle.base.specs.Lists.{any-default}
+use Rattle.base.proofs.Lists.{any-default}
 
 -- ---- what is read of a row
 
-module _ (fs : List (List ℕ)) (f : List ℕ) (k : ℕ) (ps : List Float) (w : Row fs f k ps) (d : Float) where
+module _ (fs : List (List ℕ)) (f : List ℕ) (k : ℕ) (ps : List Float) (w : AtomPrices fs f k ps) (d : Float) where
   pub row-base : getD ps 0 d ≡ baseCard fs (getD f 2 0) k
   row-base = any-default ps 0 d zero64 (omega (arith, w .items .room)) ∙ w .base
 
@@ -50,7 +50,7 @@ module _ (x from : List ℕ) (n : ℕ) (ps : List Float) (w : Priced x from n ps
   pub row-within : rowSize * k + rowSize ≤ length ps
   row-within = omega (arith, w .room)
 
-  pub row-priced : (i : ℕ) (l : List ℕ) → i ≡ k → l ≡ frameAt x (getD from k 0) → Row (framesIn x) l i (take (rowSize * k + rowSize - rowSize * k) (drop (rowSize * k) ps))
+  pub row-priced : (i : ℕ) (l : List ℕ) → i ≡ k → l ≡ frameAt x (getD from k 0) → AtomPrices (framesIn x) l i (take (rowSize * k + rowSize - rowSize * k) (drop (rowSize * k) ps))
   row-priced i l hi hl =
       let e : rowSize * k + rowSize - rowSize * k ≡ rowSize = omega arith in
       rw (hi, hl, e) (w .rows k h)
@@ -105,7 +105,7 @@ module _ (ps : List Float) (b e : Float) where
   row-size fs g m qs h = h .size ∙ length-set (set ps 0 b) 1 e ∙ length-set ps 0 b
 
 -- the first two numbers, then the items
-pub row-filled : (fs : List (List ℕ)) (f : List ℕ) (k : ℕ) (g : Items) (ps qs : List Float) (b r : Float) → itemsOf (kindOf f) f + 2 ≤ length ps → ItemsOf f g → b ≡ baseCard fs (g .op) k → r ≡ reprSelectivity fs → ItemsPriced fs g (g .count) (set (set ps 0 b) 1 (mul binary64 b r)) qs → Row fs f k qs
+pub row-filled : (fs : List (List ℕ)) (f : List ℕ) (k : ℕ) (g : Items) (ps qs : List Float) (b r : Float) → itemsOf (kindOf f) f + 2 ≤ length ps → ItemsOf f g → b ≡ baseCard fs (g .op) k → r ≡ reprSelectivity fs → ItemsPriced fs g (g .count) (set (set ps 0 b) 1 (mul binary64 b r)) qs → AtomPrices fs f k qs
 row-filled fs f k g ps qs b r l z hb hr m = record {
   base = front 0 (omega arith) ∙ getD-set-other (set ps 0 b) 1 0 (mul binary64 b r) zero64 (λ e. omega arith) ∙ getD-set-same ps 0 b zero64 (omega arith) ∙ hb ∙ rw (z .op);
   node = front 1 (omega arith) ∙ getD-set-same (set ps 0 b) 1 (mul binary64 b r) zero64 (omega (arith, length-set ps 0 b)) ∙ rw (hb, hr, z .op);
@@ -156,7 +156,7 @@ module _ (x from : List ℕ) (n : ℕ) (ps₀ : List Float) where
         pub row-room : FewItems x from n → itemsOf (kindOf l) l + 2 ≤ length (take (rowSize * k + rowSize - rowSize * k) (drop (rowSize * k) ps))
         row-room z = rw (row-length, hl) (z .few k h)
 
-        module _ (r : List Float) (i : ℕ) (s : length r ≡ length (take (rowSize * k + rowSize - rowSize * k) (drop (rowSize * k) ps))) (hi : i ≡ k) (w : Row (framesIn x) l i r) where
+        module _ (r : List Float) (i : ℕ) (s : length r ≡ length (take (rowSize * k + rowSize - rowSize * k) (drop (rowSize * k) ps))) (hi : i ≡ k) (w : AtomPrices (framesIn x) l i r) where
           abbrev behind : List Float
           behind = drop (rowSize * k + rowSize - rowSize * k) (drop (rowSize * k) ps)
 
@@ -181,7 +181,7 @@ module _ (x from : List ℕ) (n : ℕ) (ps₀ : List Float) where
             priced = record { room = omega (arith, e, row-ends); rows = λ j t. at j t (ltb j k) refl };
           }
             where
-              at : (j : ℕ) → j < k + 1 → (b : Bool) → ltb j k ≡ b → Row (framesIn x) (atomFrame x from j) j (rowAt with-row j)
+              at : (j : ℕ) → j < k + 1 → (b : Bool) → ltb j k ≡ b → AtomPrices (framesIn x) (atomFrame x from j) j (rowAt with-row j)
               at j t true b =
                   let a : j < k = ltb-true j k b in
                   rw (other-row j a) (m .priced .rows j a)

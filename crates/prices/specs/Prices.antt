@@ -46,7 +46,7 @@ pub record RowItems (fs : List (List ℕ)) (f : List ℕ) (ps : List Float) : Ty
   pub is : (j : ℕ) → j < itemsOf (kindOf f) f → getD ps (j + 2) zero64 ≡ itemPrice fs (getD f 2 0) (ltb 6 (getD f 0 0)) j
 
 -- the row of atom number k, by its frame f
-pub record Row (fs : List (List ℕ)) (f : List ℕ) (k : ℕ) (ps : List Float) : Type 0 where
+pub record AtomPrices (fs : List (List ℕ)) (f : List ℕ) (k : ℕ) (ps : List Float) : Type 0 where
   pub base : getD ps 0 zero64 ≡ baseCard fs (getD f 2 0) k
   pub node : getD ps 1 zero64 ≡ reprCost fs (getD f 2 0) k
   pub items : RowItems fs f ps
@@ -67,4 +67,4 @@ pub record FewItems (x from : List ℕ) (n : ℕ) : Type 0 where
 -- the rows of the first n atoms
 pub record Priced (x from : List ℕ) (n : ℕ) (ps : List Float) : Type 0 where
   pub room : rowSize * n ≤ length ps
-  pub rows : (k : ℕ) → k < n → Row (framesIn x) (atomFrame x from k) k (rowAt ps k)
+  pub rows : (k : ℕ) → k < n → AtomPrices (framesIn x) (atomFrame x from k) k (rowAt ps k)

@@ -8,7 +8,7 @@ ghost use Rattle.frames.specs.Frames.{kindOf};
 ghost use Rattle.indexing.specs.Index.{Indexed};
 ghost use Rattle.passes.specs.Eager.{Located};
 ghost use Rattle.prices.specs.Items.{itemFan, reprSelectivity};
-ghost use Rattle.prices.specs.Prices.{rowSize, ItemsPriced, Row, FewItems, Priced};
+ghost use Rattle.prices.specs.Prices.{rowSize, ItemsPriced, AtomPrices, FewItems, Priced};
 use super::items::Items;
 use super::items::items_at;
 use fields::field::narrow;
@@ -70,7 +70,7 @@ fn fill_row(sheet: &[u8], index: &[u16], frame: &[u8], k: u8, repr: f64, row: &m
     requires { ⌜ repr ≡ reprSelectivity (framesIn (now sheet)) ⌝ }
     requires { ⌜ itemsOf (kindOf (now frame)) (now frame) + 2 ≤ length (now row) ⌝ }
     requires { ⌜ Indexed (now sheet) (now index) ⌝ }
-    ensures { λ _. ⌜ Row (framesIn (now (sheet .entry))) (now (frame .entry)) k (now (row .exit)) ⌝ }
+    ensures { λ _. ⌜ AtomPrices (framesIn (now (sheet .entry))) (now (frame .entry)) k (now (row .exit)) ⌝ }
 {
     let g = items_at(frame);
     let base = base_card(sheet, index, g.op, k);

@@ -27,7 +27,7 @@ use Rattle.binding.specs.ItemOperands.{itemOperands}
 use Rattle.lowering.proofs.AtomLaws.{by-kind}
 use Rattle.item_pricing.specs.ItemCosts.{itemCosts, frameCosts, Stands, costAt}
 use Rattle.pricing.specs.LiteralKinds.{literalKind}
-use Rattle.prices.specs.Prices.{Row}
+use Rattle.prices.specs.Prices.{AtomPrices}
 use Rattle.samples.specs.Remembering.{Remembers}
 use Rattle.item_pricing.specs.declared.items.Costed.{Costed}
 use Rattle.pricing.proofs.ItemsLaws.{children-are, elements-are}
@@ -81,7 +81,7 @@ module _ (fs : List (List ℕ)) (em : Emitters) (B : Bound) (i : ℕ) (f ks : Li
   pub test-stands : (how : Sampled) (xs : List Float) → not b ≡ true → Remembers fs how ks xs s → Stands fs how ks xs (record { cost = zero64; tallies = s }) (estimateCost fs em B i (atomOfFrame f) (tallyAt ks s))
   test-stands how xs h m = rw (test-cost fs em B i (tallyAt ks s) (atomOfFrame f) (sym hb ∙ not-true b h)) record { cost = refl; tally = refl; memo = m }
 
-  module _ (line : AtomLine f) (ps : List Float) (w : Row fs f i ps) (d : Float) (k : ℕ) (hk : k ≡ getD f 0 0) (l : Bool) (hl : l ≡ literalKind k) where
+  module _ (line : AtomLine f) (ps : List Float) (w : AtomPrices fs f i ps) (d : Float) (k : ℕ) (hk : k ≡ getD f 0 0) (l : Bool) (hl : l ≡ literalKind k) where
     pub literal-stands : (how : Sampled) (xs : List Float) → l ≡ true → Remembers fs how ks xs s → Stands fs how ks xs (record { cost = getD ps 0 d; tallies = s }) (estimateCost fs em B i (atomOfFrame f) (tallyAt ks s))
     literal-stands how xs h m = rw (literal-cost fs em B i (tallyAt ks s) f (line .kind) (rw (← hk) (sym hl ∙ h))) record { cost = row-base fs f i ps w d; tally = refl; memo = m }
 

@@ -13,7 +13,7 @@ use Rattle.model.specs.Bound.{Bound}
 use Rattle.cost.specs.Emitters.{Emitters}
 use Rattle.cost.specs.QueryAtoms.{operandsFrom}
 use Rattle.cost.specs.Costs.{Costed as Cost, childCosts, elementCosts}
-use Rattle.plan_facts.specs.Remembered.{children-grow, elements-grow}
+use Rattle.plan_facts.proofs.Remembered.{children-grow, elements-grow}
 use Rattle.binding.proofs.OperandLaws.{operands-more}
 use Rattle.item_pricing.specs.ItemCosts.{itemCost, oneCost, itemCosts, costBehind, frameCosts, Stands, costAt}
 use Rattle.prices.specs.Items.{ItemsOf, itemAt}

@@ -11,7 +11,7 @@ ghost use Rattle.cost.specs.Memo.{tallyAt};
 ghost use Rattle.cost.specs.QueryAtoms.{atomOfFrame};
 ghost use Rattle.lowering.specs.AtomLines.{AtomLine};
 ghost use Rattle.samples.specs.Remembering.{Samples, Remembers};
-ghost use Rattle.prices.specs.Prices.{Row};
+ghost use Rattle.prices.specs.Prices.{AtomPrices};
 ghost use Rattle.item_pricing.specs.ItemCosts.{Stands};
 ghost use Rattle.pricing.specs.LiteralKinds.{literalKind};
 use super::items::item_costs;
@@ -49,7 +49,7 @@ pub fn estimate_cost(
     requires { ⌜ Remembers (framesIn (now sheet)) (s .how) (now keys) (now values) s ⌝ }
     requires { ⌜ length (estimateCost (framesIn (now sheet)) (map decode (now em)) (now bound) k (atomOfFrame (now frame)) (tallyAt (now keys) s) .tally .memo) ≤ length (now keys) ⌝ }
     requires { ⌜ Indexed (now sheet) (now index) ⌝ }
-    requires { ⌜ Row (framesIn (now sheet)) (now frame) k (now row) ⌝ }
+    requires { ⌜ AtomPrices (framesIn (now sheet)) (now frame) k (now row) ⌝ }
     ensures { λ r. ⌜ Stands (framesIn (now (sheet .entry))) (s .how) (now (keys .exit)) (now (values .exit)) r (estimateCost (framesIn (now (sheet .entry))) (map decode (now (em .entry))) (now (bound .entry)) k (atomOfFrame (now (frame .entry))) (tallyAt (now (keys .entry)) s)) ⌝ }
 {
     if !scans(frame) {

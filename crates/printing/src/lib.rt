@@ -1,7 +1,7 @@
 // What the programs share: room for a text, and answers on standard output.
 use answer_lines::end_line;
 use answer_lines::refusal_line;
-use answer_lines::turned_line;
+use answer_lines::run_refusal_line;
 use entries::run::Outcome;
 use entries::run::status_number;
 use fitting::fit::Planned;
@@ -36,8 +36,8 @@ fn print_end(status: u8, tries: u64, matches: u64) {
 }
 
 // Refused texts: the line ff number line(2) text.
-fn print_turned(number: u8, text: u8, line: usize) {
-    let out = turned_line(number, text, line);
+fn print_run_refusal(number: u8, text: u8, line: usize) {
+    let out = run_refusal_line(number, text, line);
     io::write_all(1, &out);
 }
 
@@ -49,7 +49,7 @@ fn print_ran(out: &[u8], status: u8, tries: u64, matches: u64, written: usize) {
 
 pub fn print_run(answer: Outcome, out: &[u8]) {
     match answer {
-        Outcome::Refused(number, text, line) => print_turned(number, text, line),
+        Outcome::Refused(number, text, line) => print_run_refusal(number, text, line),
         Outcome::Ran(status, tries, matches, written) => print_ran(
             out,
             status_number(status),

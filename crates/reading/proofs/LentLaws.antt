@@ -4,7 +4,7 @@ use mathlib.Core.Path.{_≡_}
 use mathlib.Core.List.{List}
 use native.Mathlib.Omega.{arith}
 use lib.ListN.{length, replicate, length-replicate}
-use Rattle.base.specs.Lists.{blank-at}
+use Rattle.base.proofs.Lists.{blank-at}
 use Rattle.fields.specs.Limits.{textMost}
 use Rattle.indexing.specs.Index.{slotsFor}
 use Rattle.reading.specs.IndexedReading.{sheetFor, indexFor, Lent}

@@ -16,13 +16,13 @@ use Rattle.reading_facts.specs.Answers.{numberOf}
 use Rattle.reading_facts.specs.Ascii.{ascii, times}
 
 -- a text, its bytes, and the answer
-pub record Row : Type 0 where
+pub record ReadingCase : Type 0 where
   pub of : Text
   pub bytes : List ℕ
   pub says : Reading
 
 -- the refusal table's examples, 1 to 7
-unfoldable pub refusals : List Row
+unfoldable pub refusals : List ReadingCase
 refusals =
     record { of = Query; bytes = ascii "000\n"; says = Refused 1 1 }
     ∷ record { of = Query; bytes = ascii "99\n"; says = Refused 2 1 }
@@ -33,7 +33,7 @@ refusals =
     ∷ record { of = Query; bytes = ascii "00000000\n10010000000a\n10010000000a\n"; says = Refused 7 3 }
     ∷ []
 
-unfoldable pub points : List Row
+unfoldable pub points : List ReadingCase
 points =
     -- the worked query
     record { of = Query; bytes = ascii "00040000\n0100010200010002\n010202010003\n10010000000a\n100200000064\n"; says = Accepted 5 2 }
@@ -115,11 +115,11 @@ points =
     ∷ record { of = Table; bytes = ascii "30ffff0200\n"; says = Refused 4 1 }
     ∷ []
 
-pub examples : map (λ (r : Row). reading (r .of) (r .bytes)) (refusals ++ points) ≡ map (λ (r : Row). r .says) (refusals ++ points)
+pub examples : map (λ (r : ReadingCase). reading (r .of) (r .bytes)) (refusals ++ points) ≡ map (λ (r : ReadingCase). r .says) (refusals ++ points)
 unfolding refusals points reading split kindAt passAll fieldPasses
 examples = refl
 
 -- each number from 1 to 7 can occur for a query
-pub each-occurs : map (λ (r : Row). numberOf Query (reading Query (r .bytes))) refusals ≡ 1 ∷ 2 ∷ 3 ∷ 4 ∷ 5 ∷ 6 ∷ 7 ∷ []
+pub each-occurs : map (λ (r : ReadingCase). numberOf Query (reading Query (r .bytes))) refusals ≡ 1 ∷ 2 ∷ 3 ∷ 4 ∷ 5 ∷ 6 ∷ 7 ∷ []
 unfolding refusals reading split kindAt passAll fieldPasses
 each-occurs = refl

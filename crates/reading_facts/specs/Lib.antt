@@ -1,9 +1,3 @@
 pub mod Answers
-pub mod LetterCase
-pub mod Passes
-pub mod Whole
-pub mod FewLines
-pub mod Lookups
-pub mod Exact
 pub mod Ascii
 pub mod Examples

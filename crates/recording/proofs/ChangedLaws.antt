@@ -12,11 +12,11 @@ use borrow.Author.Tests.{lt-ltb, le-ltb}
 use Rattle.base.specs.Choose.{pick}
 use Rattle.frames.specs.Sheet.{frameAt}
 use Rattle.model.specs.Atoms.{Atom, Eq}
-use Rattle.model.specs.Bound.{Bound, has, most}
+use Rattle.model.specs.Bound.{Bound, has, boundMost}
 use Rattle.model.specs.Scheduling.{atomOf}
 use Rattle.cost.specs.QueryAtoms.{atomOfFrame}
 use Rattle.cost.specs.Emitters.{Emitters, decode, recordAtom, recordEmitters}
-use Rattle.passes.specs.Eager.{atomsOf, Located}
+use Rattle.passes.specs.Eager.{sheetAtoms, Located}
 use Rattle.recording.specs.Changed.{changedFrom, recordNumber, recordNumbers}
 
 -- ---- the list of the numbers
@@ -73,40 +73,40 @@ module _ (B U : Bound) (qs : List Atom) where
 -- ---- an atom by its number, and the numbers of a list in turn
 
 module _ (x from : List ℕ) (n : ℕ) (z : Located x from n) where
-  pub number-none : (em : Emitters) (k i : ℕ) → (i ≡ k) × (i < 256) → n ≤ i → em ≡ recordNumber (atomsOf x) em k
-  number-none em k i e h = rw (le-ltb k (length (atomsOf x)) (omega (arith, z .count, e .0)))
+  pub number-none : (em : Emitters) (k i : ℕ) → (i ≡ k) × (i < 256) → n ≤ i → em ≡ recordNumber (sheetAtoms x) em k
+  number-none em k i e h = rw (le-ltb k (length (sheetAtoms x)) (omega (arith, z .count, e .0)))
 
-  pub number-some : (em o : Emitters) (k i : ℕ) (f : List ℕ) → (i ≡ k) × (i < 256) → i < n → f ≡ frameAt x (getD from i 0) → o ≡ recordAtom em k (atomOfFrame f) → o ≡ recordNumber (atomsOf x) em k
+  pub number-some : (em o : Emitters) (k i : ℕ) (f : List ℕ) → (i ≡ k) × (i < 256) → i < n → f ≡ frameAt x (getD from i 0) → o ≡ recordAtom em k (atomOfFrame f) → o ≡ recordNumber (sheetAtoms x) em k
   number-some em o k i f e h line is =
-      let a : atomOf (atomsOf x) k ≡ atomOfFrame f = rw (← e .0, line) (z .is i h) in
-      rw (lt-ltb k (length (atomsOf x)) (omega (arith, z .count, e .0)), a) is
+      let a : atomOf (sheetAtoms x) k ≡ atomOfFrame f = rw (← e .0, line) (z .is i h) in
+      rw (lt-ltb k (length (sheetAtoms x)) (omega (arith, z .count, e .0)), a) is
 
 -- j of the first m numbers are recorded, and those left give the rest
 pub record Numbered (x : List ℕ) (l : List ℕ) (m : ℕ) (em₀ em : List ℕ) (j : ℕ) : Type 0 where
   pub size : length em ≡ length em₀
-  pub is : recordNumbers (atomsOf x) (drop j (take m l)) (map decode em) ≡ recordNumbers (atomsOf x) (take m l) (map decode em₀)
+  pub is : recordNumbers (sheetAtoms x) (drop j (take m l)) (map decode em) ≡ recordNumbers (sheetAtoms x) (take m l) (map decode em₀)
 
 module _ (x l : List ℕ) (m : ℕ) (em₀ : List ℕ) where
   pub numbered-none : Numbered x l m em₀ em₀ 0
   numbered-none = record { size = refl; is = refl }
 
   module _ (em : List ℕ) (j : ℕ) (r : Numbered x l m em₀ em j) where
-    pub numbered-sized : length em₀ ≡ most → length em ≡ most
+    pub numbered-sized : length em₀ ≡ boundMost → length em ≡ boundMost
     numbered-sized s = r .size ∙ s
 
-    pub numbered-more : (o : List ℕ) (d : ℕ) → j < m → j < length l → length o ≡ length em → map decode o ≡ recordNumber (atomsOf x) (map decode em) (getD l j d) → Numbered x l m em₀ o (j + 1)
+    pub numbered-more : (o : List ℕ) (d : ℕ) → j < m → j < length l → length o ≡ length em → map decode o ≡ recordNumber (sheetAtoms x) (map decode em) (getD l j d) → Numbered x l m em₀ o (j + 1)
     unfolding recordNumbers
     numbered-more o d h g s is = record {
       size = s ∙ r .size;
       is = rw (add-one j, is, ← getD-take m l j d h) (rw (drop-cons (take m l) j d (omega (arith, length-take m l))) at (r .is));
     }
 
-    numbered-end : length (take m l) ≤ j → map decode em ≡ recordNumbers (atomsOf x) (take m l) (map decode em₀)
+    numbered-end : length (take m l) ≤ j → map decode em ≡ recordNumbers (sheetAtoms x) (take m l) (map decode em₀)
     unfolding recordNumbers
     numbered-end h = rw (drop-of-length-le (take m l) h) at (r .is)
 
-    pub numbered-all : m ≤ j → map decode em ≡ recordNumbers (atomsOf x) (take m l) (map decode em₀)
+    pub numbered-all : m ≤ j → map decode em ≡ recordNumbers (sheetAtoms x) (take m l) (map decode em₀)
     numbered-all h = numbered-end (omega (arith, length-take m l))
 
-    pub numbered-whole : length l ≤ j → map decode em ≡ recordNumbers (atomsOf x) (take m l) (map decode em₀)
+    pub numbered-whole : length l ≤ j → map decode em ≡ recordNumbers (sheetAtoms x) (take m l) (map decode em₀)
     numbered-whole h = numbered-end (omega (arith, length-take m l))

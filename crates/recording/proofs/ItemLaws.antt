@@ -12,7 +12,8 @@ use Rattle.kinds.specs.Kinds.{kindAt, fixedLength, itemsOf}
 use Rattle.frames.specs.Frames.{kindOf}
 use Rattle.model.specs.Atoms.{Operand, localOf}
 use Rattle.model.specs.Premises.{numbersBelow}
-use Rattle.cost.specs.QueryAtoms.{operandAt, operandsFrom}
+use Rattle.cost.specs.QueryAtoms.{operandsFrom}
+use Rattle.records.specs.Lookups.{operandAt}
 use Rattle.cost.specs.Emitters.{Emitters, decode, setOperand, setChildren, setElements}
 use Rattle.binding.specs.ItemOperands.{itemOperands}
 use Rattle.binding.proofs.OperandLaws.{operands-more, below-next, items-are}

@@ -12,14 +12,14 @@ use Rattle.frames.specs.Sheet.{frameAt}
 use Rattle.frame_tests.specs.Faults.{isAtom}
 use Rattle.kinds.specs.Kinds.{kinds, kindAt}
 use Rattle.model.specs.Atoms.{Operand, Atom, Eq}
-use Rattle.model.specs.Bound.{Bound, has, most}
+use Rattle.model.specs.Bound.{Bound, has, boundMost}
 use Rattle.model.specs.Premises.{numbersBelow}
 use Rattle.model.specs.Scheduling.{atomOf}
 use Rattle.cost.specs.QueryAtoms.{operandsFrom, atomOfFrame}
 use Rattle.cost.specs.Emitters.{Emitters, decode, from, emitterOf, setEmitter, setElements, copyEmitter, recordAtom, recordEmitters}
 use Rattle.lowering.specs.AtomLines.{AtomLine, scansKind}
 use Rattle.binding.specs.ItemOperands.{itemOperands}
-use Rattle.passes.specs.Eager.{atomsOf, Located}
+use Rattle.passes.specs.Eager.{sheetAtoms, Located}
 use Rattle.lowering.proofs.AtomLaws.{by-kind, scanning}
 use Rattle.recording.specs.Items.{setItems}
 use Rattle.recording.proofs.ItemLaws.{children-are, elements-are}

@@ -2,14 +2,14 @@
 ghost use mathlib.Core.Path.{_≡_};
 ghost use Prim.Native.Nat.{_≤_};
 ghost use lib.ListN.{length, take};
-ghost use Rattle.model.specs.Bound.{most};
+ghost use Rattle.model.specs.Bound.{boundMost};
 ghost use Rattle.recording.specs.Changed.{changedFrom};
 use binding::sets::is_set;
 use fields::field::narrow;
 
 // The numbers of those of the first n atoms whose use has changed, from the lowest on. How many they are.
 pub fn changed(before: &[bool], used: &[bool], n: usize, list: &mut [u8]) -> usize
-    requires { ⌜ n ≤ most ⌝ }
+    requires { ⌜ n ≤ boundMost ⌝ }
     requires { ⌜ n ≤ length (now list) ⌝ }
     ensures { λ r. ⌜ take r (now (list .exit)) ≡ changedFrom (now (before .entry)) (now (used .entry)) 0 n ⌝ }
 {

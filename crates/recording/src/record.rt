@@ -6,13 +6,13 @@ ghost use Prim.Native.Nat.{ℕ, _+_, _*_, _<_, _≤_};
 ghost use lib.ListN.{length, getD, take};
 ghost use lib.Dec.{ltb};
 ghost use Rattle.model.specs.Atoms.{localOf};
-ghost use Rattle.model.specs.Bound.{most};
+ghost use Rattle.model.specs.Bound.{boundMost};
 ghost use Rattle.model.specs.Premises.{numbersBelow};
 ghost use Rattle.cost.specs.QueryAtoms.{operandsFrom, atomOfFrame};
 ghost use Rattle.cost.specs.Emitters.{decode, from, setEmitter, recordAtom};
 ghost use Rattle.lowering.specs.AtomLines.{AtomLine};
 ghost use Rattle.binding.specs.ItemOperands.{itemOperands};
-ghost use Rattle.passes.specs.Eager.{Located, atomsOf};
+ghost use Rattle.passes.specs.Eager.{Located, sheetAtoms};
 ghost use Rattle.recording.specs.Items.{itemEmitter, setItems};
 ghost use Rattle.recording.specs.Changed.{recordNumber, recordNumbers};
 use emitters::numbers::copy_emitter;
@@ -78,7 +78,7 @@ fn record_scan(em: &mut [u32], frame: &[u8], a: u8, k: u8)
 // The emitters behind atom number k, by its frame.
 pub fn record_atom(em: &mut [u32], frame: &[u8], k: u8)
     requires { ⌜ AtomLine (now frame) ⌝ }
-    requires { ⌜ length (now em) ≡ most ⌝ }
+    requires { ⌜ length (now em) ≡ boundMost ⌝ }
     ensures { λ _. ⌜ map decode (now (em .exit)) ≡ recordAtom (map decode (now (em .entry))) k (atomOfFrame (now (frame .entry))) ⌝ }
 {
     let kind = byte_at(frame, 0);
@@ -99,8 +99,8 @@ pub fn record_atom(em: &mut [u32], frame: &[u8], k: u8)
 // Atom number k, where there is one.
 fn record_number(em: &mut [u32], sheet: &[u8], from: &[u16], n: usize, k: u8)
     requires { ⌜ Located (now sheet) (now from) n ⌝ }
-    requires { ⌜ length (now em) ≡ most ⌝ }
-    ensures { λ _. ⌜ map decode (now (em .exit)) ≡ recordNumber (atomsOf (now (sheet .entry))) (map decode (now (em .entry))) k ⌝ }
+    requires { ⌜ length (now em) ≡ boundMost ⌝ }
+    ensures { λ _. ⌜ map decode (now (em .exit)) ≡ recordNumber (sheetAtoms (now (sheet .entry))) (map decode (now (em .entry))) k ⌝ }
 {
     let i = wide(k);
     if n <= i {
@@ -112,8 +112,8 @@ fn record_number(em: &mut [u32], sheet: &[u8], from: &[u16], n: usize, k: u8)
 // The atoms with the first m numbers of a list, in its order.
 pub fn record_numbers(em: &mut [u32], sheet: &[u8], from: &[u16], n: usize, list: &[u8], m: usize)
     requires { ⌜ Located (now sheet) (now from) n ⌝ }
-    requires { ⌜ length (now em) ≡ most ⌝ }
-    ensures { λ _. ⌜ map decode (now (em .exit)) ≡ recordNumbers (atomsOf (now (sheet .entry))) (take m (now (list .entry))) (map decode (now (em .entry))) ⌝ }
+    requires { ⌜ length (now em) ≡ boundMost ⌝ }
+    ensures { λ _. ⌜ map decode (now (em .exit)) ≡ recordNumbers (sheetAtoms (now (sheet .entry))) (take m (now (list .entry))) (map decode (now (em .entry))) ⌝ }
 {
     let mut j: usize = 0;
     while j < list.len() {

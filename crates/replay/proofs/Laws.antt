@@ -7,7 +7,7 @@ use native.Mathlib.Omega.{arith}
 use lib.ListN.{length, getD, take, set, length-set}
 use lib.Seq.{take-suc, take-suc-set}
 use Rattle.hex.specs.Digits.{bytesOf}
-use Rattle.hex.specs.Bytes.{bytes-length}
+use Rattle.hex.proofs.Bytes.{bytes-length}
 
 -- i bytes of the line's stand at the start of the buffer, which was t₀
 pub record Decoded (l t₀ t : List ℕ) (i : ℕ) : Type 0 where

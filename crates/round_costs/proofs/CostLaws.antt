@@ -13,11 +13,11 @@ use Rattle.frame_tests.specs.declared.tests.Text.the-variants.{Query}
 use Rattle.first_reading.specs.declared.first.Reading.{Reading}
 use Rattle.first_reading.specs.declared.first.Reading.the-variants.{Accepted, Refused}
 use Rattle.second_reading.specs.Second.{reading}
-use Rattle.passes.specs.Eager.{atomsOf}
+use Rattle.passes.specs.Eager.{sheetAtoms}
 use Rattle.cost_bits.specs.CostBits.{costBits}
 use Rattle.scheduling.specs.Rounds.{Rounded}
 use Rattle.scheduling.specs.declared.schedule.Scheduled.{Scheduled}
-use Rattle.round_costs.specs.Costs.{roundOf, told, Result, resultOf, roundCosts}
+use Rattle.round_costs.specs.Costs.{roundOf, told, Result, roundResult, roundCosts}
 use Rattle.cost_bits.specs.ToldBits.{bitsIn}
 use Rattle.round_costs.specs.declared.rounds.RoundCosts.the-variants.{Chosen, Ended, Refused as Refuses}
 
@@ -29,10 +29,10 @@ use Rattle.round_costs.specs.declared.rounds.RoundCosts.the-variants.{Ch
 
 module _ (x : List ℕ) (round : ℕ) (costs : List ℕ) (s : Scheduled) (h : Rounded x round costs s) (out o : List ℕ) where
   -- none was found
-  pub told-ended : (n : ℕ) → not (s .found) ≡ true → o ≡ bitsIn (take (pick (s .found) n 0) costs) (length out) → resultOf Ended o ≡ told (roundOf (framesIn x) round) out
+  pub told-ended : (n : ℕ) → not (s .found) ≡ true → o ≡ bitsIn (take (pick (s .found) n 0) costs) (length out) → roundResult Ended o ≡ told (roundOf (framesIn x) round) out
   told-ended n l e = rw (e, h .order .chosen, not-true (s .found) l)
 
-  pub told-chosen : (n : ℕ) → n ≡ length (atomsOf x) → n ≤ length costs → not (s .found) ≡ false → o ≡ bitsIn (take (pick (s .found) n 0) costs) (length out) → resultOf (Chosen (s .who)) o ≡ told (roundOf (framesIn x) round) out
+  pub told-chosen : (n : ℕ) → n ≡ length (sheetAtoms x) → n ≤ length costs → not (s .found) ≡ false → o ≡ bitsIn (take (pick (s .found) n 0) costs) (length out) → roundResult (Chosen (s .who)) o ≡ told (roundOf (framesIn x) round) out
   told-chosen n c r l e =
       let q : take n costs ≡ map costBits (roundOf (framesIn x) round .costs) = ap (λ (k : ℕ). take k costs) c ∙ h .costs-are (omega arith) in
       rw (e, h .order .chosen, not-false (s .found) l, q)
@@ -40,7 +40,7 @@ module _ (x : List ℕ) (round : ℕ) (costs : List ℕ) (s : Scheduled) (h : Ro
 -- ---- the entry, by what the reading says
 
 module _ (x : List ℕ) (round : ℕ) (o : List ℕ) (v : Reading) (is : v ≡ reading Query x) where
-  pub costs-back : (k l : ℕ) → v ≡ Refused k l → resultOf (Refuses k l) o ≡ roundCosts x round o
+  pub costs-back : (k l : ℕ) → v ≡ Refused k l → roundResult (Refuses k l) o ≡ roundCosts x round o
   unfolding roundCosts
   costs-back k l e = rw (← is, e)
 

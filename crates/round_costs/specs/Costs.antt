@@ -29,14 +29,14 @@ pub record Result : Type 0 where
   pub output : List ℕ
 
 -- the atom chosen; no candidate; or number and line
-abbrev pub answerOf : RoundCosts → Answer
-answerOf (Chose i) = Chosen i
-answerOf Over = Ended
-answerOf (Refuses k l) = Invalid k l
+abbrev pub roundAnswer : RoundCosts → Answer
+roundAnswer (Chose i) = Chosen i
+roundAnswer Over = Ended
+roundAnswer (Refuses k l) = Invalid k l
 
 -- "result and lent output follow from the inputs, refusals too"
-abbrev pub resultOf : RoundCosts → List ℕ → Result
-resultOf r o = record { answer = answerOf r; output = o }
+abbrev pub roundResult : RoundCosts → List ℕ → Result
+roundResult r o = record { answer = roundAnswer r; output = o }
 
 -- what is remembered of round number r of a query with the frames fs, or of the last one where the rounds have ended before
 abbrev pub roundOf : List (List ℕ) → ℕ → Memory

@@ -4,7 +4,7 @@ ghost use Rattle.frames.specs.Sheet.{framesIn};
 ghost use Rattle.indexing.specs.Index.{Indexed};
 ghost use Rattle.reading.specs.IndexedReading.{Lent};
 ghost use Rattle.ordering.specs.Accepts.{Accepts};
-ghost use Rattle.round_costs.specs.Costs.{roundOf, told, resultOf, roundCosts};
+ghost use Rattle.round_costs.specs.Costs.{roundOf, told, roundResult, roundCosts};
 use cost_bits::bits::NO_COST;
 use cost_bits::told::put_round;
 use first_reading::first::Reading;
@@ -37,7 +37,7 @@ pub enum RoundCosts {
 fn costs_accepted(sheet: &[u8], index: &[u16], round: usize, out: &mut [u64]) -> RoundCosts
     requires { ⌜ Accepts (now sheet) ⌝ }
     requires { ⌜ Indexed (now sheet) (now index) ⌝ }
-    ensures { λ r. ⌜ resultOf r (now (out .exit)) ≡ told (roundOf (framesIn (now (sheet .entry))) round) (now (out .entry)) ⌝ }
+    ensures { λ r. ⌜ roundResult r (now (out .exit)) ≡ told (roundOf (framesIn (now (sheet .entry))) round) (now (out .entry)) ⌝ }
 {
     let mut from = [0u16; 128];
     let n = atom_places(sheet, &mut from);
@@ -59,7 +59,7 @@ fn costs_by(
     costs: &mut [u64],
 ) -> RoundCosts
     requires { ⌜ Lent (now text) (now sheet) (now index) ⌝ }
-    ensures { λ r. ⌜ resultOf r (now (costs .exit)) ≡ roundCosts (now (text .entry)) round (now (costs .entry)) ⌝ }
+    ensures { λ r. ⌜ roundResult r (now (costs .exit)) ≡ roundCosts (now (text .entry)) round (now (costs .entry)) ⌝ }
 {
     match read_indexed(Text::Query, text, sheet, index) {
         Reading::Refused(k, line) => RoundCosts::Refused(k, line),
@@ -72,7 +72,7 @@ fn costs_by(
 
 // The costs of round number `round` of a query, as bits: all ones for an atom that is no candidate, and past the atoms.
 pub fn round_costs(text: &[u8], round: usize, costs: &mut [u64]) -> RoundCosts
-    ensures { λ r. ⌜ resultOf r (now (costs .exit)) ≡ roundCosts (now (text .entry)) round (now (costs .entry)) ⌝ }
+    ensures { λ r. ⌜ roundResult r (now (costs .exit)) ≡ roundCosts (now (text .entry)) round (now (costs .entry)) ⌝ }
 {
     if text.len() <= TINY_TEXT {
         let mut sheet = [0u8; TINY_SHEET];

@@ -8,11 +8,11 @@ use lib.ListN.{length, getD}
 use Rattle.packing.specs.Packed.{packedRefusal}
 use Rattle.hex.specs.Digits.{bytesOf}
 use Rattle.hex_lines.specs.Lines.{lineAt}
-use Rattle.first_reading.specs.First.{first-line}
+use Rattle.first_reading.proofs.ReadingLaws.{first-line}
 use Rattle.running.specs.Run.{matchLine, lineText, Replies}
 use Rattle.output.specs.Written.{written, Puts}
 use Rattle.bindings.specs.Envs.{envOf}
-use Rattle.bindings.specs.MatchLines.{textBy}
+use Rattle.match_lines.specs.MatchLines.{textBy}
 use Rattle.bindings.specs.declared.env.Env.{Env}
 use Rattle.runner.proofs.HaltLaws.{text-length}
 use Rattle.entries.specs.Outcomes.{replyOf}

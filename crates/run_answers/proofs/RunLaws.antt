@@ -3,9 +3,10 @@ use Prim.Native.Nat.{ℕ, _<_}
 use mathlib.Core.Path.{_≡_, sym, ap, _∙_}
 use native.Mathlib.Omega.{arith}
 use Rattle.packing.specs.Packed.{packedRefusal, packedWritten}
-use Rattle.packing.specs.Unpacked.{TellsRefusal, refusal-told}
+use Rattle.packing.specs.Unpacked.{TellsRefusal}
+use Rattle.packing.proofs.UnpackedLaws.{refusal-told}
 use Rattle.model.specs.Limits.{Status, Done, Spent, Full}
-use Rattle.running.specs.RefusalBounds.{Within}
+use Rattle.running.proofs.RefusalBounds.{Within}
 use Rattle.runner.specs.Halts.{statusNumber}
 use Rattle.entries.specs.Outcomes.{statusOf, outcomeOf}
 use Rattle.entries.specs.declared.run.Status.{Status as StatusAs}

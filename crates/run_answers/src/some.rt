@@ -6,11 +6,11 @@ ghost use Rattle.running.specs.Run.{matchLine, lineText};
 ghost use Rattle.entries.specs.Outcomes.{replyOf};
 ghost use Rattle.run_answers.specs.Replied.{placed, Tells};
 use bindings::env::Env;
-use bindings::lines::line_length;
-use bindings::lines::write_match;
 use entries::some::Reply;
 use hex::line::byte_at;
 use hex_lines::reader::line_from;
+use match_lines::lines::line_length;
+use match_lines::lines::write_match;
 use packing::refusal;
 
 // Writes the line of a match where it has room; the plan's header gives the counts.

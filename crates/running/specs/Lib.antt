@@ -2,11 +2,5 @@
 pub mod Tables
 pub mod Validation
 pub mod Run
--- Theorems
-pub mod Refusals
-pub mod RefusalBounds
-pub mod Second
-pub mod DistinctRows
-pub mod TableRows
-pub mod LineTexts
+-- The worked run, and refusals
 pub mod Examples

@@ -18,8 +18,8 @@ use Rattle.cost.specs.declared.memo.Sampling.{Sampling}
 use Rattle.cost.specs.Sampling.{Tally, afterEstimate}
 use Rattle.cost.specs.Emitters.{Emitter, decode}
 use Rattle.cost.specs.Memo.{tallyAt}
-use Rattle.cost.specs.QueryAtoms.{operandAt}
-use Rattle.cost.specs.Costs.{Sampled′, estimate, sampledBy, sampled}
+use Rattle.records.specs.Lookups.{operandAt}
+use Rattle.cost.specs.Costs.{Estimated, estimate, sampledBy, sampled}
 use Rattle.samples.specs.Remembering.{numberKey, Samples, Remembers, Gives}
 use Rattle.samples.specs.declared.memo.Sample.{Sample}
 
@@ -27,7 +27,7 @@ pub some-number : (e : ℕ) → (e ≡ 0 → ⊥) → 0 < e
 some-number zero h = absurd (h refl)
 some-number (suc c) h = omega arith
 
-nothing-gives : (fs : List (List ℕ)) (how : Sampled) (ks : List ℕ) (xs : List Float) (s : Sampling) (r : Sample) (o : Sampled′) → Remembers fs how ks xs s → r ≡ record { fan = Unmeasured; tallies = s } → o ≡ record { value = none; tally = tallyAt ks s } → Gives fs how ks xs r o
+nothing-gives : (fs : List (List ℕ)) (how : Sampled) (ks : List ℕ) (xs : List Float) (s : Sampling) (r : Sample) (o : Estimated) → Remembers fs how ks xs s → r ≡ record { fan = Unmeasured; tallies = s } → o ≡ record { value = none; tally = tallyAt ks s } → Gives fs how ks xs r o
 nothing-gives fs how ks xs s r o m a e = rw (a, e) record { fan = refl; tally = refl; memo = m }
 
 module _ (fs : List (List ℕ)) (em f : List ℕ) (j o path place : ℕ) (how : Sampled) (ks : List ℕ) (xs : List Float) (s : Sampling) (m : Remembers fs how ks xs s) (b : ℕ) (is : b ≡ getD f j 0) where

@@ -11,11 +11,10 @@ use Rattle.query.specs.Statistics.{settings}
 use Rattle.query.specs.declared.statistics.Sampled.{Sampled}
 use Rattle.query.specs.declared.statistics.Sampled.the-variants.{On}
 use Rattle.cost.specs.Sampling.{measure, valueOf}
-use Rattle.cost.specs.Memo.{entryKey, hasValue, tallyAt}
-use Rattle.cost.specs.Costs.{Sampled′, orMeasured}
+use Rattle.cost.specs.Memo.{entryKey, hasValue, tallyAt, keysMost}
+use Rattle.cost.specs.Costs.{Estimated, orMeasured}
 use Rattle.cost.specs.declared.memo.Sampling.{Sampling}
 use Rattle.cost.specs.declared.probes.Key.{Key}
-use Rattle.plan_facts.specs.Remembered.{keysMost}
 use Rattle.samples.specs.declared.memo.Sample.{Sample}
 use Rattle.memo_entries.specs.Remembered.{memoValue}
 
@@ -40,7 +39,7 @@ pub record Remembers (fs : List (List ℕ)) (how : Sampled) (keys : List ℕ) (v
   pub is : (cfg : SamplerConfig) → how ≡ On cfg → (j : ℕ) → j < s .count → memoValue (hasValue (getD keys j 0)) (getD values j zero64) ≡ valueOf (measure fs cfg (entryKey (getD keys j 0)))
 
 -- r is the sampled value o, and the arrays are what is remembered behind it
-pub record Gives (fs : List (List ℕ)) (how : Sampled) (keys : List ℕ) (values : List Float) (r : Sample) (o : Sampled′) : Type 0 where
+pub record Gives (fs : List (List ℕ)) (how : Sampled) (keys : List ℕ) (values : List Float) (r : Sample) (o : Estimated) : Type 0 where
   pub fan : r .fan ≡ orMeasured (o .value) Unmeasured
   pub tally : tallyAt keys (r .tallies) ≡ o .tally
   pub memo : Remembers fs how keys values (r .tallies)

@@ -9,7 +9,7 @@ ghost use Rattle.measure.specs.declared.FanOut.the-variants.{Unmeasured};
 ghost use Rattle.cost.specs.Costs.{sampled as sampledOf};
 ghost use Rattle.cost.specs.Emitters.{decode};
 ghost use Rattle.cost.specs.Memo.{tallyAt};
-ghost use Rattle.cost.specs.QueryAtoms.{operandAt};
+ghost use Rattle.records.specs.Lookups.{operandAt};
 ghost use Rattle.samples.specs.Remembering.{numberKey, Samples, Remembers, Gives};
 use super::memo::Sample;
 use super::memo::estimate;

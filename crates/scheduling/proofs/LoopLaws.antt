@@ -12,8 +12,10 @@ use borrow.Author.Tests.{not-true, not-false}
 use Rattle.base.specs.Choose.{pick}
 use Rattle.frames.specs.Sheet.{framesIn}
 use Rattle.model.specs.Atoms.{Atom, Step}
-use Rattle.model.specs.Bound.{Bound, has, add, most, blank, has-blank}
-use Rattle.model.specs.Tabulate.{tabulate, tabulate-length, tabulate-mem}
+use Rattle.model.specs.Bound.{Bound, has, add, boundMost, blank}
+use Rattle.model.proofs.BoundLaws.{has-blank}
+use Rattle.model.specs.Tabulate.{tabulate}
+use Rattle.model.proofs.TabulateLaws.{tabulate-length, tabulate-mem}
 use Rattle.model.specs.Lowering.{Lowered, done}
 use Rattle.model.specs.Scheduling.{State, Chosen, Progress, scans, unlowered, lowerEager, emitAt, goOn, roundsUpTo, atomOf, numbers}
 use Rattle.model.specs.Cheapest.{Bid, Scan, scan, bidder, better, wants, cheapest}
@@ -21,11 +23,12 @@ use Rattle.query.specs.declared.statistics.Sampled.{Sampled}
 use Rattle.cost.specs.Emitters.{Emitters, recordAtom, recordEmitters}
 use Rattle.cost.specs.Sampling.{Tally}
 use Rattle.cost.specs.Costs.{Costed, estimateCost}
-use Rattle.cost.specs.Memo.{memoAt, tallyAt}
-use Rattle.cost.specs.Choice.{Memory, offers, recorded, cost, emittedBy, byCost, choose, choose-fair, roundsFrom, rounds, planned, remembered}
+use Rattle.cost.specs.Memo.{memoAt, tallyAt, keysMost}
+use Rattle.cost.specs.Choice.{Memory, offers, recorded, cost, emittedBy, byCost, choose, roundsFrom, rounds, planned, remembered}
+use Rattle.cost.proofs.ChoiceLaws.{choose-fair}
 use Rattle.cost.specs.declared.memo.Sampling.{Sampling}
-use Rattle.plan_facts.specs.Remembered.{keysMost, loop-grows}
-use Rattle.passes.specs.Eager.{state, Went, Located, Ready, atomsOf}
+use Rattle.plan_facts.proofs.Remembered.{loop-grows}
+use Rattle.passes.specs.Eager.{state, Went, Located, Ready, sheetAtoms}
 use Rattle.passes.proofs.EagerLaws.{lowered-then}
 use Rattle.samples.specs.Remembering.{Remembers}
 use Rattle.bidding.specs.Bidding.{bidOf, orBest}
@@ -94,12 +97,12 @@ module _ (x : List ℕ) where
   fs = framesIn x
 
   abbrev qs : List Atom
-  qs = atomsOf x
+  qs = sheetAtoms x
 
   -- c atoms are lowered: the first of the order
   pub record Sofar (steps : List Step) (U B : Bound) (O : List ℕ) (c : ℕ) : Type 0 where
-    pub lowered : Lowered (atomOf (atomsOf x)) blank steps B (take c O)
-    pub known : (k : ℕ) → List·Memᴰ k (take c O) → List·Memᴰ k (numbers (atomsOf x))
+    pub lowered : Lowered (atomOf (sheetAtoms x)) blank steps B (take c O)
+    pub known : (k : ℕ) → List·Memᴰ k (take c O) → List·Memᴰ k (numbers (sheetAtoms x))
     pub ready : Ready x U B O c
 
   sofar-then : (go : State → State) (steps : List Step) (U B : Bound) (O : List ℕ) (c : ℕ) (U′ C : Bound) (P : List ℕ) (d : ℕ) → Sofar steps U B O c → (w : Went (atomOf qs) (numbers qs) go U B O c U′ C P d) → Sofar (steps ++ w .steps) U′ C P d
@@ -118,9 +121,9 @@ module _ (x : List ℕ) where
     pub steps : List Step
     pub noted : List (Option Float)
     pub latest : Option ℕ
-    pub plans : rounds (framesIn x) (atomsOf x) (suc last) ≡ roundsFrom (framesIn x) (atomsOf x) (suc left) (record { emitters = emittersOf d; before = d .before; tally = tallyAt keys s; costs = noted; chosen = latest }) (state (d .used) (d .bound) steps)
+    pub plans : rounds (framesIn x) (sheetAtoms x) (suc last) ≡ roundsFrom (framesIn x) (sheetAtoms x) (suc left) (record { emitters = emittersOf d; before = d .before; tally = tallyAt keys s; costs = noted; chosen = latest }) (state (d .used) (d .bound) steps)
     pub sofar : Sofar steps (d .used) (d .bound) (d .order) (d .count)
-    pub emitters : length (d .emitters) ≡ most
+    pub emitters : length (d .emitters) ≡ boundMost
     pub memo : Remembers (framesIn x) how keys values s
     pub keys-size : length keys ≡ length keys₀
     pub values-size : length values ≡ length values₀
@@ -182,7 +185,7 @@ module _ (x : List ℕ) where
     pub prepared : Prepared x d
     prepared = record { ready = r .sofar .ready; emitters = r .emitters }
 
-    pub round-room : length (rounds (framesIn x) (atomsOf x) (suc last) .memory .tally .memo) ≤ length keys₀ → RoundRoom x d keys s
+    pub round-room : length (rounds (framesIn x) (sheetAtoms x) (suc last) .memory .tally .memo) ≤ length keys₀ → RoundRoom x d keys s
     round-room l =
         let g = choice-grows (emittersOf d) (d .before) (tallyAt keys s) (r .noted) (r .latest) (state (d .used) (d .bound) (r .steps)) left in
         record { steps = r .steps; room = omega (arith, subst (λ (m : Progress Memory). length (choice fs qs (emittersOf d) (d .before) (tallyAt keys s) (r .noted) (r .latest) (lowerEager (atomOf qs) (numbers qs) (state (d .used) (d .bound) (r .steps))) .next .memo) ≤ length (m .memory .tally .memo)) (sym (r .plans)) g, r .keys-size) }
@@ -261,7 +264,7 @@ module _ (x : List ℕ) where
         pub next-below : q .best .who < n
         next-below = rw (z .count) (mem-below (length qs) (q .best .who) (choose-fair fs qs .known before now-state (q .best .who) at-some))
 
-        pub next-scans : scans (atomOf (atomsOf x) (q .best .who)) ≡ true
+        pub next-scans : scans (atomOf (sheetAtoms x) (q .best .who)) ≡ true
         next-scans = choose-fair fs qs .scanning before now-state (q .best .who) at-some
 
         pub next-unused : has (q .state .used) (q .best .who) ≡ false

@@ -6,8 +6,8 @@ ghost use lib.ListN.{length};
 ghost use Rattle.frames.specs.Sheet.{framesIn};
 ghost use Rattle.indexing.specs.Index.{Indexed};
 ghost use Rattle.cost.specs.Choice.{rounds};
-ghost use Rattle.plan_facts.specs.Remembered.{keysMost};
-ghost use Rattle.passes.specs.Eager.{Located, atomsOf};
+ghost use Rattle.cost.specs.Memo.{keysMost};
+ghost use Rattle.passes.specs.Eager.{Located, sheetAtoms};
 ghost use Rattle.prices.specs.Prices.{Priced};
 ghost use Rattle.samples.specs.Remembering.{Samples};
 ghost use Rattle.scheduling.specs.Rounds.{Rounded};
@@ -60,7 +60,7 @@ pub fn schedule(
     requires { ⌜ Located (now sheet) (now from) n ⌝ }
     requires { ⌜ Samples (framesIn (now sheet)) how ⌝ }
     requires { ⌜ (length (now values) ≡ length (now keys)) × (length (now keys) ≤ keysMost) ⌝ }
-    requires { ⌜ length (rounds (framesIn (now sheet)) (atomsOf (now sheet)) (suc last) .memory .tally .memo) ≤ length (now keys) ⌝ }
+    requires { ⌜ length (rounds (framesIn (now sheet)) (sheetAtoms (now sheet)) (suc last) .memory .tally .memo) ≤ length (now keys) ⌝ }
     requires { ⌜ Indexed (now sheet) (now index) ⌝ }
     requires { ⌜ Priced (now sheet) (now from) n (now prices) ⌝ }
     ensures { λ r. ⌜ Rounded (now (sheet .entry)) last (now (costs .exit)) r ⌝ }

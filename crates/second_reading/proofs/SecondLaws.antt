@@ -14,7 +14,8 @@ use Rattle.fields.specs.Fields.{fieldPasses}
 use Rattle.kinds.specs.Kinds.{kindAt}
 use Rattle.frames.specs.Frames.{kindOf, framePasses}
 use Rattle.frames.specs.Sheet.{frameAt, framesIn, Whole}
-use Rattle.first_reading.specs.First.{orElse, or-stops}
+use Rattle.first_reading.specs.First.{orElse}
+use Rattle.first_reading.proofs.ReadingLaws.{or-stops}
 use Rattle.fields.specs.declared.field.Counts.{Counts}
 use Rattle.fields.specs.declared.field.Test.the-variants.{Range, Reals}
 use Rattle.frame_tests.specs.declared.tests.Text.{Text}
@@ -144,8 +145,8 @@ module _ (n : Counts) (s : List ℕ) (a : Reading) (i₀ i : List ℕ) (at k m :
       unfolding secondFrom
       says = q .is ∙ rw (step, ← fault-here)
 
-      pub frame-turned-back : (v ≡ 0 → ⊥) → Rereads n s a i (Refused v (k + 1))
-      frame-turned-back z = record {
+      pub frame-refused : (v ≡ 0 → ⊥) → Rereads n s a i (Refused v (k + 1))
+      frame-refused z = record {
         is = sym (says ∙ or-stops v k _ z ∙ rw (add-one k));
         indexed = λ b c p. let y : _≡_ {A = ℕ} 0 1 = cc in absurd (omega arith);
       }

@@ -6,9 +6,9 @@ use native.Mathlib.Omega.{arith}
 use lib.ListN.{length, getD}
 use Rattle.kinds.specs.Kinds.{kinds, kindAt}
 use Rattle.cost.specs.QueryAtoms.{operandsFrom, bytesFrom, atomOfFrame}
-use Rattle.cost.specs.Operands.{operands-length}
+use Rattle.cost.proofs.Operands.{operands-length}
 use Rattle.plans.specs.StepFrames.{operandBytes, elementsOf, elementBytes, frameOf}
-use Rattle.plans.specs.StepsPass.{elements-length}
+use Rattle.plans.proofs.StepsPass.{elements-length}
 use Rattle.step_bytes.specs.Pieces.{itemsBytes}
 use Rattle.step_bytes.specs.Begun.{Opens}
 

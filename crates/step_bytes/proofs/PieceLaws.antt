@@ -14,8 +14,9 @@ use Rattle.frames.specs.Frames.{kindOf}
 use Rattle.model.specs.Atoms.{Operand, local, global, wild, tame, ByOp, ByRepr, Join}
 use Rattle.model.specs.Bound.{Bound}
 use Rattle.model.specs.Lowering.{pvIsBound, readChild}
-use Rattle.cost.specs.QueryAtoms.{operandAt, operandsFrom}
-use Rattle.cost.specs.Tame.{operand-tame}
+use Rattle.cost.specs.QueryAtoms.{operandsFrom}
+use Rattle.records.specs.Lookups.{operandAt}
+use Rattle.cost.proofs.Tame.{operand-tame}
 use Rattle.plans.specs.StepFrames.{tagOf, indexOf, lookupBytes, frameOf}
 use Rattle.binding.specs.ItemOperands.{itemOperands}
 use Rattle.binding.proofs.OperandLaws.{items-are}

@@ -6,7 +6,7 @@ use lib.ListN.{getD, take}
 use Rattle.model.specs.Atoms.{Operand, Lookup, ByChildPos, ByContains}
 use Rattle.model.specs.Bound.{Bound}
 use Rattle.model.specs.Lowering.{childLookups, containsLookups}
-use Rattle.cost.specs.QueryAtoms.{operandAt}
+use Rattle.records.specs.Lookups.{operandAt}
 use Rattle.plans.specs.StepFrames.{tagOf, indexOf}
 
 -- a Plain looks its children up by their positions, from i on; any other its elements

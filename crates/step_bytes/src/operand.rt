@@ -4,7 +4,7 @@ ghost use mathlib.Core.List.{[], _∷_, map};
 ghost use Prim.Native.Nat.{_+_, _<_};
 ghost use lib.ListN.{getD};
 ghost use Rattle.model.specs.Lowering.{pvIsBound, readChild};
-ghost use Rattle.cost.specs.QueryAtoms.{operandAt};
+ghost use Rattle.records.specs.Lookups.{operandAt};
 ghost use Rattle.plans.specs.StepFrames.{tagOf, indexOf, lookupBytes, frameOf};
 ghost use Rattle.step_bytes.specs.Pieces.{lookupFor};
 ghost use Rattle.step_bytes.specs.Begun.{Begins};

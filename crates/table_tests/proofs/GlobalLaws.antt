@@ -11,7 +11,8 @@ use Rattle.hex.specs.Digits.{shortAt}
 use Rattle.kinds.specs.Kinds.{kindAt}
 use Rattle.indexing.specs.Index.{Proper}
 use Rattle.frame_keys.specs.Keys.{find}
-use Rattle.model.specs.Tabulate.{tabulate, tabulate-at, tabulate-length}
+use Rattle.model.specs.Tabulate.{tabulate}
+use Rattle.model.proofs.TabulateLaws.{tabulate-at, tabulate-length}
 use Rattle.running.specs.Tables.{classFrom, globalIn, tableIn}
 use Rattle.table_tests.specs.Globals.{GlobalsRead}
 

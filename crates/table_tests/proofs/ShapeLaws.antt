@@ -11,7 +11,7 @@ use lib.ListN.{length, getD, drop, set, replicate, length-set}
 use lib.Seq.{getD-set-same, getD-set-other}
 use borrow.Author.Tests.{eq-eqb, ne-eqb, not-true, not-false, eqb-true}
 use Rattle.base.specs.Choose.{pick}
-use Rattle.base.specs.Lists.{blank-at}
+use Rattle.base.proofs.Lists.{blank-at}
 use Rattle.hex.specs.Digits.{shortAt}
 use Rattle.kinds.specs.Kinds.{table}
 use Rattle.frame_tests.specs.Faults.{isRow}
@@ -19,7 +19,8 @@ use Rattle.frames.specs.Sheet.{frameAt, framesIn}
 use Rattle.frames.proofs.SheetLaws.{frames-end, frame-some, frame-within, frames-step}
 use Rattle.model.specs.Atoms.{Row, Node, Literal, opOf}
 use Rattle.model.specs.Refusing.{allRows}
-use Rattle.records.specs.Items.{itemsAt, items-count}
+use Rattle.records.specs.Items.{itemsAt}
+use Rattle.records.proofs.ItemsLaws.{items-count}
 use Rattle.records.specs.Rows.{rowOf, rowsIn}
 use Rattle.running.specs.Validation.{Verdict, Invalid, ofFault, sameShape, rowFault, withRow, shapesFrom}
 use Rattle.join_tests.specs.Arrays.{shapeOf, fitsShape, Shaped}

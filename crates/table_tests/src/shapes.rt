@@ -3,11 +3,11 @@ ghost use mathlib.Core.Path.{_≡_};
 ghost use Prim.Native.Nat.{_+_, _<_};
 ghost use lib.Dec.{eqb};
 ghost use lib.ListN.{length, replicate};
-ghost use Rattle.frame_tests.specs.Faults.{isRow};
 ghost use Rattle.records.specs.Rows.{rowOf};
 ghost use Rattle.join_tests.specs.Arrays.{shapeOf, fitsShape};
 ghost use Rattle.table_tests.specs.Shapes.{RowNoted, TableNoted};
 use fields::field::wide;
+use frame_tests::tests::is_row;
 use frames::frame::frame_at;
 use hex::byte_at;
 
@@ -16,12 +16,6 @@ pub enum Verdict {
     Passed,
     // number, text and line
     Invalid(u8, u8, usize),
-}
-
-fn is_row(kind: u8) -> bool
-    ensures { λ r. ⌜ r ≡ isRow kind ⌝ }
-{
-    if kind == 0x30 { true } else { kind == 0x31 }
 }
 
 // The shape of a row's frame: 1 for a literal, 2 and its number of children for a node.

@@ -7,12 +7,12 @@ use lib.Dec.{eqb}
 use lib.ListN.{getD}
 use Rattle.base.specs.Choose.{pick}
 use Rattle.model.specs.Atoms.{Operand, local, global, wild, Lookup, ByOp, ByChildPos, ByRepr, ByContains, Join, unset, Table, globalClass}
-use Rattle.model.specs.Lists.{one}
+use Rattle.set_model.specs.Lists.{one}
 use Rattle.model.specs.Bound.{Bound, has, hasNone, hasAll}
 use Rattle.model.specs.Reading.{lookupReads, namedByRepr}
 use Rattle.model.specs.Refusing.{countOps, joinOp, lookupsFit}
 use Rattle.plans.specs.StepFrames.{stepOf}
-use Rattle.plans.specs.StepsRead.{no-join}
+use Rattle.plans.proofs.StepsRead.{no-join}
 use Rattle.running.specs.Validation.{globalOf, lookupGlobals, allGiven, stepFault}
 use Rattle.join_tests.specs.Arrays.{boundIn, pickedIn, opsIn, given, reachFits}
 use Rattle.records.specs.Lookups.{lookupsOf}

@@ -9,12 +9,12 @@ use lib.ListN.{length, getD, set, length-set}
 use borrow.Author.Tests.{eq-eqb, ne-eqb, lt-ltb, eqb-true, not-true, not-false}
 use Rattle.base.specs.Choose.{pick}
 use Rattle.model.specs.Atoms.{Step, Join, ExtractChild, CheckChildEq, CheckEq, CheckEqGlobal, BindGlobal, CopyBinding, Expand, ExtractLitVal, CheckLit, CheckPred, isJoin}
-use Rattle.model.specs.Bools.{true-false}
+use Rattle.model.proofs.Bools.{true-false}
 use Rattle.model.specs.Bound.{Bound, add, put}
 use Rattle.model.specs.Reading.{boundBy, pickedBy}
 use Rattle.model.specs.Refusing.{joinOp, runnable, opsBy}
 use Rattle.plans.specs.StepFrames.{stepOf}
-use Rattle.plans.specs.StepsRead.{no-join}
+use Rattle.plans.proofs.StepsRead.{no-join}
 use Rattle.join_tests.specs.Arrays.{isBound, isPicked, boundIn, pickedIn, opsIn}
 use Rattle.records.specs.Lookups.{lookupsOf}
 use Rattle.validation.specs.Marks.{bindsTarget, boundMark, Markable, Stepped}

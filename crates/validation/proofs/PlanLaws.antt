@@ -8,7 +8,8 @@ use native.Mathlib.Numerals.{add-one}
 use lib.Dec.{ltb}
 use lib.ListN.{length, getD, drop, replicate}
 use borrow.Author.Tests.{ltb-true}
-use Rattle.base.specs.Choose.{pick, both-hold}
+use Rattle.base.specs.Choose.{pick}
+use Rattle.base.proofs.ChooseLaws.{both-hold}
 use Rattle.fields.specs.Limits.{variablesMost}
 use Rattle.kinds.specs.Kinds.{kinds, kindAt, plan}
 use Rattle.fields.specs.Fields.{fieldPasses, fieldIn}
@@ -20,7 +21,7 @@ use Rattle.fields.specs.declared.field.Counts.{Counts}
 use Rattle.fields.specs.declared.field.Test.the-variants.{Range}
 use Rattle.frame_tests.specs.declared.tests.Text.the-variants.{Plan}
 use Rattle.second_reading.specs.Second.{countsOf}
-use Rattle.reading_facts.specs.Whole.{Whole, accepted, Headed, headed}
+use Rattle.reading_facts.proofs.Whole.{Whole, accepted, Headed, headed}
 use Rattle.model.specs.Atoms.{Table}
 use Rattle.model.specs.Bound.{Bound, blank}
 use Rattle.model.specs.Reading.{boundBy, pickedBy, ready}
@@ -82,17 +83,17 @@ pub record Walking (x F G M : List ℕ) (at n : ℕ) : Type 0 where
   pub is : (tb : Table) → Described tb F G → stepsPass tb (stepsIn (framesIn x)) ≡ stepsFrom tb (boundIn M) (pickedIn M) (opsIn M) n (map stepOf (framesIn (drop at x)))
 
 module _ (x : List ℕ) (s : PlanSheet x) (l : List ℕ) (q : l ≡ frameAt x 0) where
-  whole : Whole Plan (s .p) (s .lines) (s .counted)
+  pub whole : Whole Plan (s .p) (s .lines) (s .counted)
   whole = accepted Plan (s .p) (s .lines) (s .counted) (s .accepted)
 
-  head : Headed Plan (s .p) (s .lines) (s .counted)
+  pub head : Headed Plan (s .p) (s .lines) (s .counted)
   head = headed Plan (s .p) (s .lines) (s .counted) (λ z. let y : _≡_ {A = ℕ} 0 1 = cc in omega arith) (s .accepted)
 
-  lines : s .lines ≡ length (framesIn x)
+  pub lines : s .lines ≡ length (framesIn x)
   lines = rw (s .sheet .frames) (whole .lines)
 
   -- an accepted plan has a frame
-  some : 0 < length x
+  pub some : 0 < length x
   some = by (length x) refl
     where
       by : (n : ℕ) → length x ≡ n → 0 < n
@@ -102,7 +103,7 @@ module _ (x : List ℕ) (s : PlanSheet x) (l : List ℕ) (q : l ≡ frameAt x 0)
   from-0 : 0 + length l ≡ length l
   from-0 = omega arith
 
-  behind : framesIn x ≡ l ∷ framesIn (drop (length l) x)
+  pub behind : framesIn x ≡ l ∷ framesIn (drop (length l) x)
   behind = rw from-0 at (frames-step x 0 some l q)
 
   pub header-within : length l ≤ length x
@@ -124,7 +125,7 @@ module _ (x : List ℕ) (s : PlanSheet x) (l : List ℕ) (q : l ≡ frameAt x 0)
 pub walking-start : (x F G l : List ℕ) → PlanReady x F G → l ≡ frameAt x 0 → Walking x F G (replicate 64 0) (length l) 1
 walking-start x F G l r q = walking-none x (r .plan) l q F G
 
-runs : (tb : Table) (B R : Bound) (O f : List ℕ) → 0 ≡ stepFault tb B R O (stepOf f) → runnable (stepOf f) ≡ true
+pub runs : (tb : Table) (B R : Bound) (O f : List ℕ) → 0 ≡ stepFault tb B R O (stepOf f) → runnable (stepOf f) ≡ true
 runs tb B R O f h = by (runnable (stepOf f)) h
   where
     by : (t : Bool) → _≡_ {A = ℕ} 0 (pick t (pick (ready B R (stepOf f)) (pick (fits tb O (stepOf f)) (pick (allGiven tb (globalsOf (stepOf f))) 0 5) 11) 9) 10) → t ≡ true

@@ -8,14 +8,14 @@ use lib.ListN.{length, getD, take, drop, length-take, drop-of-length-le}
 use lib.Seq.{drop-cons, getD-take}
 use Rattle.frames.specs.Sheet.{frameAt}
 use Rattle.model.specs.Atoms.{Atom}
-use Rattle.model.specs.Bound.{Bound, most}
+use Rattle.model.specs.Bound.{Bound, boundMost}
 use Rattle.model.specs.Lowering.{lower}
 use Rattle.model.specs.Scheduling.{atomOf}
 use Rattle.cost.specs.QueryAtoms.{atomOfFrame}
 use Rattle.plans.specs.PlanText.{textOf}
 use Rattle.plans.specs.StepFrames.{frameOf}
 use Rattle.lowering.specs.AtomLines.{AtomLine, boundBehind}
-use Rattle.passes.specs.Eager.{atomsOf, Located}
+use Rattle.passes.specs.Eager.{sheetAtoms, Located}
 use Rattle.output.specs.Written.{PutsFrames}
 use Rattle.output.proofs.PutLaws.{written-size, frames-none, frames-then}
 use Rattle.step_bytes.specs.Begun.{stepsOf}
@@ -40,8 +40,8 @@ module _ (x from : List ℕ) (n : ℕ) (O : List ℕ) (count c k v : ℕ) (z : L
     pub atom-ready : AtomLine l
     atom-ready = line-ready .atom
 
-    atom-is : atomOf (atomsOf x) k ≡ atomOfFrame l
-    atom-is = ap (atomOf (atomsOf x)) (sym wide) ∙ z .is v number ∙ ap (λ (s : List ℕ). atomOfFrame s) (sym line)
+    atom-is : atomOf (sheetAtoms x) k ≡ atomOfFrame l
+    atom-is = ap (atomOf (sheetAtoms x)) (sym wide) ∙ z .is v number ∙ ap (λ (s : List ℕ). atomOfFrame s) (sym line)
 
 -- ---- how many steps
 
@@ -49,7 +49,7 @@ module _ (x from : List ℕ) (n : ℕ) (O : List ℕ) (count c k v : ℕ) (z : L
 pub record Adding (x O : List ℕ) (count sum c : ℕ) : Type 0 where
   pub few : c ≤ count
   pub small : sum ≤ 256 * c
-  pub is : sum + countAlong (atomOf (atomsOf x)) (drop c (take count O)) ≡ countAlong (atomOf (atomsOf x)) (take count O)
+  pub is : sum + countAlong (atomOf (sheetAtoms x)) (drop c (take count O)) ≡ countAlong (atomOf (sheetAtoms x)) (take count O)
 
 pub adding-none : (x O : List ℕ) (count : ℕ) → Adding x O count 0 0
 adding-none x O count = record { few = omega arith; small = omega arith; is = omega arith }
@@ -58,14 +58,14 @@ module _ (x O : List ℕ) (count sum c : ℕ) (m : Adding x O count sum c) where
   pub adding-again : (from : List ℕ) (n k v : ℕ) → Located x from n → Ordered x from n O count → c < count → k ≡ getD O c 0 → v ≡ k → (l : List ℕ) → l ≡ frameAt x (getD from v 0) → (r : ℕ) → r ≡ stepCount (atomOfFrame l) → r ≤ 256 → Adding x O count (sum + r) (c + 1)
   unfolding countAlong
   adding-again from n k v z y h is wide l line r e s =
-      let g : countAlong (atomOf (atomsOf x)) (drop c (take count O)) ≡ r + countAlong (atomOf (atomsOf x)) (drop (c + 1) (take count O)) = rw (next-atom O count c k h (y .within) is, atom-is x from n O count c k v z y h is wide l line, e) in
+      let g : countAlong (atomOf (sheetAtoms x)) (drop c (take count O)) ≡ r + countAlong (atomOf (sheetAtoms x)) (drop (c + 1) (take count O)) = rw (next-atom O count c k h (y .within) is, atom-is x from n O count c k v z y h is wide l line, e) in
       record { few = omega arith; small = omega (arith, m .small); is = omega (arith, m .is) }
 
-  pub added : count ≤ c → sum ≡ countAlong (atomOf (atomsOf x)) (take count O)
+  pub added : count ≤ c → sum ≡ countAlong (atomOf (sheetAtoms x)) (take count O)
   unfolding countAlong
   added h =
       let s : length (take count O) ≤ c = omega (arith, length-take count O) in
-      let g : sum + 0 ≡ countAlong (atomOf (atomsOf x)) (take count O) = rw (drop-of-length-le (take count O) s) at (m .is) in
+      let g : sum + 0 ≡ countAlong (atomOf (sheetAtoms x)) (take count O) = rw (drop-of-length-le (take count O) s) at (m .is) in
       omega arith
 
   pub added-few : (from : List ℕ) (n : ℕ) → Ordered x from n O count → sum ≤ 0x4000
@@ -78,7 +78,7 @@ unfolding stepsAlong
 along-more atomAt B C k ks a h e = rw (h, e) (map-append frameOf (stepsOf (lower B k a)) (stepsAlong atomAt (boundBehind B (lower B k a)) ks))
 
 abbrev linesOf : List ℕ → Bound → List ℕ → List (List ℕ)
-linesOf x B ks = map frameOf (stepsAlong (atomOf (atomsOf x)) B ks)
+linesOf x B ks = map frameOf (stepsAlong (atomOf (sheetAtoms x)) B ks)
 
 -- the lines of c atoms are put, and those left give the rest
 pub record Writing (x O : List ℕ) (count : ℕ) (B₀ : Bound) (o₀ : List ℕ) (from : ℕ) (B : Bound) (o : List ℕ) (at c : ℕ) : Type 0 where
@@ -94,7 +94,7 @@ pub writing-none : (x O : List ℕ) (count : ℕ) (B : Bound) (o : List ℕ) (fr
 writing-none x O count B o from = record { few = omega arith; room = omega arith; bound = refl; size = refl; done = []; puts = frames-none o from; rest = refl }
 
 module _ (x O : List ℕ) (count : ℕ) (B₀ : Bound) (o₀ : List ℕ) (start : ℕ) (B : Bound) (o : List ℕ) (at c : ℕ) (m : Writing x O count B₀ o₀ start B o at c) where
-  pub bound-sized : length B₀ ≡ most → length B ≡ most
+  pub bound-sized : length B₀ ≡ boundMost → length B ≡ boundMost
   bound-sized h = m .bound ∙ h
 
   pub writing-again : (from : List ℕ) (n k v : ℕ) → Located x from n → Ordered x from n O count → c < count → k ≡ getD O c 0 → v ≡ k → (l : List ℕ) → l ≡ frameAt x (getD from v 0) → (C : Bound) (q : List ℕ) (r : ℕ) → length C ≡ length B → C ≡ boundBehind B (lower B k (atomOfFrame l)) → Emits B k (atomOfFrame l) o at q r → Writing x O count B₀ o₀ start C q r (c + 1)
@@ -112,7 +112,7 @@ module _ (x O : List ℕ) (count : ℕ) (B₀ : Bound) (o₀ : List ℕ) (start 
       F = map frameOf (stepsOf (lower B k (atomOfFrame l)))
 
       more : linesOf x B (drop c (take count O)) ≡ F ++ linesOf x C (drop (c + 1) (take count O))
-      more = ap (linesOf x B) (next-atom O count c k h (y .within) is) ∙ along-more (atomOf (atomsOf x)) B C k (drop (c + 1) (take count O)) (atomOfFrame l) (atom-is x from n O count c k v z y h is wide l line) e
+      more = ap (linesOf x B) (next-atom O count c k h (y .within) is) ∙ along-more (atomOf (sheetAtoms x)) B C k (drop (c + 1) (take count O)) (atomOfFrame l) (atom-is x from n O count c k v z y h is wide l line) e
 
   pub steps-put : (from : List ℕ) (n : ℕ) → Ordered x from n O count → count ≤ c → PutsSteps x B₀ (take count O) o₀ start o at
   unfolding stepsAlong

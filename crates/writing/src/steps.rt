@@ -2,11 +2,11 @@
 ghost use mathlib.Core.Path.{_≡_};
 ghost use Prim.Native.Nat.{_+_, _<_, _≤_};
 ghost use lib.ListN.{length, take};
-ghost use Rattle.model.specs.Bound.{most};
+ghost use Rattle.model.specs.Bound.{boundMost};
 ghost use Rattle.model.specs.Scheduling.{atomOf};
 ghost use Rattle.cost.specs.QueryAtoms.{atomOfFrame};
 ghost use Rattle.lowering.specs.AtomLines.{AtomLine};
-ghost use Rattle.passes.specs.Eager.{atomsOf, Located};
+ghost use Rattle.passes.specs.Eager.{sheetAtoms, Located};
 ghost use Rattle.writing.specs.Steps.{stepCount, countAlong, Ordered, PutsSteps};
 use emitting::atom::emit_atom;
 use fields::field::wide;
@@ -27,7 +27,7 @@ pub fn write_steps(
 ) -> usize
     requires { ⌜ Located (now sheet) (now from) n ⌝ }
     requires { ⌜ Ordered (now sheet) (now from) n (now order) count ⌝ }
-    requires { ⌜ length (now bound) ≡ most ⌝ }
+    requires { ⌜ length (now bound) ≡ boundMost ⌝ }
     requires { ⌜ at < 4096 ⌝ }
     ensures { λ r. ⌜ PutsSteps (now (sheet .entry)) (now (bound .entry)) (take count (now (order .entry))) (now (out .entry)) at (now (out .exit)) r ⌝ }
 {
@@ -64,7 +64,7 @@ fn steps_of(frame: &[u8]) -> usize
 pub fn count_steps(sheet: &[u8], from: &[u16], n: usize, order: &[u8], count: usize) -> usize
     requires { ⌜ Located (now sheet) (now from) n ⌝ }
     requires { ⌜ Ordered (now sheet) (now from) n (now order) count ⌝ }
-    ensures { λ r. ⌜ (r ≡ countAlong (atomOf (atomsOf (now (sheet .entry)))) (take count (now (order .entry)))) × (r ≤ 0x4000) ⌝ }
+    ensures { λ r. ⌜ (r ≡ countAlong (atomOf (sheetAtoms (now (sheet .entry)))) (take count (now (order .entry)))) × (r ≤ 0x4000) ⌝ }
 {
     let mut sum: usize = 0;
     let mut c: usize = 0;

@@ -1,5 +1,5 @@
 -- `measured_answer` meets its contract: each way by its tests, the last by what `estimate_draws` ensures. Assumes nothing.
-use Rattle.base.specs.Choose.{tests}
+use Rattle.base.proofs.ChooseLaws.{tests}
 use Rattle.bit_patterns.proofs.Laws.{measured-at-last}
 use borrow.Author.Needs.{needs}
 use Rattle.bit_patterns.proofs.measured_answer.Statement.{statement}

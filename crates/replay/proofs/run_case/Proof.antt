@@ -1,5 +1,5 @@
 -- `replay::run_case` meets its contract: the parts that are read are as long as they say.
-use Rattle.base.specs.Lists.{taken}
+use Rattle.base.proofs.Lists.{taken}
 use borrow.Author.Needs.{needs}
 use Rattle.replay.proofs.run_case.Statement.{statement}
 use Rattle.replay.proofs.run_case.Tie as tie

@@ -1,5 +1,5 @@
 -- `replay::run_numbers` meets its contract: each part is within the case.
-use Rattle.base.specs.Lists.{taken}
+use Rattle.base.proofs.Lists.{taken}
 use borrow.Author.Needs.{needs}
 use Rattle.replay.proofs.run_numbers.Statement.{statement}
 use Rattle.replay.proofs.run_numbers.Tie as tie

@@ -1,5 +1,5 @@
 -- `binding::operands::pv_mark_bound` meets its contract: by the operand's tag.
-use Rattle.cost.specs.Operands.{local-below}
+use Rattle.cost.proofs.Operands.{local-below}
 use Rattle.binding.proofs.OperandLaws.{global-marked, local-marked}
 use borrow.Author.Needs.{needs}
 use Rattle.binding.proofs.operands.pv_mark_bound.Statement.{statement}

@@ -6,7 +6,7 @@ use mathlib.Core.Path.{sym}
 use mathlib.Core.List.{map}
 use Rattle.cost.specs.Emitters.{decode}
 use Rattle.prices.proofs.PriceLaws.{row-within, row-priced}
-use Rattle.passes.specs.LocatedLaws.{place-sized, place-within, number-small, line-ready}
+use Rattle.passes.proofs.LocatedLaws.{place-sized, place-within, number-small, line-ready}
 use Rattle.samples.proofs.OwnLaws.{own-samples, own-memo}
 use Rattle.choosing.proofs.ChoiceLaws.{Scanning, scanning-none, scanning-not, cost-room, scanning-cost, scanned}
 use Rattle.choosing.proofs.choose.cheapest.Statement.{statement}

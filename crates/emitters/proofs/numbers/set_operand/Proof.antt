@@ -1,5 +1,5 @@
 -- `emitters::numbers::set_operand` meets its contract.
-use Rattle.cost.specs.Operands.{local-below}
+use Rattle.cost.proofs.Operands.{local-below}
 use Rattle.emitters.proofs.EmitterLaws.{local-set, global-kept}
 use borrow.Author.Needs.{needs}
 use Rattle.emitters.proofs.numbers.set_operand.Statement.{statement}

@@ -5,7 +5,7 @@ use borrow.Author.Needs.{needs}
 use Rattle.execution.proofs.texts.run_plan.Statement.{statement}
 use Rattle.execution.proofs.texts.run_plan.Tie as tie
 use Rattle.execution.proofs.texts.run_sized.Reads as run-sized-reads
-use Rattle.execution.proofs.world.refused.Reads as refused-reads
+use Rattle.world_run.proofs.world.refused.Reads as refused-reads
 use Rattle.first_reading.proofs.first.sheet_size.Reads as sheet-size-reads
 use Rattle.reading.proofs.second.read_indexed.Reads as read-indexed-reads
 

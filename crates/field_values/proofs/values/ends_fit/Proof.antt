@@ -1,6 +1,6 @@
 -- `field_values::values::ends_fit` meets its contract.
 use borrow.Author.Tests.{le-leb}
-use Rattle.base.specs.Choose.{tests}
+use Rattle.base.proofs.ChooseLaws.{tests}
 use borrow.Author.Needs.{needs}
 use Rattle.field_values.proofs.values.ends_fit.Statement.{statement}
 use Rattle.field_values.proofs.values.ends_fit.Tie as tie

@@ -1,5 +1,5 @@
 -- `field_values::values::real_fits` meets its contract.
-use Rattle.base.specs.Choose.{tests}
+use Rattle.base.proofs.ChooseLaws.{tests}
 use Rattle.field_values.proofs.values.real_fits.Statement.{statement}
 use Rattle.field_values.proofs.values.real_fits.Tie as tie
 

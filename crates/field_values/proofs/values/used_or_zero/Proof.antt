@@ -1,5 +1,5 @@
 -- `field_values::values::used_or_zero` meets its contract.
-use Rattle.base.specs.Choose.{tests}
+use Rattle.base.proofs.ChooseLaws.{tests}
 use borrow.Author.Needs.{needs}
 use Rattle.field_values.proofs.values.used_or_zero.Statement.{statement}
 use Rattle.field_values.proofs.values.used_or_zero.Tie as tie

@@ -1,5 +1,5 @@
 -- `field_values::values::zeros` meets its contract.
-use Rattle.base.specs.Choose.{tests}
+use Rattle.base.proofs.ChooseLaws.{tests}
 use Rattle.field_values.proofs.values.zeros.Statement.{statement}
 use Rattle.field_values.proofs.values.zeros.Tie as tie
 

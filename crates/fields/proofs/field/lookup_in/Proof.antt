@@ -1,5 +1,5 @@
 -- `fields::field::lookup_in` meets its contract.
-use Rattle.base.specs.Choose.{tests}
+use Rattle.base.proofs.ChooseLaws.{tests}
 use borrow.Author.Needs.{needs}
 use Rattle.fields.proofs.field.lookup_in.Statement.{statement}
 use Rattle.fields.proofs.field.lookup_in.Tie as tie

@@ -1,5 +1,5 @@
 -- `fields::field::operand_in` meets its contract.
-use Rattle.base.specs.Choose.{tests}
+use Rattle.base.proofs.ChooseLaws.{tests}
 use Rattle.fields.proofs.field.operand_in.Statement.{statement}
 use Rattle.fields.proofs.field.operand_in.Tie as tie
 

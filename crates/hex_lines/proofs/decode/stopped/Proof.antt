@@ -1,5 +1,5 @@
 -- `hex_lines::decode::stopped` meets its contract.
-use Rattle.base.specs.Choose.{tests}
+use Rattle.base.proofs.ChooseLaws.{tests}
 use borrow.Author.Needs.{needs}
 use Rattle.hex_lines.proofs.decode.stopped.Statement.{statement}
 use Rattle.hex_lines.proofs.decode.stopped.Tie as tie

@@ -1,6 +1,6 @@
 -- `indexing::index::at_most` meets its contract: the smaller of two.
 use borrow.Author.Needs.{needs}
-use Rattle.base.specs.Choose.{tests}
+use Rattle.base.proofs.ChooseLaws.{tests}
 use Rattle.indexing.proofs.index.at_most.Statement.{statement}
 use Rattle.indexing.proofs.index.at_most.Tie as tie
 

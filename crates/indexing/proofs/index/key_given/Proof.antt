@@ -1,6 +1,6 @@
 -- `indexing::index::key_given` meets its contract.
 use mathlib.Core.Path.{refl}
-use Rattle.base.specs.Lists.{taken}
+use Rattle.base.proofs.Lists.{taken}
 use Rattle.indexing.proofs.SearchLaws.{no-key, key-is}
 use Rattle.indexing.proofs.SlotLaws.{key-hash}
 use borrow.Author.Needs.{needs}

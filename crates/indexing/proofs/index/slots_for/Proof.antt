@@ -1,6 +1,6 @@
 -- `indexing::index::slots_for` meets its contract: by the length.
 use borrow.Author.Needs.{needs}
-use Rattle.base.specs.Choose.{tests}
+use Rattle.base.proofs.ChooseLaws.{tests}
 use Rattle.indexing.proofs.index.slots_for.Statement.{statement}
 use Rattle.indexing.proofs.index.slots_for.Tie as tie
 

@@ -1,5 +1,5 @@
 -- `join_tests::arrays::mark_at` meets its contract: in range or past the end.
-use Rattle.base.specs.Lists.{in-range, past-end}
+use Rattle.base.proofs.Lists.{in-range, past-end}
 use borrow.Author.Needs.{needs}
 use Rattle.join_tests.proofs.arrays.mark_at.Statement.{statement}
 use Rattle.join_tests.proofs.arrays.mark_at.Tie as tie

@@ -1,20 +1,43 @@
 -- `kinds::table::lengths` meets its contract.
-use Rattle.kinds.proofs.KindLaws.{length-at}
+use mathlib.Core.Path.{_∙_}
 use borrow.Author.Needs.{needs}
+use Rattle.kinds.proofs.KindLaws.{lengths-at, lengths-beyond}
 use Rattle.kinds.proofs.table.lengths.Statement.{statement}
 use Rattle.kinds.proofs.table.lengths.Tie as tie
-
-place-requires : tie.Need-place-requires
-place-requires c κs = search needs
 
 wide-requires : tie.Need-wide-requires
 wide-requires c κs = search needs
 
-array-read-result : tie.Need-array-read-result
-array-read-result c = search needs
-
 returns : tie.Need-returns
-returns c = length-at _ _ _ (c .before .place .ensures .0) (c .wide .ensures .0)
+returns c = lengths-beyond _ (c .if1 .taken)
+
+mul-word : tie.Need-mul-word
+mul-word c = search needs
+
+array-read-word : tie.Need-array-read-word
+array-read-word c = search needs
+
+mul-low-byte : tie.Need-mul-low-byte
+mul-low-byte c = search needs
+
+shr-low-byte : tie.Need-shr-low-byte
+shr-low-byte c = search needs
+
+low-byte-requires : tie.Need-low-byte-requires
+low-byte-requires c κs = search needs
+
+returns-2 : tie.Need-returns-2
+returns-2 c = c .low-byte .ensures ∙ lengths-at _ _ (c .before .wide .ensures .0) (c .before .before .if1 .left)
 
 pub lengths-spec : {M : Type 1} → statement M
-lengths-spec = tie.close (tie.spec place-requires wide-requires array-read-result returns)
+lengths-spec =
+    tie.close
+    (tie.spec
+    returns
+    wide-requires
+    mul-word
+    array-read-word
+    mul-low-byte
+    shr-low-byte
+    low-byte-requires
+    returns-2)

@@ -1,6 +1,6 @@
 -- `passes::eager::eager_pass` meets its contract: the tries so far, composed, are a pass over the atoms so far.
 use Prim.Native.Nat.{_-_}
-use Rattle.passes.specs.LocatedLaws.{place-sized, place-within, line-ready}
+use Rattle.passes.proofs.LocatedLaws.{place-sized, place-within, line-ready}
 use Rattle.passes.proofs.EagerLaws.{Passing, passing-none, bound-sized, number-below, order-room, passing-again, passed}
 use borrow.Author.Needs.{needs}
 use Rattle.passes.proofs.eager.eager_pass.Statement.{statement}

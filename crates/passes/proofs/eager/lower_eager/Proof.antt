@@ -3,7 +3,7 @@ use borrow.Author.Needs.{needs}
 use Prim.Native.Nat.{_+_}
 use Rattle.base.specs.Choose.{pick}
 use Rattle.model.specs.Scheduling.{unlowered, numbers}
-use Rattle.passes.specs.Eager.{atomsOf}
+use Rattle.passes.specs.Eager.{sheetAtoms}
 use Rattle.passes.proofs.EagerLaws.{Repeating, no-pass, ready-again, fewer-left, next-pass, no-more}
 use Rattle.passes.proofs.eager.lower_eager.Statement.{statement}
 use Rattle.passes.proofs.eager.lower_eager.Tie as tie
@@ -12,7 +12,7 @@ abbrev Inv-loop : tie.InvT-loop
 Inv-loop text from n used₀ bound₀ order₀ count c₀ more₀ used bound order c more = Repeating text used₀ bound₀ order₀ count used bound order c more
 
 abbrev μ-loop : tie.MeasureT-loop
-μ-loop text from n used₀ bound₀ order₀ count c₀ more₀ used bound order c more = unlowered used (numbers (atomsOf text)) + pick more 1 0
+μ-loop text from n used₀ bound₀ order₀ count c₀ more₀ used bound order c more = unlowered used (numbers (sheetAtoms text)) + pick more 1 0
 
 loop-holds : tie.Need-loop-holds Inv-loop μ-loop
 loop-holds c = no-pass (c .before .before .before .before .before .args .sheet .now) _ _ _ _

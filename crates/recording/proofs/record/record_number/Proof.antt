@@ -1,5 +1,5 @@
 -- `recording::record::record_number` meets its contract: by whether there is such an atom.
-use Rattle.passes.specs.LocatedLaws.{place-sized, place-within, line-ready}
+use Rattle.passes.proofs.LocatedLaws.{place-sized, place-within, line-ready}
 use Rattle.recording.proofs.ChangedLaws.{number-none, number-some}
 use borrow.Author.Needs.{needs}
 use Rattle.recording.proofs.record.record_number.Statement.{statement}

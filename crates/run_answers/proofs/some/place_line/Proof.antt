@@ -3,8 +3,8 @@ use Rattle.run_answers.proofs.ReplyLaws.{no-room, has-room}
 use borrow.Author.Needs.{needs}
 use Rattle.run_answers.proofs.some.place_line.Statement.{statement}
 use Rattle.run_answers.proofs.some.place_line.Tie as tie
-use Rattle.bindings.proofs.lines.line_length.Reads as line-length-reads
-use Rattle.bindings.proofs.lines.write_match.Reads as write-match-reads
+use Rattle.match_lines.proofs.lines.line_length.Reads as line-length-reads
+use Rattle.match_lines.proofs.lines.write_match.Reads as write-match-reads
 use Rattle.hex.proofs.line.byte_at.Reads as byte-at-reads
 use Rattle.hex_lines.proofs.reader.line_from.Reads as line-from-reads
 

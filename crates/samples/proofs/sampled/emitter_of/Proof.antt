@@ -1,5 +1,5 @@
 -- `samples::sampled::emitter_of` meets its contract: in range or past the end.
-use Rattle.base.specs.Lists.{in-range, past-end}
+use Rattle.base.proofs.Lists.{in-range, past-end}
 use borrow.Author.Needs.{needs}
 use Rattle.samples.proofs.sampled.emitter_of.Statement.{statement}
 use Rattle.samples.proofs.sampled.emitter_of.Tie as tie

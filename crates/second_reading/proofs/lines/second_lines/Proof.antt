@@ -4,7 +4,7 @@ use Prim.Native.Nat.{_-_}
 use native.Mathlib.Omega.{arith}
 use lib.ListN.{length}
 use Rattle.first_reading.specs.declared.first.Reading.the-variants.{Accepted}
-use Rattle.second_reading.proofs.SecondLaws.{Rereading, from-blank, all-indexed, noting, next-less, next-fits, frame-turned-back, frame-entered, key-here}
+use Rattle.second_reading.proofs.SecondLaws.{Rereading, from-blank, all-indexed, noting, next-less, next-fits, frame-refused, frame-entered, key-here}
 use Rattle.second_reading.proofs.lines.second_lines.Statement.{statement}
 use Rattle.second_reading.proofs.lines.second_lines.Tie as tie
 
@@ -39,7 +39,7 @@ same-length : tie.Need-same-length Inv-loop μ-loop
 same-length c = c .before .before .before .before .before .before .before .before .loop .inv .same
 
 returns : tie.Need-returns Inv-loop μ-loop
-returns c = frame-turned-back _ _ _ _ _ _ _ _ (c .before .before .before .before .before .before .before .before .loop .inv) (c .before .before .before .before .before .before .before .loop-test .taken) _ (c .before .before .before .before .before .before .frame-at .ensures) _ (c .before .second-fault .ensures) (c .if1 .taken)
+returns c = frame-refused _ _ _ _ _ _ _ _ (c .before .before .before .before .before .before .before .before .loop .inv) (c .before .before .before .before .before .before .before .loop-test .taken) _ (c .before .before .before .before .before .before .frame-at .ensures) _ (c .before .second-fault .ensures) (c .if1 .taken)
 
 note-requires : tie.Need-note-requires Inv-loop μ-loop
 note-requires c κs = (key-here (c .before .before .before .before .before .before .before .frame-at .result .now) _ _ (c .before .before .before .before .before .byte-at .ensures) (c .before .before .before .before .key-length .ensures), (c .before .before .before .before .before .before .hash-of .ensures, noting _ _ _ _ _ _ _ _ (c .before .before .before .before .before .before .before .before .before .loop .inv) (c .before .before .before .before .before .before .before .before .loop-test .taken)))

@@ -1,7 +1,7 @@
 -- `writing::steps::count_steps` meets its contract: the atoms left give the rest of the sum.
 use borrow.Author.Needs.{needs}
 use Prim.Native.Nat.{_-_}
-use Rattle.passes.specs.LocatedLaws.{place-sized, place-within}
+use Rattle.passes.proofs.LocatedLaws.{place-sized, place-within}
 use Rattle.writing.proofs.StepLaws.{Adding, adding-none, number, atom-ready, adding-again, added, added-few}
 use Rattle.writing.proofs.steps.count_steps.Statement.{statement}
 use Rattle.writing.proofs.steps.count_steps.Tie as tie

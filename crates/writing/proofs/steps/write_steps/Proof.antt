@@ -2,7 +2,7 @@
 use borrow.Author.Needs.{needs}
 use mathlib.Core.Path.{refl}
 use Prim.Native.Nat.{_-_}
-use Rattle.passes.specs.LocatedLaws.{place-sized, place-within}
+use Rattle.passes.proofs.LocatedLaws.{place-sized, place-within}
 use Rattle.writing.proofs.StepLaws.{Writing, writing-none, number, line-ready, bound-sized, writing-again, steps-put}
 use Rattle.writing.proofs.steps.write_steps.Statement.{statement}
 use Rattle.writing.proofs.steps.write_steps.Tie as tie

@@ -1,0 +1,80 @@
+-- A trace finds what the run gives; two parts of a plan, one behind the other. Proved from moves, with no case per kind of step.
+use mathlib.Core.Path.{_≡_, refl, sym, ap, _∙_, fun-ext}
+use mathlib.Core.Bool.{Bool, true, false}
+use mathlib.Core.Option.{Option, none, some}
+use mathlib.Core.List.{List, [], _∷_, _++_, flatMap, append-nil}
+use Prim.Native.Nat.{ℕ, _+_, _-_, suc}
+use native.Mathlib.Omega.{arith}
+use lib.ListN.{length}
+use Rattle.set_model.specs.Lists.{one}
+use Rattle.model.proofs.ListsLaws.{flat-flat, flat-map}
+use Rattle.model.specs.Tabulate.{tabulate}
+use Rattle.model.specs.Stores.{keep}
+use Rattle.model.specs.Atoms.{Operand, A, Lookup, Step, Join, Expand, children, Table}
+use Rattle.model.specs.Running.{Mode, joinRows, Env, rowAt, bindRow, meets, fitAt, Move, try, go, moves, onward, runs, Event, attempt, found, trace, founds, attempts}
+
+pub founds-append : (l m : List Event) → founds (l ++ m) ≡ founds l ++ founds m
+unfolding founds
+founds-append [] m = refl
+founds-append (attempt ∷ l) m = founds-append l m
+founds-append (found σ ∷ l) m = ap {B = List Env} (λ t. σ ∷ t) (founds-append l m)
+
+pub attempts-append : (l m : List Event) → attempts (l ++ m) ≡ attempts l + attempts m
+unfolding attempts
+attempts-append [] m = omega arith
+attempts-append (attempt ∷ l) m = omega (arith, attempts-append l m)
+attempts-append (found σ ∷ l) m = attempts-append l m
+
+-- one move
+abbrev eventsOf : (Env → List Event) → Move → List Event
+eventsOf k m = one (m .counts) attempt ++ onward k (m .next)
+
+founds-move : (k : Env → List Event) (c : Bool) (o : Option Env) → founds (one c attempt ++ onward k o) ≡ onward (λ τ. founds (k τ)) o
+unfolding founds
+founds-move k true none = refl
+founds-move k true (some τ) = refl
+founds-move k false none = refl
+founds-move k false (some τ) = refl
+
+founds-moves : (k : Env → List Event) (ms : List Move) → founds (flatMap (eventsOf k) ms) ≡ flatMap (λ m. onward (λ τ. founds (k τ)) (m .next)) ms
+unfolding flatMap founds
+founds-moves k [] = refl
+founds-moves k (m ∷ ms) = founds-append (eventsOf k m) (flatMap (eventsOf k) ms) ∙ (let p = founds-move k (m .counts) (m .next) in let q = founds-moves k ms in rw (p, q) refl)
+
+-- the trace finds what the run gives
+pub founds-trace : (tb : Table) (md : Mode) (ss : List Step) (σ : Env) → founds (trace tb md ss σ) ≡ runs tb md ss σ
+unfolding runs trace founds
+founds-trace tb md [] σ = refl
+founds-trace tb md (s ∷ ss) σ = founds-moves (trace tb md ss) (moves tb md s σ) ∙ ap (λ (f : Env → List Env). flatMap (λ (m : Move). onward f (m .next)) (moves tb md s σ)) (fun-ext (λ τ. founds-trace tb md ss τ))
+
+onward-flat : {Z Y : Type 0} (g : Z → List Y) (k : Env → List Z) (o : Option Env) → onward (λ τ. flatMap g (k τ)) o ≡ flatMap g (onward k o)
+unfolding flatMap
+onward-flat g k none = refl
+onward-flat g k (some τ) = refl
+
+pub runs-append : (tb : Table) (md : Mode) (s t : List Step) (σ : Env) → runs tb md (s ++ t) σ ≡ flatMap (runs tb md t) (runs tb md s σ)
+unfolding runs flatMap
+runs-append tb md [] t σ = sym (append-nil (runs tb md t σ))
+runs-append tb md (x ∷ s) t σ =
+    ap (λ (f : Env → List Env). flatMap (λ (m : Move). onward f (m .next)) (moves tb md x σ)) (fun-ext (λ τ. runs-append tb md s t τ))
+    ∙ ap (λ (f : Move → List Env). flatMap f (moves tb md x σ)) (fun-ext (λ m. onward-flat (runs tb md t) (runs tb md s) (m .next)))
+    ∙ sym (flat-flat (runs tb md t) (λ m. onward (runs tb md s) (m .next)) (moves tb md x σ))
+
+-- What code proves against: one move, a Join row by row, step 47 with both offset by offset.
+pub trace-one : (tb : Table) (md : Mode) (s : Step) (ss : List Step) (σ : Env) (o : Option Env) → moves tb md s σ ≡ go o ∷ [] → trace tb md (s ∷ ss) σ ≡ onward (trace tb md ss) o
+unfolding trace flatMap
+trace-one tb md s ss σ o e = rw e (append-nil (onward (trace tb md ss) o))
+
+pub trace-join : (tb : Table) (md : Mode) (v k : ℕ) (ls : List Lookup) (ss : List Step) (σ : Env) → trace tb md (Join v k ls ∷ ss) σ ≡ flatMap (λ r. attempt ∷ onward (trace tb md ss) (keep (meets tb σ r ls) (bindRow σ v r))) (joinRows tb md k)
+unfolding trace
+trace-join tb md v k ls ss σ = flat-map (eventsOf (trace tb md ss)) (λ r. try (keep (meets tb σ r ls) (bindRow σ v r))) (joinRows tb md k)
+
+pub trace-both : (tb : Table) (md : Mode) (n : ℕ) (cs : List Operand) (p s : ℕ) (ss : List Step) (σ : Env)
+    → trace tb md (Expand n cs (A (some p) (some s)) ∷ ss) σ ≡ flatMap (λ i. attempt ∷ onward (trace tb md ss) (fitAt tb (some p) cs (some s) (children (rowAt σ n)) σ i)) (tabulate (suc (length (children (rowAt σ n))) - length cs) (λ i. i))
+unfolding trace
+trace-both tb md n cs p s ss σ = flat-map (eventsOf (trace tb md ss)) (λ i. try (fitAt tb (some p) cs (some s) (children (rowAt σ n)) σ i)) (tabulate (suc (length (children (rowAt σ n))) - length cs) (λ i. i))
+
+-- Note 12's seam: of several things each is a try, and behind it come further moves; what the run behind makes of that
+pub onward-offers : {X Z : Type 0} (k : Env → List Z) (inner : X → List Move) (l : List X) → flatMap (λ (m : Move). onward k (m .next)) (flatMap (λ x. try none ∷ inner x) l) ≡ flatMap (λ x. flatMap (λ (m : Move). onward k (m .next)) (inner x)) l
+unfolding flatMap
+onward-offers k inner l = flat-flat (λ (m : Move). onward k (m .next)) (λ x. try none ∷ inner x) l

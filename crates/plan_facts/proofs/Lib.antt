@@ -1,0 +1,5 @@
+pub mod AtomFrames
+pub mod Emitted
+pub mod Pigeonhole
+pub mod QueryPlansLaws
+pub mod Remembered

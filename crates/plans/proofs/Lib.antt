@@ -1,0 +1,7 @@
+pub mod Fitting
+pub mod Items
+pub mod Longest
+pub mod PlanRead
+pub mod StepsPass
+pub mod StepsRead
+pub mod Texts

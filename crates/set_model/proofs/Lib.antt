@@ -1,0 +1,6 @@
+pub mod Apart
+pub mod Binding
+pub mod ListsLaws
+pub mod Matches
+pub mod Takings
+pub mod Turns
