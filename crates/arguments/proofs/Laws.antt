@@ -11,7 +11,6 @@ use lib.Dec.{leb}
 use borrow.Author.Tests.{le-leb, lt-leb, leb-true, leb-false, not-true, not-false}
 use Rattle.base.specs.Choose.{pick}
 use Rattle.base.proofs.ChooseLaws.{both-hold}
-use Rattle.arguments.specs.declared.Argument.{Argument}
 use Rattle.arguments.specs.declared.Argument.the-variants.{Number, Other}
 use Rattle.arguments.specs.Decimal.{largest, fits, decimalFrom, decimalOf}
 

@@ -1,6 +1,6 @@
 -- What the exported functions answer: a double travels as its bits, and every NaN's pattern counts as the one NaN, 7ff8000000000000.
 use Prim.Native.Nat.{ℕ}
-use mathlib.Core.Bool.{Bool, true, false}
+use mathlib.Core.Bool.{Bool}
 use mathlib.Core.List.{List}
 use lib.ListN.{length}
 use lib.Dec.{ltb, eqb}

@@ -9,7 +9,7 @@ use lib.Dec.{eqb}
 use Rattle.base.specs.Choose.{pick}
 use Rattle.frame_tests.specs.Faults.{isAtom}
 use Rattle.model.proofs.Bools.{both}
-use Rattle.model.specs.Atoms.{Operand, local, global, Atom, tame, allTame, tameAtom}
+use Rattle.model.specs.Atoms.{local, global, Atom, tame, allTame, tameAtom}
 use Rattle.cost.specs.QueryAtoms.{operandsFrom, atomOfFrame, atomsIn}
 use Rattle.records.specs.Lookups.{operandAt}
 

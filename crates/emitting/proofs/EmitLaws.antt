@@ -1,10 +1,10 @@
 -- The steps of one atom by its kind: a Join and what follows it, or one step alone. Proved kind by kind, from what the lowering is.
 use Prim.Native.Nat.{ℕ, _+_, _<_, _≤_}
-use mathlib.Core.Path.{_≡_, refl, sym, _∙_, ap, subst}
-use mathlib.Core.Bool.{Bool, true, false}
+use mathlib.Core.Path.{_≡_, refl, sym, _∙_, subst}
+use mathlib.Core.Bool.{Bool, true}
 use mathlib.Core.List.{List, [], _∷_, map, flatMap}
 use native.Mathlib.Omega.{arith}
-use lib.Dec.{T, ltb, leb}
+use lib.Dec.{leb}
 use lib.ListN.{length, getD}
 use lib.Seq.{length-take-le}
 use borrow.Author.Tests.{ltb-true, leb-true, eq-eqb, ne-eqb}
@@ -14,7 +14,7 @@ use Rattle.kinds.specs.Kinds.{kinds, kindAt, fixedLength}
 use Rattle.frames.specs.Frames.{kindOf}
 use Rattle.model.specs.Atoms.{localOf, Step, Atom}
 use Rattle.model.specs.Bound.{Bound, add, boundMost}
-use Rattle.model.specs.Lowering.{childLookups, containsLookups, markAll, emitReadChildren, lower}
+use Rattle.model.specs.Lowering.{containsLookups, markAll, emitReadChildren, lower}
 use Rattle.model.specs.Premises.{numbersBelow}
 use Rattle.cost.specs.QueryAtoms.{operandsFrom, atomOfFrame}
 use Rattle.plans.specs.StepFrames.{frameOf}

@@ -1,6 +1,6 @@
 // One atom by its kind: its steps as lines, and what it binds.
 ghost use mathlib.Core.Path.{_≡_};
-ghost use Prim.Native.Nat.{_+_, _<_, _≤_};
+ghost use Prim.Native.Nat.{_<_};
 ghost use lib.ListN.{length, getD};
 ghost use Rattle.model.specs.Bound.{boundMost};
 ghost use Rattle.model.specs.Lowering.{lower};

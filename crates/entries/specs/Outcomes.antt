@@ -1,7 +1,6 @@
 -- The answers of the runner's entries in document 01's words: "done, spent or full, with tries, matches and bytes written"; "some match, none .. or
 -- spent"; a refusal's number, text and line.
 use Prim.Native.Nat.{ℕ, _≤_}
-use mathlib.Core.Path.{_≡_}
 use mathlib.Core.List.{List, []}
 use lib.Dec.{eqb}
 use Rattle.base.specs.Choose.{pick}

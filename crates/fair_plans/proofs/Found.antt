@@ -4,9 +4,9 @@ use mathlib.Core.Path.{_≡_, refl, sym, _∙_, ap, subst}
 use mathlib.Core.Logic.{_≢_}
 use mathlib.Core.Bool.{true}
 use mathlib.Core.Option.{none}
-use mathlib.Core.List.{List, [], _++_, map, flatMap, List·Memᴰ, Memᴰ·of-map}
+use mathlib.Core.List.{List, [], map, flatMap, List·Memᴰ, Memᴰ·of-map}
 use native.Mathlib.Omega.{arith}
-use lib.ListN.{length, drop}
+use lib.ListN.{length}
 use Rattle.kinds.specs.Kinds.{plan, table}
 use Rattle.first_reading.specs.First.{framesOf}
 use Rattle.frame_tests.specs.declared.tests.Text.the-variants.{Query, Plan, Table}
@@ -18,9 +18,8 @@ use Rattle.model.proofs.ListsLaws.{pairs-map, pairs-of-map}
 use Rattle.model.specs.Atoms.{Step}
 use Rattle.model.specs.Bound.{has, blank}
 use Rattle.model.specs.Scheduling.{atomOf, schedule}
-use Rattle.model.specs.Running.{Env, Event, runs, trace, founds, attempts}
+use Rattle.model.specs.Running.{Event, runs, trace, founds, attempts}
 use Rattle.model.specs.Matching.{InShapes, GlobalsSet, Line, Counts, line, Given, Exact}
-use Rattle.model.specs.Limits.{Done, Played}
 use Rattle.model.proofs.Limited.{ran}
 use Rattle.model.proofs.Carried.{EnvHas, runs-have}
 use Rattle.model.proofs.Lines.{number-in}
@@ -29,7 +28,7 @@ use Rattle.model.proofs.Guarantee.{made, all-of, schedule-runnable, schedule-ex
 use Rattle.plan_facts.specs.QueryPlans.{atomsOf}
 use Rattle.running.specs.Tables.{tableOf, lineCounts, planSteps}
 use Rattle.running.specs.Validation.{Verdict, Passed, Invalid, andThen, ofReading, shapesFrom, stepsPass, validation}
-use Rattle.running.specs.Run.{unbound, events, lineText, Result, ran as result, run}
+use Rattle.running.specs.Run.{unbound, events, lineText, ran as result, run}
 use Rattle.running.proofs.RunLaws.{unbound-blank, unbound-picked}
 use Rattle.running.proofs.TableRows.{table-has}
 use Rattle.running.proofs.LineTexts.{LineSized, line-one, line-sized}

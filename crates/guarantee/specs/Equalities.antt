@@ -1,15 +1,14 @@
 -- A query of the kinds that run, all of whose equalities its plan lowers, has no Eq "with both sides finally unbound". Proved from what the scheduler
 -- leaves unlowered.
-use Prim.Native.Nat.{ℕ, _<_}
+use Prim.Native.Nat.{ℕ}
 use mathlib.Core.Path.{_≡_, sym, _∙_, ap, subst}
-use mathlib.Core.Bool.{true, false}
-use mathlib.Core.List.{List, [], List·Memᴰ, List·Memᴰ·not-nil}
+use mathlib.Core.Bool.{true}
+use mathlib.Core.List.{List, List·Memᴰ, List·Memᴰ·not-nil}
 use lib.Dec.{T}
 use Rattle.model.proofs.Bools.{true-false}
 use Rattle.model.specs.Atoms.{Atom, Plain, Lit, LitBind, Eq, EqGlobal, Pred, Variadic, depsOf, isRun}
-use Rattle.model.specs.Scheduling.{atomOf}
 use Rattle.model.proofs.Scheduled.{mem-at}
-use Rattle.model.specs.Waiting.{isEq, Unbound, unboundEq, DepsBelow}
+use Rattle.model.specs.Waiting.{isEq, Unbound, unboundEq}
 use Rattle.model.proofs.Unlowered.{never-lowered}
 use Rattle.plan_facts.specs.QueryPlans.{atomsOf}
 use Rattle.fair_plans.specs.Terms.{EqualitiesLowered, Runs}

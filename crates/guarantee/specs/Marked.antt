@@ -1,7 +1,6 @@
 -- "The marked ones, together in a single statement over a table": the planner's examples and numbers, and the runner's.
 use mathlib.Core.Path.{_≡_}
-use mathlib.Core.List.{List, map}
-use Rattle.fitting.specs.Planner.{Result}
+use mathlib.Core.List.{map}
 use Rattle.planner.specs.Marked as plans
 use Rattle.running.specs.Run as runs
 use Rattle.running.specs.Examples as examples

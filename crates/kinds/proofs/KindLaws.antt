@@ -1,13 +1,13 @@
 -- Laws of the table by kind. Assumes nothing.
-use Prim.Native.Nat.{ℕ, zero, suc, _+_, _-_, _*_, _/_, _%_, _^_, _≤_, _<_}
+use Prim.Native.Nat.{ℕ, zero, suc, _-_, _/_, _%_, _≤_, _<_}
 use mathlib.Core.Path.{_≡_, refl, sym, _∙_, ap}
 use mathlib.Core.List.{List, [], _∷_, map}
 use mathlib.Core.Bool.{Bool, true, false, _&&_}
-use native.Mathlib.Nat.{add-zero, zero-add, add-suc, suc-add}
+use native.Mathlib.Nat.{zero-add}
 use native.Mathlib.Omega.{arith}
-use lib.Dec.{T, leb, ltb, eqb, leb→le, ltb→lt, eqb→eq, lt→ltb}
+use lib.Dec.{T, leb, ltb, leb→le, ltb→lt}
 use lib.ListN.{getD, length, length-map, List·getD-map, List·getD-eq-default}
-use borrow.Author.Tests.{lt-ltb, le-ltb, ltb-true, ltb-false, eq-eqb, ne-eqb}
+use borrow.Author.Tests.{lt-ltb, le-ltb}
 use Rattle.base.specs.Choose.{pick}
 use Rattle.base.proofs.Lists.{map-at}
 use Rattle.base.proofs.TableLaws.{both-left, both-right, tabulates, entry}
@@ -15,10 +15,10 @@ use Rattle.base.specs.Table.{all}
 use Rattle.fields.specs.declared.field.Field.{Field}
 use Rattle.fields.specs.declared.field.Field.the-variants.{Free}
 use Rattle.fields.specs.Fields.{width}
-use Rattle.kinds.specs.Kinds.{Kind, kinds, kindAt, noKind, fixedLength, itemsOf, lengthOf}
+use Rattle.kinds.specs.Kinds.{Kind, kinds, kindAt, noKind, fixedLength}
 use Rattle.fields.proofs.MatchLaws.{Others, listed, unlisted, covers, others}
 use Rattle.fields.specs.Codes.{code, decode}
-use Rattle.kinds.specs.Rows.{packed, testsOf, codesOf, lengthsOf, lengthsAt, rowOf, looked}
+use Rattle.kinds.specs.Rows.{packed, testsOf, codesOf, lengthsOf, lengthsAt, rowOf}
 
 -- what a test says of every kind of the table
 pub held : (P : Kind → Bool) (l : List Kind) (i : ℕ) → T (all P l) → T (P noKind) → T (P (getD l i noKind))

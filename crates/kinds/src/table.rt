@@ -1,8 +1,8 @@
 // The table by kind: the fixed length of a kind and the width of its items, a `const` array; its text, the tests that look at it, the codes of its item
 // and its fields, and the length of its key, arms of a `match`, which are read-only data.
 ghost use mathlib.Core.Path.{_≡_};
-ghost use Prim.Native.Nat.{ℕ, _+_, _<_, _≤_, _*_, _%_};
-ghost use lib.ListN.{length, getD};
+ghost use Prim.Native.Nat.{_<_, _≤_, _*_, _%_};
+ghost use lib.ListN.{length};
 ghost use Rattle.fields.specs.Fields.{width as widthOf};
 ghost use Rattle.kinds.specs.Kinds.{kindAt, fixedLength};
 ghost use Rattle.kinds.specs.Rows.{lengthsOf, testsOf, codesOf, rowOf};

@@ -1,21 +1,21 @@
 -- An assignment agrees with an environment; what one deterministic step, or part of a step, gives. Assumes nothing.
-use mathlib.Core.Path.{_≡_, refl, sym, ap, _∙_, subst}
+use mathlib.Core.Path.{_≡_, refl, ap, _∙_}
 use mathlib.Core.Logic.{_≢_}
 use Prim.Native.Nat.{ℕ}
 use mathlib.Core.Bool.{Bool, true, false}
 use mathlib.Core.Option.{Option, none, some, Option·some-injective, Option·some-ne-none}
-use mathlib.Core.List.{List, [], _∷_, _++_, flatMap, List·Memᴰ, List·Memᴰ·head, List·Memᴰ·tail}
+use mathlib.Core.List.{List, [], _∷_, List·Memᴰ, List·Memᴰ·head, List·Memᴰ·tail}
 use Rattle.set_model.specs.Lists.{Pairs}
 use Rattle.model.proofs.ListsLaws.{Hit, Clash, Finds, finds-iff, finds-self, finds-none, finds-single}
 use Rattle.model.proofs.Bools.{true-false}
 use Rattle.model.specs.Equality.{sameClass}
 use Rattle.model.proofs.EqualityLaws.{same-eq, eq-same}
 use Rattle.model.specs.Atoms.{Operand, local, global, wild, Step, unset, Table, globalClass}
-use Rattle.model.specs.Bound.{Bound, has, add}
+use Rattle.model.specs.Bound.{Bound, add}
 use Rattle.model.specs.Lowering.{pvMarkBound, markAll}
 use Rattle.model.specs.Stores.{keep, settle}
 use Rattle.model.proofs.StoresLaws.{Agrees, Filled, Settled, Settles, settles}
-use Rattle.model.specs.Running.{Mode, Env, classSort, litSort, seqSort, withClasses, withLiterals, withSequences, setClass, setLit, setSeq, andThen, takeOperand, takeOperands, isNil, takeSeq, Move, go, moves, onward, runs}
+use Rattle.model.specs.Running.{Mode, Env, classSort, litSort, seqSort, withClasses, withLiterals, withSequences, setClass, setLit, setSeq, andThen, takeOperand, takeOperands, takeSeq, Move, go, moves, onward, runs}
 use Rattle.model.proofs.RunningLaws.{class-lawful, lit-lawful, seq-lawful}
 use Rattle.model.specs.Matching.{Assignment, Means, Covers, part}
 

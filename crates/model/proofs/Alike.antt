@@ -1,9 +1,9 @@
 -- Two plans for one query find the same lines; the matches do not depend on the order of the atoms. Proved from Exact.
-use mathlib.Core.Path.{_≡_, sym, _∙_, subst}
+use mathlib.Core.Path.{sym, _∙_, subst}
 use mathlib.Core.Logic.{∥∥₁-elim, ∥∥₁-map, _≢_}
 use Prim.Native.Nat.{ℕ, _<_}
 use mathlib.Core.Option.{none}
-use mathlib.Core.List.{List, [], _∷_, Pairwise·nil, Pairwise·cons, List·Nodup, Perm, perm-ext-iff-of-nodup, List·Memᴰ}
+use mathlib.Core.List.{List, [], _∷_, Pairwise·nil, Pairwise·cons, List·Nodup, Perm, perm-ext-iff-of-nodup}
 use lib.ListN.{length}
 use mathlib.Core.HLevel.{⊥-prop}
 use Rattle.set_model.specs.Lists.{Pairs}

@@ -5,25 +5,24 @@ use Prim.Native.Nat.{ℕ, suc, _+_, _-_, _<_, zero}
 use native.Mathlib.Omega.{arith}
 use mathlib.Core.Bool.{Bool, true, false}
 use mathlib.Core.Option.{Option, none, some, Option·some-injective}
-use mathlib.Core.List.{List, [], _∷_, _++_, map, flatMap, append-nil, List·Memᴰ, List·Memᴰ·head, List·Memᴰ·tail, List·Memᴰ·not-nil, Memᴰ·append-left, Memᴰ·append-right}
+use mathlib.Core.List.{List, [], _∷_, _++_, List·Memᴰ, List·Memᴰ·head, List·Memᴰ·tail, List·Memᴰ·not-nil, Memᴰ·append-left, Memᴰ·append-right}
 use lib.Dec.{eqb}
 use lib.ListN.{length, getD, take, drop, length-append, take-append-drop}
 use borrow.Author.Tests.{eqb-true, eq-eqb}
 use lib.Seq.{take-at, drop-at, length-take-le}
 use Rattle.set_model.specs.Lists.{Pairs}
-use Rattle.model.proofs.ListsLaws.{pairs-map, Clash, Finds, Hit, flat, finds-iff, finds-self, finds-none, flat-map}
+use Rattle.model.proofs.ListsLaws.{pairs-map, Clash, Finds, flat, finds-iff, finds-self, flat-map}
 use Rattle.model.specs.Tabulate.{tabulate}
 use Rattle.model.proofs.TabulateLaws.{mem-tabulate, tabulate-mem}
-use Rattle.model.proofs.Bools.{both, first, second, true-false}
+use Rattle.model.proofs.Bools.{first, second, true-false}
 use Rattle.model.specs.Equality.{sameClass}
 use Rattle.model.proofs.EqualityLaws.{same-eq, eq-same}
-use Rattle.model.specs.Atoms.{Operand, local, global, wild, A, AC, ACI, Atom, Plain, Lit, LitBind, Eq, EqGlobal, Pred, Variadic, litsIn, named, seqsIn, tame, allTame, tameAtom, Lookup, Step, Join, ExtractChild, CheckChildEq, CheckEq, CheckEqGlobal, BindGlobal, CopyBinding, Expand, ExtractLitVal, CheckLit, Row, Node, Literal, classOf, opOf, children, valueOf, unset, childAt, Table, rows, globalClass}
+use Rattle.model.specs.Atoms.{Operand, local, global, wild, A, AC, ACI, Atom, Plain, Lit, LitBind, Eq, EqGlobal, Pred, Variadic, litsIn, seqsIn, tame, allTame, tameAtom, Lookup, Step, Join, ExtractChild, CheckChildEq, CheckEq, CheckEqGlobal, BindGlobal, CopyBinding, Expand, ExtractLitVal, CheckLit, Row, Node, Literal, opOf, children, valueOf, unset, childAt, Table, rows, globalClass}
 use Rattle.model.specs.Bound.{Bound, has, add, addAll}
-use Rattle.model.proofs.BoundLaws.{add-has}
 use Rattle.model.specs.Lowering.{pvIsBound, pvMarkBound, markAll, readChild, emitReadChildren, childLookups, containsLookups, joinLookups, Emitted, lowerEq, lowerEqGlobal, lower}
-use Rattle.model.specs.Stores.{keep, settle}
+use Rattle.model.specs.Stores.{keep}
 use Rattle.model.proofs.StoresLaws.{settle-free, settle-set}
-use Rattle.model.specs.Running.{Mode, noRow, joinRows, Env, class, rowAt, classSort, withClasses, bindRow, setClass, setLit, bind, meets, andThen, takeOperand, takeOperands, takeSeq, fitAt, offsets, counted, Move, go, moves, onward, runs}
+use Rattle.model.specs.Running.{Mode, noRow, joinRows, Env, class, rowAt, classSort, withClasses, bindRow, setClass, setLit, bind, meets, takeOperands, takeSeq, fitAt, offsets, counted, Move, go, onward, runs}
 use Rattle.model.proofs.RunningLaws.{class-lawful}
 use Rattle.model.specs.Matching.{Assignment, Means, Covers, part, Parts, AsNode, AsLiteral, HasRow, asSets, Holds, InShape, Suits, Proper, Distinct}
 use Rattle.model.proofs.Agreement.{Ext, Known, Inv, withVars, addVar, addLit, addSeq, Gives, gives-iff, gives-check, gives-and, gives-class, gives-lit, gives-part, gives-operand, gives-operands, ends, last-step, next-step}

@@ -1,5 +1,5 @@
 -- From a query to its matches, by any fair choice and in any mode. Proved from the scheduler and the matches of a lowering sequence.
-use mathlib.Core.Path.{_≡_, sym, subst, _∙_}
+use mathlib.Core.Path.{_≡_, sym, _∙_}
 use Prim.Native.Nat.{ℕ, _<_, _≤_}
 use mathlib.Core.Bool.{true, false}
 use mathlib.Core.List.{List, [], map, List·Memᴰ, Memᴰ·of-map, Memᴰ·cast, flatMap}

@@ -4,7 +4,7 @@ use mathlib.Core.Logic.{_≢_, _⊎_, inl, inr}
 use Prim.Native.Nat.{ℕ, suc}
 use mathlib.Core.Bool.{Bool, true, false, _||_, or-true}
 use mathlib.Core.Option.{none, some}
-use mathlib.Core.List.{List, [], _∷_, _++_, map, flatMap, List·Memᴰ, List·Memᴰ·head, List·Memᴰ·tail, List·Memᴰ·cases-cons, List·Memᴰ·not-nil, Memᴰ·append-left, Memᴰ·append-right}
+use mathlib.Core.List.{List, [], _∷_, _++_, List·Memᴰ, List·Memᴰ·head, List·Memᴰ·tail, List·Memᴰ·cases-cons, List·Memᴰ·not-nil, Memᴰ·append-left, Memᴰ·append-right}
 use lib.Dec.{eqb, ltb}
 use lib.ListN.{getD, drop}
 use native.Mathlib.Nat.{add-zero}
@@ -18,8 +18,8 @@ use Rattle.model.proofs.ListsLaws.{pairs-left, pairs-right, pairs-map, 
 use Rattle.model.proofs.Bools.{both, first, second, true-false}
 use Rattle.model.specs.Equality.{sameClass}
 use Rattle.model.proofs.EqualityLaws.{same-eq, eq-same}
-use Rattle.model.specs.Atoms.{Operand, local, global, wild, Lookup, ByChildPos, ByContains, Step, Join, Row, classOf, opOf, children, unset, childAt, Table, rows}
-use Rattle.model.specs.Bound.{Bound, has}
+use Rattle.model.specs.Atoms.{Operand, local, global, wild, Lookup, ByChildPos, ByContains, Step, Join, Row, classOf, opOf, children, unset, Table, rows}
+use Rattle.model.specs.Bound.{has}
 use Rattle.model.proofs.BoundLaws.{put-same}
 use Rattle.model.specs.Lowering.{pvIsBound, childLookups, containsLookups, joinLookups}
 use Rattle.model.specs.Stores.{keep}

@@ -1,18 +1,17 @@
 -- Step 49 in the run: what `set_model` proves of the step alone, as `Finds`. Proved by carrying environments and assignments over.
 use mathlib.Core.Path.{_≡_, refl, sym, ap, _∙_, subst}
 use mathlib.Core.Logic.{_≢_, _⊎_, inl, inr}
-use Prim.Native.Nat.{ℕ, zero, suc, _<_}
+use Prim.Native.Nat.{ℕ, _<_}
 use native.Mathlib.Omega.{arith}
 use mathlib.Core.Bool.{Bool, true, false, _||_}
 use mathlib.Core.Option.{Option, none, some, Option·some-injective, Option·some-ne-none}
-use mathlib.Core.List.{List, [], _∷_, _++_, map, flatMap, append-nil, List·Memᴰ, List·Memᴰ·head, List·Memᴰ·tail, List·Memᴰ·cases-cons, List·Memᴰ·not-nil, List·Memᴰ·eq-of-singleton, Memᴰ·map, Memᴰ·of-map, Memᴰ·append-right}
-use lib.Dec.{T, eqb}
+use mathlib.Core.List.{List, [], _∷_, _++_, map, flatMap, append-nil, List·Memᴰ, List·Memᴰ·head, List·Memᴰ·tail, List·Memᴰ·cases-cons, List·Memᴰ·not-nil, List·Memᴰ·eq-of-singleton, Memᴰ·map, Memᴰ·of-map}
 use lib.ListN.{length, getD}
 use Rattle.base.specs.Choose.{pick}
 use Rattle.set_model.specs.Lists.{one as maybe, without}
 use Rattle.set_model.proofs.ListsLaws.{From as Source, from as sourceOf, into as intoFlat, is-in, in-is, without-mem}
 use Rattle.set_model.specs.Moves.{Move as Turn, offered, taken, moves as turns, ends}
-use Rattle.set_model.specs.Steps.{Env as SetEnv, class as setClassAt, setAt, bindSet, operandClass as setClassOf, inTurn, bindOne, bindAll, sameList as sameSet, readSet, endOf, ended, setStep, Assignment as SetAssignment, means, isAny, wildcards, Takes, SetHolds, Agree, Classed}
+use Rattle.set_model.specs.Steps.{Env as SetEnv, setAt, bindSet, operandClass as setClassOf, inTurn, bindOne, bindAll, sameList as sameSet, readSet, endOf, ended, setStep, Assignment as SetAssignment, means, wildcards, Takes, SetHolds, Agree, Classed}
 use Rattle.set_model.proofs.Turns.{Unlike, in-turn, turn-in, turns-apart}
 use Rattle.set_model.proofs.Takings.{Chosen, end-chosen}
 use Rattle.set_model.proofs.Binding.{accepts-known, Ready, ready-bind}
@@ -20,13 +19,13 @@ use Rattle.set_model.proofs.Matches.{ready, sound, complete}
 use Rattle.set_model.proofs.Apart.{finds-once}
 use Rattle.set_model.specs.Lists.{Pairs}
 use Rattle.model.proofs.ListsLaws.{pairs-map, Clash, Finds}
-use Rattle.model.proofs.Bools.{first, second, bool-ext, true-false}
-use Rattle.model.specs.Atoms.{Operand, local, global, wild, ACI, localOf, tame, allTame, Step, Expand, Row, children, unset, Table}
-use Rattle.model.specs.Bound.{put, Bound, has, add, addAll, isIn}
+use Rattle.model.proofs.Bools.{bool-ext, true-false}
+use Rattle.model.specs.Atoms.{Operand, local, global, wild, ACI, localOf, allTame, Expand, children, unset, Table}
+use Rattle.model.specs.Bound.{Bound, has, add, addAll, isIn}
 use Rattle.model.proofs.BoundLaws.{has-all}
 use Rattle.model.specs.Lowering.{pvIsBound, pvMarkBound, markAll}
-use Rattle.model.proofs.StoresLaws.{Filled, Settled, put-settled, kept-settled}
-use Rattle.model.specs.Running.{Mode, Env, class, rowAt, operandClass, asSet, fromSet, theEnd, inTurns, setMove, setMoves, Move, moves, onward, runs}
+use Rattle.model.proofs.StoresLaws.{Filled, put-settled, kept-settled}
+use Rattle.model.specs.Running.{Mode, Env, rowAt, operandClass, asSet, fromSet, theEnd, inTurns, setMove, Move, onward, runs}
 use Rattle.model.specs.Matching.{Assignment, asSets}
 use Rattle.model.proofs.Agreement.{Ext, Known, Inv, withVars, addSeq}
 

@@ -5,12 +5,12 @@ use Prim.Native.Nat.{ℕ}
 use native.Mathlib.Omega.{arith}
 use mathlib.Core.Bool.{Bool, true, false, _||_, or-false, or-assoc}
 use mathlib.Core.Option.{some, Option·some-injective}
-use mathlib.Core.List.{List, [], _∷_, _++_, map, flatMap, List·Memᴰ, List·Memᴰ·head, List·Memᴰ·tail, List·Memᴰ·cases-cons, List·Memᴰ·not-nil}
+use mathlib.Core.List.{List, [], _∷_, _++_, map, List·Memᴰ, List·Memᴰ·head, List·Memᴰ·tail, List·Memᴰ·cases-cons, List·Memᴰ·not-nil}
 use Rattle.model.proofs.ListsLaws.{Finds, finds-iff, finds-self, seq}
-use Rattle.model.specs.Atoms.{Operand, local, global, wild, Atom, Plain, Lit, LitBind, Eq, EqGlobal, Pred, Variadic, localOf, varsIn, litsIn, seqsIn, tameAtom, Step, Table}
+use Rattle.model.specs.Atoms.{Atom, Plain, Lit, LitBind, Eq, EqGlobal, Pred, Variadic, varsIn, litsIn, seqsIn, tameAtom, Step, Table}
 use Rattle.model.specs.Bound.{Bound, has, add, addAll, isIn}
 use Rattle.model.proofs.BoundLaws.{has-all, add-has, add-keeps}
-use Rattle.model.specs.Lowering.{markAll, Emitted, lowerEq, lowerEqGlobal, lower, Lowered, done, more}
+use Rattle.model.specs.Lowering.{Emitted, lowerEq, lowerEqGlobal, lower, Lowered, done, more}
 use Rattle.model.specs.Running.{Mode, Env, runs}
 use Rattle.model.specs.Matching.{Assignment, Suits, Proper, Distinct, any, HoldsIn}
 use Rattle.model.proofs.Traces.{runs-append}

@@ -1,9 +1,8 @@
 // Bytes as digits, and the end of a line.
 ghost use mathlib.Core.Path.{_≡_};
 ghost use mathlib.Core.List.{[], _∷_};
-ghost use Prim.Native.Nat.{ℕ, _+_, _*_, _/_, _%_, _<_, _≤_};
-ghost use lib.ListN.{length, getD, take};
-ghost use Rattle.hex.specs.Digits.{hexDigit};
+ghost use Prim.Native.Nat.{_+_, _*_, _/_, _%_, _<_, _≤_};
+ghost use lib.ListN.{length, take};
 ghost use Rattle.model.specs.Limits.{lineEnd};
 ghost use Rattle.plans.specs.StepFrames.{wordBytes};
 ghost use Rattle.output.specs.Written.{Puts, PutsBytes};

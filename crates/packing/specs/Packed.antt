@@ -1,7 +1,6 @@
 -- The answers of the C functions as one number each.
 use Prim.Native.Nat.{ℕ, _+_, _*_, _%_}
 use mathlib.Core.Bool.{Bool}
-use lib.Dec.{eqb}
 use Rattle.base.specs.Choose.{pick}
 
 -- a refusal: the highest bit, the number in bits 24 to 31, the text (00 query, 01 plan, 02 table) in bits 16 to 23, the line in bits 0 to 15

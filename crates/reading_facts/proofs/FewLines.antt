@@ -1,6 +1,6 @@
 -- No line that is told is above 32,769, and an accepted text has at most 32,768 lines: each line has a byte and its end. Assumes nothing.
 use Prim.Native.Nat.{ℕ, zero, suc, _+_, _*_, _≤_}
-use mathlib.Core.Path.{_≡_, refl, ap}
+use mathlib.Core.Path.{_≡_, refl}
 use mathlib.Core.Bool.{Bool, true, false}
 use mathlib.Core.List.{List, [], _∷_}
 use native.Mathlib.Omega.{arith}
@@ -9,7 +9,7 @@ use lib.Dec.{ltb, eqb}
 use borrow.Author.Tests.{le-ltb, ne-eqb, ltb-true, ltb-false}
 use Rattle.base.proofs.ChooseLaws.{pick-elim}
 use Rattle.hex.specs.Digits.{bytesOf}
-use Rattle.hex_lines.specs.Lines.{Split, split, withLine, withByte, isHex}
+use Rattle.hex_lines.specs.Lines.{Split, split, withLine, withByte}
 use Rattle.fields.specs.Limits.{textMost}
 use Rattle.frame_tests.specs.Faults.{counted}
 use Rattle.first_reading.specs.First.{framesOf, lineFault, orElse, firstLines, firstFrom, stepsSay, stepsRight}

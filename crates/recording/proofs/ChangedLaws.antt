@@ -5,7 +5,6 @@ use mathlib.Core.Bool.{Bool, true, false, Bool·beq}
 use mathlib.Core.List.{List, [], _∷_, _++_, map, append-assoc, append-nil}
 use native.Mathlib.Omega.{arith}
 use native.Mathlib.Numerals.{add-one}
-use lib.Dec.{ltb}
 use lib.ListN.{length, getD, take, drop, set, length-set, length-take, drop-of-length-le}
 use lib.Seq.{drop-cons, take-suc-set, getD-take}
 use borrow.Author.Tests.{lt-ltb, le-ltb}

@@ -1,25 +1,19 @@
 -- What an atom's kind says of the emitters it gives. Proved kind by kind.
-use Prim.Native.Nat.{ℕ, suc, _+_, _<_, _≤_}
+use Prim.Native.Nat.{ℕ}
 use mathlib.Core.Path.{_≡_, refl, sym, subst, _∙_}
-use mathlib.Core.Bool.{Bool, true, false, Bool·beq}
-use mathlib.Core.List.{List, _∷_, map}
+use mathlib.Core.Bool.{Bool, true}
+use mathlib.Core.List.{List, _∷_}
 use native.Mathlib.Omega.{arith}
-use native.Mathlib.Numerals.{add-one}
 use lib.Dec.{T, ltb}
-use lib.ListN.{length, getD, drop, drop-of-length-le}
-use lib.Seq.{drop-cons}
-use Rattle.frames.specs.Sheet.{frameAt}
+use lib.ListN.{length, getD}
 use Rattle.frame_tests.specs.Faults.{isAtom}
 use Rattle.kinds.specs.Kinds.{kinds, kindAt}
-use Rattle.model.specs.Atoms.{Operand, Atom, Eq}
-use Rattle.model.specs.Bound.{Bound, has, boundMost}
+use Rattle.model.specs.Atoms.{Operand}
 use Rattle.model.specs.Premises.{numbersBelow}
-use Rattle.model.specs.Scheduling.{atomOf}
 use Rattle.cost.specs.QueryAtoms.{operandsFrom, atomOfFrame}
-use Rattle.cost.specs.Emitters.{Emitters, decode, from, emitterOf, setEmitter, setElements, copyEmitter, recordAtom, recordEmitters}
+use Rattle.cost.specs.Emitters.{Emitters, decode, from, emitterOf, setEmitter, setElements, copyEmitter, recordAtom}
 use Rattle.lowering.specs.AtomLines.{AtomLine, scansKind}
 use Rattle.binding.specs.ItemOperands.{itemOperands}
-use Rattle.passes.specs.Eager.{sheetAtoms, Located}
 use Rattle.lowering.proofs.AtomLaws.{by-kind, scanning}
 use Rattle.recording.specs.Items.{setItems}
 use Rattle.recording.proofs.ItemLaws.{children-are, elements-are}

@@ -1,23 +1,22 @@
 -- The text of a match line tells the line: two lines of one plan with the same text are the same. Proved part by part.
-use Prim.Native.Nat.{ℕ, zero, suc, _+_, _*_, _/_, _%_, _<_}
+use Prim.Native.Nat.{ℕ, zero, suc, _+_, _/_, _%_, _<_}
 use mathlib.Core.Path.{_≡_, refl, sym, _∙_, ap, subst}
 use mathlib.Core.Bool.{true}
 use mathlib.Core.Option.{Option, none, some}
 use mathlib.Core.List.{List, [], _∷_, _++_, flatMap}
 use native.Mathlib.Omega.{arith}
-use lib.Dec.{T, ltb}
+use lib.Dec.{T}
 use lib.ListN.{length, length-append, getD, take}
 use lib.Pow.{areBytes}
 use lib.Seq.{take-at}
 use borrow.Author.Tests.{lt-ltb}
 use Rattle.hex.specs.Digits.{digitsOf, bytesOf}
 use Rattle.hex.proofs.Bytes.{bytes-read}
-use Rattle.model.proofs.Bools.{both}
 use Rattle.model.specs.Tabulate.{tabulate}
 use Rattle.model.specs.Running.{Env, class}
 use Rattle.model.specs.Matching.{Line, Counts, line}
 use Rattle.model.proofs.Carried.{LitHas, EnvHas}
-use Rattle.model.specs.Limits.{classBytes, litBytes, seqBytes, matchKind, matchFrame, lineEnd}
+use Rattle.model.specs.Limits.{classBytes, litBytes, matchKind, matchFrame, lineEnd}
 use Rattle.model.proofs.Frames.{frame-one}
 use Rattle.records.specs.Items.{Each}
 use Rattle.plans.proofs.StepsPass.{bytes-append, items-bytes}

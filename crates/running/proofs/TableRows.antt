@@ -1,17 +1,15 @@
 -- The classes and values of an accepted table: no class is ffff, a class has two bytes, a value four. Proved from 4, "above a limit", and from
 -- the bytes of the frames.
 use Prim.Native.Nat.{ℕ, zero, suc, _+_, _*_, _<_, _≤_}
-use mathlib.Core.Path.{_≡_, refl, sym, _∙_, ap, subst}
-use mathlib.Core.Logic.{_≢_, _⊎_, inl, inr}
-use mathlib.Core.Bool.{Bool, true, false}
+use mathlib.Core.Path.{_≡_, subst}
+use mathlib.Core.Logic.{_⊎_, inl, inr}
+use mathlib.Core.Bool.{true}
 use mathlib.Core.List.{List, [], _∷_, List·Memᴰ, List·Memᴰ·cases-cons, List·Memᴰ·not-nil, append-nil}
 use native.Mathlib.Omega.{arith}
 use native.Mathlib.Nat.{mul-suc}
 use native.Mathlib.Decide.{decLt}
-use lib.Dec.{T, eqb}
-use lib.ListN.{length, getD, List·getD-eq-default}
+use lib.ListN.{getD, List·getD-eq-default}
 use borrow.Author.Tests.{leb-true}
-use Rattle.base.specs.Choose.{pick}
 use Rattle.base.proofs.ChooseLaws.{pick-elim}
 use Rattle.hex.specs.Digits.{shortAt, wordAt}
 use Rattle.hex.proofs.Bytes.{byte-at}
@@ -29,13 +27,13 @@ use Rattle.reading_facts.proofs.Passes.{frame-field, frame-item}
 use Rattle.reading_facts.proofs.Whole.{accepted, frame-bytes}
 use Rattle.model.specs.Tabulate.{tabulate}
 use Rattle.model.proofs.TabulateLaws.{tabulate-at, tabulate-length}
-use Rattle.model.specs.Atoms.{Row, Node, Literal, classOf, children, valueOf, unset, Table, rows, globalClass}
+use Rattle.model.specs.Atoms.{Row, Node, Literal, classOf, children, valueOf, unset, rows, globalClass}
 use Rattle.model.specs.Matching.{Proper}
-use Rattle.model.proofs.Carried.{RowHas, TableHas}
+use Rattle.model.proofs.Carried.{TableHas}
 use Rattle.records.specs.Items.{itemsAt}
 use Rattle.records.specs.Rows.{rowOf, rowsIn}
-use Rattle.running.specs.Tables.{classFrom, globalIn, tableOf, tableIn}
-use Rattle.running.proofs.DistinctRows.{IsRow, is-node, is-literal, row-kind, RowAt, row-at}
+use Rattle.running.specs.Tables.{globalIn, tableOf, tableIn}
+use Rattle.running.proofs.DistinctRows.{IsRow, is-node, is-literal, row-kind, row-at}
 
 -- an item stands at its place
 record ItemAt {X : Type 0} (read : List ℕ → ℕ → X) (w : ℕ) (f : List ℕ) (i n : ℕ) (x : X) : Type 0 where

@@ -8,7 +8,6 @@ ghost use Rattle.indexing.specs.Index.{slotsFor, hashOf, Falling, givenBy};
 ghost use Rattle.second_reading.specs.Rereading.{BlankFor, Rereads};
 use fields::field::Counts;
 use first_reading::first::Reading;
-use first_reading::first::first_reading;
 use frame_tests::tests::Text;
 use frames::frame::frame_at;
 use frames::frame::range_passes;

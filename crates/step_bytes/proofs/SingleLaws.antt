@@ -1,11 +1,10 @@
 -- The one step of an atom, or the one behind its Join. Proved from what its lowering is, kind by kind.
-use Prim.Native.Nat.{ℕ, _+_, _*_, _/_, _%_, _<_, _≤_}
-use mathlib.Core.Path.{_≡_, refl, sym}
+use Prim.Native.Nat.{ℕ, _+_, _*_, _/_, _%_, _<_}
+use mathlib.Core.Path.{_≡_, refl}
 use mathlib.Core.Bool.{Bool, true, false}
 use mathlib.Core.List.{List, [], _∷_, map}
 use native.Mathlib.Omega.{arith}
-use lib.ListN.{length, getD}
-use Rattle.hex.specs.Digits.{wordAt}
+use lib.ListN.{getD}
 use Rattle.kinds.specs.Kinds.{kinds, kindAt}
 use Rattle.model.specs.Atoms.{Eq, EqGlobal}
 use Rattle.model.specs.Bound.{Bound, has}

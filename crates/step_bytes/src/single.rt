@@ -1,5 +1,4 @@
 // The one step of an Eq, an EqGlobal or a Pred, and the one behind the Join of a Lit or a LitBind.
-ghost use mathlib.Core.Path.{_≡_};
 ghost use mathlib.Core.List.{map};
 ghost use Prim.Native.Nat.{_<_};
 ghost use lib.ListN.{getD};

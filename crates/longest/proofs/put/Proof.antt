@@ -1,9 +1,9 @@
 -- `longest::put` meets its contract.
 use borrow.Author.Needs.{needs}
 use Prim.Native.Nat.{_-_, _≤_}
-use mathlib.Core.Path.{_≡_, refl, _∙_}
+use mathlib.Core.Path.{_≡_, refl}
 use native.Mathlib.Omega.{arith}
-use lib.ListN.{length, length-set}
+use lib.ListN.{length}
 use Rattle.longest.proofs.put.Statement.{statement}
 use Rattle.longest.proofs.put.Tie as tie
 

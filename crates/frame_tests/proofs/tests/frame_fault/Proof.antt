@@ -1,5 +1,4 @@
 -- `frame_tests::tests::frame_fault` meets its contract.
-use mathlib.Core.Path.{_∙_}
 use Rattle.frame_tests.proofs.FaultLaws.{fault-2, fault-3, fault-4, fault-none, fault-full}
 use Rattle.frames.proofs.FrameLaws.{tests-here}
 use Rattle.kinds.proofs.KindLaws.{tests-text}

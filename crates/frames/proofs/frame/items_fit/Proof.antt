@@ -2,7 +2,6 @@
 use borrow.Author.Needs.{needs}
 use Rattle.fields.specs.Fields.{fieldFits}
 use Prim.Native.Nat.{_-_}
-use mathlib.Core.Path.{refl}
 use lib.ListN.{replicate}
 use Rattle.fields.specs.Codes.{decode}
 use Rattle.frames.proofs.FrameLaws.{Passing, passing-starts, items-again, items-fail, items-end, items-fit}
