@@ -24,7 +24,8 @@ int main(void) {
     size_t plan_len = planned >> 48;
     fwrite(plan, 1, plan_len, stdout);
 
-    uint64_t ran = rimdovek_run(plan, plan_len, (const uint8_t *)table, strlen(table), 1000000, lines, sizeof lines, &tries, &matches);
+    uint64_t ran = rimdovek_run(plan, plan_len, (const uint8_t *)table, strlen(table), 1000000, RIMDOVEK_NO_ATOM, lines,
+                                sizeof lines, &tries, &matches);
     if (ran & RIMDOVEK_REFUSED) return refused(ran);
     fwrite(lines, 1, ran & 0xffffffff, stdout);
     printf("status %llu, %llu tries, %llu matches\n", (unsigned long long)(ran >> 32), (unsigned long long)tries, (unsigned long long)matches);

@@ -43,16 +43,20 @@ uint64_t rimdovek_plan(const uint8_t *query, size_t query_len, uint8_t *out, siz
 #define RIMDOVEK_ENDED UINT64_C(0x100)
 uint64_t rimdovek_round_costs(const uint8_t *query, size_t query_len, size_t round, uint64_t *costs, size_t costs_len);
 
-/* Runs a plan over a table with an allowance of tries, a line for each match. Accepted: 0 done, 1 spent or 2 full in bits 32 and 33, the bytes
-   written below, modulo 4,294,967,296: lend at most 4,294,967,295 bytes, so that they are told whole. Tries and matches are set; a refusal
-   sets 0. The run takes some 2,400 bytes of stack for a Join and 220,000 besides: 380,000 for a plan of the planner, which has at most 64
-   Joins, and less than 6,500,000 for the longest plan text that is accepted. */
-uint64_t rimdovek_run(const uint8_t *plan, size_t plan_len, const uint8_t *table, size_t table_len, uint64_t allowance, uint8_t *out,
-                      size_t out_len, uint64_t *tries, uint64_t *matches);
+/* No atom is named as the new one of a run. */
+#define RIMDOVEK_NO_ATOM UINT64_MAX
 
-/* Some match: 0 none, 1 spent, 2 a match, whose line is written where it has room; 419 bytes always suffice. It takes as much stack as the run. */
-uint64_t rimdovek_some_match(const uint8_t *plan, size_t plan_len, const uint8_t *table, size_t table_len, uint64_t allowance, uint8_t *out,
-                             size_t out_len);
+/* Runs a plan over a table with an allowance of tries, a line for each match. `atom` is the atom that the run names as its new one, whose Join tries
+   the rows from the table's frame 33 on, Joins of lower atoms those before it; or RIMDOVEK_NO_ATOM. An atom without a Join is refused (12). Accepted: 0 done, 1 spent or 2 full in bits 32 and 33, the bytes
+   written below, modulo 4,294,967,296: lend at most 4,294,967,295 bytes, so that they are told whole. Tries and matches are set; a refusal
+   sets 0. The run takes some 2,800 bytes of stack for a Join and 250,000 besides: 430,000 for a plan of the planner, which has at most 64
+   Joins, and less than 7,700,000 for the longest plan text that is accepted. */
+uint64_t rimdovek_run(const uint8_t *plan, size_t plan_len, const uint8_t *table, size_t table_len, uint64_t allowance, uint64_t atom,
+                      uint8_t *out, size_t out_len, uint64_t *tries, uint64_t *matches);
+
+/* Some match of a run that names `atom`, or RIMDOVEK_NO_ATOM: 0 none, 1 spent, 2 a match, whose line is written where it has room; 419 bytes always suffice. It takes as much stack as the run. */
+uint64_t rimdovek_some_match(const uint8_t *plan, size_t plan_len, const uint8_t *table, size_t table_len, uint64_t allowance, uint64_t atom,
+                             uint8_t *out, size_t out_len);
 
 #ifdef __cplusplus
 }

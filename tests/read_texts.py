@@ -1,6 +1,6 @@
 #!/usr/bin/env python3
-"""The reading of query, plan and table texts, modelled from the words of document 01 and not from the code, and the cases of reading that
-the program replay runs. Where the document leaves room, the readings are those of docs/DECISIONS.md.
+"""The reading of query, plan and table texts, modelled from the words of documents 01 and 02 (Note 1) and not from the code, and the cases of
+reading that the program replay runs. Where they leave room, the readings are those of docs/DECISIONS.md.
 
     tests/read_texts.py DIR              writes reading.in and .out, refused.in and .out; the seed is fixed, so the same files come out
     tests/read_texts.py --against FILE.. compares the model with the cases of other files (JSON lines; texts in base64)
@@ -59,12 +59,13 @@ FRAMES = {QUERY: '''
 30 class(2) op n classes(2)
 31 class(2) op value(4)
 32 global class(2)
+33 row(2)
 '''}
 WIDTH = {'operand': 2, 'operands': 2, 'elements': 3, 'lookups': 4}
 VARIABLES = {'node', 'a', 'b', 'local', 'target', 'parent', 'other'}
 REALS = {'by_repr', 'fan-out', 'cv'}
 KEYS = {0x10: ['op'], 0x11: ['atom'], 0x12: [], 0x13: ['op', 'position'], 0x14: ['op'], 0x20: [], 0x21: ['atom'],
-        0x22: ['number', 'site', 'position'], 0x23: ['class', 'path', 'position', 'op'], 0x32: ['global']}
+        0x22: ['number', 'site', 'position'], 0x23: ['class', 'path', 'position', 'op'], 0x32: ['global'], 0x33: []}
 MOST = {'variables': 64, 'globals': 16, 'literals': 16, 'k': 64, 'bootstrap': 256, 'class': 0xfffe, 'classes': 0xfffe}
 MOST_ITEMS = {'lookups': 18, 'nodes': 64}  # else 16; frame 22 has 32 classes
 TEXT_MOST, ATOMS_MOST, ROWS_MOST = 65536, 64, 1024
@@ -145,13 +146,15 @@ def operands_below(b, n):
     return b[1] < (n['global'] if b[0] else n['variable'])
 
 def below_counts(f, n):
-    """5: variable, global, literal or atom not below its count."""
+    """5: variable, global, literal or atom not below its count; new rows that begin above the row count."""
     for name, b in values(f):
         if name in VARIABLES and b[0] >= n['variable']:
             return False
         if name in ('global', 'literal') and b[0] >= n[name]:
             return False
         if name in ('atom', 'atoms') and b[0] >= n['atom']:
+            return False
+        if name == 'row' and number(b) > n['rows']:
             return False
         if name in ('operand', 'operands', 'elements') and not operands_below(b, n):
             return False
@@ -207,7 +210,7 @@ def read(text, x):
         return refused(1, len(lines) + 1)
     if text == PLAN and number(frames[0][4:6]) != len(frames) - 1:
         return refused(3, 1)
-    n = {'global': 16}
+    n = {'global': 16, 'rows': counted}
     if text != TABLE:
         n = dict(zip(('variable', 'global', 'literal'), frames[0][1:4]), atom=counted if text == QUERY else 64)
     seen = set()
@@ -280,6 +283,8 @@ def field_edges(kind, f):
                 edges = [count[name] - 1, count[name], 255]
             if name == 'atom':
                 edges = [1, 2, 4, 5, 63, 64, 255]
+            if name == 'row':
+                edges = [1, 2, 3, 255, 256, 1024, 1025, 0xffff]
             if name in ('op', 'sort', 'guard', 'position', 'pre', 'suf', 'rest', 'site', 'path', 'flag', 'flags'):
                 edges = [1, 2, 3, 4, 255]
             if name in ('value', 'cardinality', 'count', 'length', 'number', 'steps'):
@@ -360,7 +365,7 @@ def header_cases():
         yield from ((text, x) for x in places(text, f))
         yield text, text_bytes(a[0], f)
         yield text, text_bytes(f, bytes([0x3f if kind == 0 else 0]) + f[1:])
-        for kind in (0x0f, 0x15, 0x1f, 0x24, 0x2f, 0x33, 0x3e, 0x4d, 0x50, 0x99, 0xff):
+        for kind in (0x0f, 0x15, 0x1f, 0x24, 0x2f, 0x34, 0x3e, 0x4d, 0x50, 0x99, 0xff):
             yield from ((t, x) for t in FRAMES for x in places(t, bytes([kind, 0, 0])))
     for steps in (0, 1, 2, 3, 4, 5, 0x0300, 0xffff):
         yield PLAN, build(PLAN, AROUND[PLAN], steps)
@@ -421,6 +426,11 @@ def count_cases():
         yield TABLE, build(TABLE, rows)
     yield TABLE, build(TABLE, [row(i) for i in range(512)] + [bytes([0x32, i, 0, 1]) for i in range(16)] + [lit(i) for i in range(512)])
     yield TABLE, build(TABLE, [row(i) for i in range(512)] + [lit(i) for i in range(513)])
+    new = lambda n: bytes([0x33]) + n.to_bytes(2, 'big')
+    for n in range(4):
+        for rows in ([make(i) for i in range(count)] for make in (row, lit) for count in (n, n + 1)):
+            for frames in ([new(n), *rows], [*rows, new(n)], [*rows, new(n), new(n + 1)], [*rows, new(n + 1), new(n)], [new(n), *rows[:1], new(n), *rows[1:]]):
+                yield TABLE, build(TABLE, frames)
     yield TABLE, build(TABLE, [row(i) for i in range(1023)] + [row(0)])
     yield TABLE, build(TABLE, [row(i) for i in range(1023)] + [row(1023)[:3] + b'\0\1' + b'\0\0', row(1)])
 
@@ -493,7 +503,7 @@ def against(file):
         case = json.loads(line)
         want, got = case['answer'], None
         for text in (QUERY, PLAN, TABLE):
-            if text in case and got is None:
+            if case.get(text) is not None and got is None:
                 a = read(text, base64.b64decode(case[text]))
                 got = ['refused', a[1], text, a[2]] if a[0] == 'refused' else None
         told = want[0] == 'refused' and want[1] <= 7

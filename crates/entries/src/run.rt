@@ -1,9 +1,11 @@
 // The run of a plan over a table.
 ghost use mathlib.Core.Path.{_≡_};
+ghost use Rattle.modes.specs.Modes.{modeOf};
 ghost use Rattle.running.specs.Run.{run as runOf};
 ghost use Rattle.runner.specs.Halts.{statusNumber};
 ghost use Rattle.entries.specs.Outcomes.{statusOf, statusBy, outcomeResult};
 use execution::texts::run_texts;
+use modes::mode::DeltaAtom;
 
 pub enum Status {
     Done,
@@ -42,11 +44,11 @@ pub fn status_number(s: Status) -> u8
     }
 }
 
-// Runs a plan over a table, with an allowance of tries, into a lent output.
-pub fn run(plan: &[u8], table: &[u8], allowance: u64, out: &mut [u8]) -> Outcome
-    ensures { λ r. ⌜ outcomeResult r (now (out .exit)) ≡ runOf (now (plan .entry)) (now (table .entry)) allowance (now (out .entry)) ⌝ }
+// Runs a plan over a table, with an allowance of tries and an atom named as the new one, or none, into a lent output.
+pub fn run(plan: &[u8], table: &[u8], allowance: u64, named: DeltaAtom, out: &mut [u8]) -> Outcome
+    ensures { λ r. ⌜ outcomeResult r (now (out .exit)) ≡ runOf (now (plan .entry)) (now (table .entry)) (modeOf named) allowance (now (out .entry)) ⌝ }
 {
-    let e = run_texts(plan, table, allowance, out);
+    let e = run_texts(plan, table, allowance, named, out);
     if e.passed {
         let stand = e.stand;
         let t = stand.tally;

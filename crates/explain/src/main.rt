@@ -1,30 +1,59 @@
 // Explains the plan text on standard input, each step in words. A query text is planned first, and for each round the candidates are shown with
-// their costs. A refused text is explained by its number and line.
+// their costs. A refused text is explained by its number and line. The argument, a decimal number below 2^64, is an atom: each Join then says which
+// rows it tries in a run that names that atom as its new one, and a last line says where no Join is of that atom. Any other arguments get a line
+// of usage.
 
 mod accepted;
 mod costs;
+mod named;
 mod planned;
 mod refusals;
 mod steps;
 mod words;
 
 use accepted::explain_plan;
+use arguments::Argument;
+use arguments::decimal;
 use hex::line::byte_at;
 use hex_lines::reader::line_from;
+use modes::mode::DeltaAtom;
 use planned::explain_query;
 use printing::TEXT_ROOM;
+use words::say;
 
 // A text is taken for a plan by its first byte.
-fn explain(text: &[u8]) {
+fn explain(text: &[u8], named: DeltaAtom) {
     if byte_at(line_from(text, 0), 0) == 0x3f {
-        explain_plan(text);
+        explain_plan(text, named);
         return;
     }
-    explain_query(text);
+    explain_query(text, named);
+}
+
+fn explain_input(named: DeltaAtom) {
+    let mut text = [0u8; TEXT_ROOM];
+    let n = io::read_full(0, &mut text);
+    explain(&text[..n], named);
+}
+
+// The atom that `count` words give, the program's name being the first.
+fn atom(count: usize) -> Argument {
+    if 2 < count {
+        return Argument::Other;
+    }
+    let mut word = io::buffer();
+    let n = os::arg(1, &mut word);
+    decimal(&word[..n])
 }
 
 fn main() {
-    let mut text = [0u8; TEXT_ROOM];
-    let n = io::read_full(0, &mut text);
-    explain(&text[..n]);
+    let count = os::arg_count();
+    if count < 2 {
+        explain_input(DeltaAtom::None);
+        return;
+    }
+    match atom(count) {
+        Argument::Number(a) => explain_input(DeltaAtom::Atom(a)),
+        Argument::Other => say(b"usage: explain [ATOM] < TEXT, ATOM in decimal, below 2^64\n"),
+    }
 }

@@ -7,6 +7,7 @@ use super::words::say_number;
 use fields::field::wide;
 use fitting::fit::PLAN_MOST;
 use fitting::fit::Planned;
+use modes::mode::DeltaAtom;
 use planner::entry::plan;
 use round_costs::rounds::RoundCosts;
 use round_costs::rounds::round_costs;
@@ -60,18 +61,18 @@ fn say_rounds(text: &[u8]) {
     }
 }
 
-fn say_plan(text: &[u8], out: &[u8], n: usize) {
+fn say_plan(text: &[u8], out: &[u8], n: usize, named: DeltaAtom) {
     if n <= out.len() {
         let lines = &out[..n];
         say_rounds(text);
-        explain_plan(lines);
+        explain_plan(lines, named);
     }
 }
 
-pub fn explain_query(text: &[u8]) {
+pub fn explain_query(text: &[u8], named: DeltaAtom) {
     let mut out = [0u8; PLAN_MOST];
     match plan(text, &mut out) {
         Planned::Refused(number, line) => say_refusal(number, line, b"query"),
-        Planned::Written(n, _, _, _) => say_plan(text, &out, n),
+        Planned::Written(n, _, _, _) => say_plan(text, &out, n, named),
     }
 }

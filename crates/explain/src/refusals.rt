@@ -1,4 +1,4 @@
-// Why a text is refused, in document 01's words.
+// Why a text is refused, in document 01's words; and a run that names an atom.
 use super::words::say;
 use super::words::say_number;
 use fields::field::wide;
@@ -28,4 +28,11 @@ pub fn say_refusal(number: u8, line: usize, text: &[u8]) {
     say(b": ");
     say_condition(number);
     say(b"\n");
+}
+
+// 12: the named atom has no Join.
+pub fn say_unjoined(atom: u64) {
+    say(b"no Join of atom ");
+    io::print_decimal(1, atom);
+    say(b": the run is refused (12)\n");
 }

@@ -1,5 +1,6 @@
 // A frame of an accepted plan in words.
 ghost use Prim.Native.Nat.{_<_};
+use super::named::say_rows;
 use super::words::say;
 use super::words::say_byte;
 use super::words::say_global;
@@ -13,6 +14,7 @@ use hex::short_at;
 use hex::word_at;
 use kinds::table::fixed_length;
 use kinds::table::item_width;
+use modes::mode::DeltaAtom;
 
 fn say_counted(frame: &[u8], i: usize, what: &[u8]) {
     say_number(wide(byte_at(frame, i)));
@@ -102,12 +104,13 @@ fn say_items(frame: &[u8]) {
     say_listed(frame, first, width, items_of(frame));
 }
 
-fn say_join(frame: &[u8]) {
+fn say_join(frame: &[u8], named: DeltaAtom) {
     say(b"Join ");
     say_variable(byte_at(frame, 1));
     say(b" of atom ");
     say_counted(frame, 2, b" ");
     say_items(frame);
+    say_rows(named, byte_at(frame, 2));
 }
 
 fn say_extract_child(frame: &[u8]) {
@@ -185,10 +188,10 @@ fn say_check_pred(frame: &[u8]) {
 }
 
 // A frame of a plan, its header or a step.
-pub fn say_step(frame: &[u8]) {
+pub fn say_step(frame: &[u8], named: DeltaAtom) {
     match byte_at(frame, 0) {
         0x3f => say_header(frame),
-        0x40 => say_join(frame),
+        0x40 => say_join(frame, named),
         0x41 => say_extract_child(frame),
         0x42 => say_check_child(frame),
         0x43 => say_pair(b"CheckEq ", frame, b" is ", false),

@@ -14,6 +14,7 @@ use Rattle.fitting.specs.Planner.{Answer, plan}
 use Rattle.round_costs.specs.Costs.{Answer as RoundAnswer, Chosen, Ended, Invalid, roundCosts}
 use Rattle.planner.proofs.AnswerBounds.{Within, plan-within}
 use Rattle.round_costs.proofs.Bounds.{RoundWithin, round-within}
+use Rattle.model.specs.Running.{Mode}
 use Rattle.running.specs.Run.{Outcome, Refused, Ran, run, Reply, Rejected, Match, None, Exhausted, Replies}
 use Rattle.running.proofs.RefusalBounds.{Within as RefusedWithin, run-within, reply-within}
 use Rattle.run_answers.specs.Runs.{packedRun}
@@ -77,8 +78,8 @@ TellsRun (Refused k x l) n = TellsRefusal k x l n
 TellsRun (Ran c tries matches w) n = TellsWritten (statusNumber c) w n
 
 -- The outcome of every run of any two texts is told so.
-pub run-told : (p t : List ℕ) (A : ℕ) (o : List ℕ) → TellsRun (run p t A o .outcome) (packedRun (run p t A o .outcome))
-run-told p t A o = by (run p t A o .outcome) (run-within p t A o)
+pub run-told : (p t : List ℕ) (md : Mode) (A : ℕ) (o : List ℕ) → TellsRun (run p t md A o .outcome) (packedRun (run p t md A o .outcome))
+run-told p t md A o = by (run p t md A o .outcome) (run-within p t md A o)
   where
     by : (a : Outcome) → ((k x l : ℕ) → a ≡ Refused k x l → RefusedWithin k x l) → TellsRun a (packedRun a)
     by (Refused k x l) h = within-told k x l (h k x l refl)
@@ -94,8 +95,8 @@ TellsReply None n = TellsPlain 0 n
 TellsReply Exhausted n = TellsPlain 1 n
 
 -- Every reply of the second entry to any two texts is told so.
-pub reply-told : (p t : List ℕ) (A : ℕ) (r : Reply) → Replies p t A r → TellsReply r (packedReply r)
-reply-told p t A (Rejected k x l) h = within-told k x l (reply-within p t A k x l h)
-reply-told p t A (Match m) h = plain-told 2 (omega arith)
-reply-told p t A None h = plain-told 0 (omega arith)
-reply-told p t A Exhausted h = plain-told 1 (omega arith)
+pub reply-told : (p t : List ℕ) (md : Mode) (A : ℕ) (r : Reply) → Replies p t md A r → TellsReply r (packedReply r)
+reply-told p t md A (Rejected k x l) h = within-told k x l (reply-within p t md A k x l h)
+reply-told p t md A (Match m) h = plain-told 2 (omega arith)
+reply-told p t md A None h = plain-told 0 (omega arith)
+reply-told p t md A Exhausted h = plain-told 1 (omega arith)

@@ -1,10 +1,9 @@
--- The words of demand 3, each as document 01 has it. Matches are those of `Matching` in the crate model: defined from "A match is an
--- assignment ..", without plans and steps.
+-- The words of demand 3, each as document 01 has it, with the atom that a run may name by Note 1. Matches are those of `Matching` in the crate model:
+-- defined from "A match is an assignment ..", without plans and steps.
 use Prim.Native.Nat.{ℕ, _<_, _≤_}
 use mathlib.Core.Path.{_≡_}
 use mathlib.Core.Logic.{_≢_}
 use mathlib.Core.Bool.{true}
-use mathlib.Core.Option.{none}
 use mathlib.Core.List.{List, [], _∷_, _++_, map, flatMap, List·Memᴰ}
 use lib.ListN.{length, drop}
 use Rattle.kinds.specs.Kinds.{table}
@@ -18,7 +17,7 @@ use Rattle.set_model.specs.Lists.{Pairs}
 use Rattle.model.specs.Scheduling.{State, Chosen, Fair, atomOf, numbers, schedule}
 use Rattle.model.specs.Matching.{Line, Counts, Exact, SameAtoms}
 use Rattle.model.specs.Limits.{Done}
-use Rattle.model.specs.Running.{founds, attempts}
+use Rattle.model.specs.Running.{Mode, founds, attempts}
 use Rattle.plan_facts.specs.QueryPlans.{atomsOf, countAt, textFor}
 use Rattle.fitting.specs.Planner.{planOf}
 use Rattle.running.specs.Tables.{tableOf}
@@ -78,21 +77,22 @@ GlobalsGiven x t = (a : Atom) → List·Memᴰ a (atomsOf x) → allGiven (table
 abbrev pub tableTests : List ℕ → Verdict
 tableTests t = andThen (ofReading table (reading Table t)) (shapesFrom [] 0 (framesOf t))
 
--- "Enough allowance is the tries of a run without limit, enough output the room for all match lines, or more."
-abbrev pub allLines : List ℕ → List ℕ → List Line
-allLines p t = map (matchLine p) (founds (events p t))
+-- "Enough allowance is the tries of a run without limit, enough output the room for all match lines, or more." md: the atom that the run names, or none
+abbrev pub allLines : List ℕ → List ℕ → Mode → List Line
+allLines p t md = map (matchLine p) (founds (events p t md))
 
-pub record Enough (p t : List ℕ) (A : ℕ) (o : List ℕ) : Type 0 where
-  pub tries : attempts (events p t) ≤ A
-  pub room : length (flatMap lineText (allLines p t)) ≤ length o
+pub record Enough (p t : List ℕ) (md : Mode) (A : ℕ) (o : List ℕ) : Type 0 where
+  pub tries : attempts (events p t md) ≤ A
+  pub room : length (flatMap lineText (allLines p t md)) ≤ length o
 
 -- the run of the plan text p is done, with the tries that its definition counts; the lines are exactly the matches of the query x, each once, and
--- their number is the one reported; they are what is written, no two of them with the same text, and "bytes past the written lines keep their values"
-pub record Finds (x p t o : List ℕ) (r : Result) : Type 0 where
+-- their number is the one reported; they are what is written, no two of them with the same text, and "bytes past the written lines keep their values".
+-- md: the atom that the run names, or none. Where one is named, a match is one by the rows that Note 1 lets each atom have.
+pub record Finds (x p t : List ℕ) (md : Mode) (o : List ℕ) (r : Result) : Type 0 where
   pub lines : List Line
-  pub matches-are : Exact (tableOf t) none (lineOf x) (atomsOf x) lines
+  pub matches-are : Exact (tableOf t) md (lineOf x) (atomsOf x) lines
   pub apart : Pairs _≢_ (map lineText lines)
-  pub outcome : r .outcome ≡ Ran Done (attempts (events p t)) (length lines) (length (flatMap lineText lines))
+  pub outcome : r .outcome ≡ Ran Done (attempts (events p t md)) (length lines) (length (flatMap lineText lines))
   pub output : r .output ≡ flatMap lineText lines ++ drop (length (flatMap lineText lines)) o
 
 -- two queries alike in header and atoms, in whatever order, with whatever costs, fan-outs and samples

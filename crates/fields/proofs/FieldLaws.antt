@@ -8,7 +8,7 @@ use lib.Dec.{T, ltb}
 use lib.ListN.{List·getD-map}
 use borrow.Author.Tests.{lt-ltb, le-ltb, ltb-true, ltb-false, ne-eqb}
 use Rattle.fields.specs.declared.field.Field.{Field}
-use Rattle.fields.specs.declared.field.Field.the-variants.{Free, Most, Variable, Global, Literal, Atom, Bootstrap, Real, Class, Operand, Element, KeySite, ProbePath, Ends, Rest, Lookup}
+use Rattle.fields.specs.declared.field.Field.the-variants.{Free, Most, Variable, Global, Literal, Atom, Bootstrap, Real, Class, Operand, Element, KeySite, ProbePath, Ends, Rest, Lookup, Row}
 use Rattle.fields.specs.declared.field.Counts.{Counts}
 use Rattle.fields.specs.declared.field.Test.{Test}
 use Rattle.fields.specs.declared.field.Test.the-variants.{Limits, Range, Reals}
@@ -37,6 +37,7 @@ limits-pass ProbePath f i h = absurd (true≢false h)
 limits-pass Ends f i h = absurd (true≢false h)
 limits-pass Rest f i h = absurd (true≢false h)
 limits-pass Lookup f i h = absurd (true≢false h)
+limits-pass Row f i h = refl
 
 range-passes : (n : Counts) (x : Field) (f : List ℕ) (i : ℕ) → looks Range x ≡ false → fieldIn n x f i ≡ true
 unfolding fieldIn
@@ -56,6 +57,7 @@ range-passes n ProbePath f i h = refl
 range-passes n Ends f i h = refl
 range-passes n Rest f i h = refl
 range-passes n Lookup f i h = absurd (true≢false h)
+range-passes n Row f i h = absurd (true≢false h)
 
 reals-pass : (x : Field) (f : List ℕ) (i : ℕ) → looks Reals x ≡ false → fieldReal x f i ≡ true
 unfolding fieldReal
@@ -75,6 +77,7 @@ reals-pass ProbePath f i h = refl
 reals-pass Ends f i h = refl
 reals-pass Rest f i h = refl
 reals-pass Lookup f i h = refl
+reals-pass Row f i h = refl
 
 pub field-passes : (t : Test) (n : Counts) (x : Field) (f : List ℕ) (i : ℕ) → looks t x ≡ false → fieldPasses t n x f i ≡ true
 unfolding fieldPasses
@@ -119,10 +122,10 @@ abbrev pub limitCodes : List ℕ
 limitCodes = 20 ∷ 22 ∷ 23 ∷ 24 ∷ 25 ∷ 26 ∷ 27 ∷ 28 ∷ 29 ∷ []
 
 abbrev pub rangeCodes : List ℕ
-rangeCodes = 16 ∷ 17 ∷ 18 ∷ 19 ∷ 23 ∷ 24 ∷ 29 ∷ []
+rangeCodes = 16 ∷ 17 ∷ 18 ∷ 19 ∷ 23 ∷ 24 ∷ 29 ∷ 30 ∷ []
 
 abbrev pub wideCodes : List ℕ
-wideCodes = 20 ∷ 21 ∷ 22 ∷ 23 ∷ 24 ∷ 25 ∷ 26 ∷ 27 ∷ 28 ∷ 29 ∷ []
+wideCodes = 20 ∷ 21 ∷ 22 ∷ 23 ∷ 24 ∷ 25 ∷ 26 ∷ 27 ∷ 28 ∷ 29 ∷ 30 ∷ []
 
 pub limits-other : (c : ℕ) (f : List ℕ) (i : ℕ) → Others (Unit {0}) limitCodes c → c < 128 → true ≡ fieldFits (decode c) f i
 unfolding listed covers

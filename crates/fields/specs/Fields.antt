@@ -8,7 +8,7 @@ use Rattle.base.specs.Choose.{pick}
 use Rattle.hex.specs.Digits.{shortAt, longAt}
 use Rattle.fields.specs.Limits.{bootstrapMost, classMost}
 use Rattle.fields.specs.declared.field.Field.{Field}
-use Rattle.fields.specs.declared.field.Field.the-variants.{Free, Most, Variable, Global, Literal, Atom, Bootstrap, Real, Class, Operand, Element, KeySite, ProbePath, Ends, Rest, Lookup}
+use Rattle.fields.specs.declared.field.Field.the-variants.{Free, Most, Variable, Global, Literal, Atom, Bootstrap, Real, Class, Operand, Element, KeySite, ProbePath, Ends, Rest, Lookup, Row}
 use Rattle.fields.specs.declared.field.Counts.{Counts}
 use Rattle.fields.specs.declared.field.Test.{Test}
 use Rattle.fields.specs.declared.field.Test.the-variants.{Limits, Range, Reals}
@@ -33,6 +33,7 @@ width ProbePath = 2
 width Ends = 3
 width Rest = 2
 width Lookup = 4
+width Row = 2
 
 -- ---- test 4: "above a limit; undefined tag, site, path, flag, lookup; unused byte not 00"
 
@@ -54,8 +55,9 @@ fieldFits ProbePath f i = pathFits (getD f i 0) (getD f (i + 1) 0)
 fieldFits Ends f i = endsFit (getD f i 0) (getD f (i + 1) 0) (getD f (i + 2) 0)
 fieldFits Rest f i = restFits (getD f i 0) (getD f (i + 1) 0)
 fieldFits Lookup f i = lookupFits (getD f i 0) (getD f (i + 1) 0) (getD f (i + 2) 0) (getD f (i + 3) 0)
+fieldFits Row f i = true
 
--- ---- test 5: "variable, global, literal or atom not below its count"
+-- ---- test 5: "variable, global, literal or atom not below its count"; Note 1: "frame 33 .. is 5 above the row count"
 
 abbrev pub operandIn : Counts → ℕ → ℕ → Bool
 operandIn n tag index = pick (eqb tag localTag) (ltb index (n .variables)) (ltb index (n .globals))
@@ -81,6 +83,7 @@ fieldIn n ProbePath f i = true
 fieldIn n Ends f i = true
 fieldIn n Rest f i = true
 fieldIn n Lookup f i = lookupIn n (getD f i 0) (getD f (i + 1) 0) (getD f (i + 2) 0)
+fieldIn n Row f i = leb (shortAt f i) (n .rows)
 
 -- ---- test 6: "by_repr, fan-out or cv not finite or below 0"
 
@@ -101,6 +104,7 @@ fieldReal ProbePath f i = true
 fieldReal Ends f i = true
 fieldReal Rest f i = true
 fieldReal Lookup f i = true
+fieldReal Row f i = true
 
 -- ---- one of the three tests
 
@@ -112,4 +116,4 @@ fieldPasses Reals n x f i = fieldReal x f i
 
 -- the limits go by no counts
 abbrev pub noCounts : Counts
-noCounts = record { variables = 0; globals = 0; literals = 0; atoms = 0 }
+noCounts = record { variables = 0; globals = 0; literals = 0; atoms = 0; rows = 0 }

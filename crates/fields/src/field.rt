@@ -40,6 +40,8 @@ pub enum Field {
     Rest,
     // four bytes
     Lookup,
+    // the number of a row, or that behind the last
+    Row,
 }
 
 // The codes of the fields. That of free bytes is how many they are, that of a count 128 more than the most it may be.
@@ -71,12 +73,15 @@ const REST: u8 = 28;
 
 const LOOKUP: u8 = 29;
 
-// How many variables, globals, literals and atoms there are to name.
+const ROW: u8 = 30;
+
+// How many variables, globals, literals, atoms and rows there are to name.
 pub struct Counts {
     pub variables: u8,
     pub globals: u8,
     pub literals: u8,
     pub atoms: usize,
+    pub rows: usize,
 }
 
 // Small numbers as lengths and places, and back.
@@ -115,6 +120,7 @@ pub fn width(code: u8) -> usize
         ENDS => 3,
         REST => 2,
         LOOKUP => 4,
+        ROW => 2,
         _ => 1,
     }
 }
@@ -193,6 +199,7 @@ pub fn field_in(n: Counts, code: u8, frame: &[u8], i: usize) -> bool
             byte_at(frame, i + 1),
             byte_at(frame, i + 2),
         ),
+        ROW => wide_short(short_at(frame, i)) <= n.rows,
         _ => true,
     }
 }

@@ -3,8 +3,9 @@
 -- The words: `FairPlan x p` says that the text p is a plan of x by document 01's rules, whatever the costs and samples, `Runs x` that the query has
 -- neither predicates nor collections and no Eq that is never lowered, `planFor x` is the plan's text, `InShapes` that each operator has the shape that
 -- the query uses, `Enough` what allowance and output must give, `Finds` that the lines written are exactly those of the query's matches, each once.
+-- `none`: the run names no atom, and `validation` has all its tests. What holds of one that names an atom (Note 1) stands in NewRows.
 use Prim.Native.Nat.{ℕ, _≤_}
-use mathlib.Core.Path.{_≡_}
+use mathlib.Core.Path.{_≡_, refl}
 use mathlib.Core.Logic.{_⊎_}
 use mathlib.Core.Bool.{true}
 use mathlib.Core.Option.{none}
@@ -25,7 +26,7 @@ use Rattle.running.specs.Validation.{Passed, Invalid, validation}
 use Rattle.running.specs.Run.{Result, run}
 use Rattle.fair_plans.specs.Terms.{planFor, FairPlan, lineOf, EqualitiesLowered, Runs, GlobalsGiven, tableTests, Enough, Finds, Alike}
 use Rattle.fair_plans.proofs.PlanBack.{planner-fair}
-use Rattle.guarantee.specs.Equalities.{equalities-lowered}
+use Rattle.fair_plans.proofs.Equalities.{equalities-lowered}
 use Rattle.fair_plans.proofs.Unrefused.{only-the-table, plan-refusal}
 use Rattle.fair_plans.proofs.Found.{finds}
 
@@ -37,16 +38,16 @@ writes-plan x o n c ok h = rw (ok, le-ltb (length o) (length (planFor x)) h)
 
 -- Every accepted query x that runs, every plan text p of it by a fair choice, every table text t in shape on which the run of the plan is not refused,
 -- whatever allowance and output that are enough: the run is done and writes the matches. That the run is not refused depends on neither: `not-refused`
--- of Refusals.
+-- of Refusals, with `tests-passed` of Found.
 pub fair-demand3 : (x p t : List ℕ) (n c : ℕ) → reading Query x ≡ Accepted n c → FairPlan x p → Runs x → validation p t ≡ Passed
     → InShapes (tableOf t) (atomsOf x)
-    → (A : ℕ) (o : List ℕ) → Enough p t A o → Finds x p t o (run p t A o)
-fair-demand3 = finds
+    → (A : ℕ) (o : List ℕ) → Enough p t none A o → Finds x p t none o (run p t none A o)
+fair-demand3 x p t n c ok f q passed sh = finds x p t n c ok f q passed sh none refl
 
 -- .. so the planner's own plan
 pub demand3 : (x t : List ℕ) (n c : ℕ) → reading Query x ≡ Accepted n c → Runs x → validation (planFor x) t ≡ Passed → InShapes (tableOf t) (atomsOf x)
-    → (A : ℕ) (o : List ℕ) → Enough (planFor x) t A o → Finds x (planFor x) t o (run (planFor x) t A o)
-demand3 x t n c ok = finds x (planFor x) t n c ok (planner-fair x n c ok)
+    → (A : ℕ) (o : List ℕ) → Enough (planFor x) t none A o → Finds x (planFor x) t none o (run (planFor x) t none A o)
+demand3 x t n c ok = fair-demand3 x (planFor x) t n c ok (planner-fair x n c ok)
 
 -- A query of these kinds all of whose equalities its plan lowers is one that runs: nothing is asked of it that the plan does not show.
 pub lowered-runs : (x p : List ℕ) → ((a : Atom) → List·Memᴰ a (atomsOf x) → isRun a ≡ true) → EqualitiesLowered x p → Runs x
@@ -67,7 +68,7 @@ no-nine-no-ten x t n c ok q = plan-refusal x (planFor x) t n c ok (planner-fair 
 
 -- The plans of two queries alike in header and atoms, by whatever fair choices, find the same lines, as often. (So are two texts that differ in the
 -- order of lines and in costs, fan-outs and samples: `alike-lines` of AlikeLines.)
-pub same-lines : (x y p r t : List ℕ) → Alike x y → (o : List ℕ) (a : Result) (f : Finds x p t o a) (u : List ℕ) (b : Result) (g : Finds y r t u b)
+pub same-lines : (x y p r t : List ℕ) → Alike x y → (o : List ℕ) (a : Result) (f : Finds x p t none o a) (u : List ℕ) (b : Result) (g : Finds y r t none u b)
     → Perm (f .lines) (g .lines)
 same-lines x y p r t s o a f u b g =
     let e = exact-same (tableOf t) (lineOf x) (atomsOf x) (atomsOf y) (s .atoms) (f .lines) (f .matches-are) in

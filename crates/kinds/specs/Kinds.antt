@@ -8,7 +8,7 @@ use Rattle.base.specs.Choose.{pick}
 use Rattle.fields.specs.Limits.{variablesMost, globalsMost, literalsMost, itemsMost, lookupsMost, nodesMost, classesMost, kMost}
 use Rattle.fields.specs.Fields.{width}
 use Rattle.fields.specs.declared.field.Field.{Field}
-use Rattle.fields.specs.declared.field.Field.the-variants.{Free, Most, Variable, Global, Literal, Atom, Bootstrap, Real, Class, Operand, Element, KeySite, ProbePath, Ends, Rest, Lookup}
+use Rattle.fields.specs.declared.field.Field.the-variants.{Free, Most, Variable, Global, Literal, Atom, Bootstrap, Real, Class, Operand, Element, KeySite, ProbePath, Ends, Rest, Lookup, Row}
 
 -- ---- fields by their names in the document
 
@@ -159,6 +159,8 @@ from30 =
     ∷ fixed table whole (Class ∷ byte ∷ word ∷ [])
     -- 32 global class(2)
     ∷ fixed table 2 (Global ∷ Class ∷ [])
+    -- 33 row(2), "one key" (Note 1)
+    ∷ fixed table 1 (Row ∷ [])
     ∷ []
 
 -- the plan: its header and the steps
@@ -199,7 +201,7 @@ gap n = replicate n noKind
 
 -- by number
 unfoldable pub kinds : List Kind
-kinds = from00 ++ gap 1 ++ from10 ++ gap 11 ++ from20 ++ gap 12 ++ from30 ++ gap 12 ++ from3f
+kinds = from00 ++ gap 1 ++ from10 ++ gap 11 ++ from20 ++ gap 12 ++ from30 ++ gap 11 ++ from3f
 
 -- the row of a byte, where it is a kind
 unfoldable pub kindAt : ℕ → Kind

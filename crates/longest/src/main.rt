@@ -3,6 +3,7 @@
 ghost use Prim.Native.Nat.{_≤_};
 ghost use lib.ListN.{length};
 use entries::run::run;
+use modes::mode::DeltaAtom;
 use printing::print_run;
 
 const JOINS: usize = 2620;
@@ -45,6 +46,12 @@ fn main() {
     let mut plan = [0u8; PLAN];
     let n = put_plan(&mut plan);
     let mut out = [0u8; 64];
-    let answer = run(&plan[..n], b"3000050100\n", 1_000_000, &mut out);
+    let answer = run(
+        &plan[..n],
+        b"3000050100\n",
+        1_000_000,
+        DeltaAtom::None,
+        &mut out,
+    );
     print_run(answer, &out);
 }

@@ -13,10 +13,12 @@ pub mod ExampleLaws
 pub mod Frames
 pub mod Group
 pub mod Guarantee
+pub mod Joins
 pub mod Lengths
 pub mod Limited
 pub mod Lines
 pub mod ListsLaws
+pub mod Modes
 pub mod PremisesLaws
 pub mod Rows
 pub mod RunningLaws

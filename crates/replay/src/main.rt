@@ -1,8 +1,8 @@
 // Replays cases. A case is a line of standard input: two digits say what it is, and two more stand for each byte of its text. 00 a query, 01 a
 // plan, 02 a table to be read: the answer is `accepted` with lines and those counted, or `refused` with number and line. 03 a query to be
-// planned: the answer is the plan, or the line ff number line(2). 04 a run: allowance(8) room(4) length(4), a plan of that length and a table; the
-// answer is what the program `run` prints, how many bytes behind the match lines kept their value, and what the second entry answers as one
-// number, with the line of its match.
+// planned: the answer is the plan, or the line ff number line(2). 04 a run: allowance(8) room(4) length(4), a plan of that length and a table; 05 a
+// run that names an atom: allowance(8) atom(8), the rest as before. The answer is what the program `run` prints, how many bytes behind the match
+// lines kept their value, and what the second entry answers as one number, with the line of its match.
 ghost use mathlib.Core.Path.{_≡_};
 ghost use Prim.Native.Nat.{_+_, _≤_};
 ghost use lib.ListN.{length, take};
@@ -16,6 +16,8 @@ use planner::entry::plan;
 use printing::print_planned;
 use printing::print_run;
 use reading::second::read_text;
+use run_answers::atoms::NO_ATOM;
+use run_answers::atoms::delta_atom;
 
 fn print_two(word: &[u8], a: usize, b: usize) {
     io::write_all(1, word);
@@ -81,8 +83,8 @@ fn kept(out: &[u8]) -> usize {
     out.len()
 }
 
-fn run_into(plan: &[u8], table: &[u8], allowance: u64, out: &mut [u8]) {
-    let answer = run(plan, table, allowance, out);
+fn run_into(plan: &[u8], table: &[u8], allowance: u64, atom: u64, out: &mut [u8]) {
+    let answer = run(plan, table, allowance, delta_atom(atom), out);
     print_run(answer, out);
     io::print_decimal(1, kept(out) as u64);
     io::write_all(1, b"\n");
@@ -95,9 +97,9 @@ fn match_room() -> [u8; 419]
     [0; 419]
 }
 
-fn some_case(plan: &[u8], table: &[u8], allowance: u64) {
+fn some_case(plan: &[u8], table: &[u8], allowance: u64, atom: u64) {
     let mut out = match_room();
-    let answer = rimdovek_some_match(plan, table, allowance, &mut out);
+    let answer = rimdovek_some_match(plan, table, allowance, atom, &mut out);
     io::print_decimal(1, answer);
     io::write_all(1, b"\n");
     if answer == 2 {
@@ -106,27 +108,47 @@ fn some_case(plan: &[u8], table: &[u8], allowance: u64) {
     }
 }
 
-fn run_texts(plan: &[u8], table: &[u8], allowance: u64, room: usize) {
+fn run_texts(plan: &[u8], table: &[u8], allowance: u64, atom: u64, room: usize) {
     let mut out = marked_room();
     if room <= 65536 {
-        run_into(plan, table, allowance, &mut out[..room]);
-        some_case(plan, table, allowance);
+        run_into(plan, table, allowance, atom, &mut out[..room]);
+        some_case(plan, table, allowance, atom);
     }
 }
 
-// A run: its numbers, its plan and its table.
-fn run_numbers(case: &[u8], text: &mut [u8], other: &mut [u8]) {
-    let mut numbers = [0u8; 16];
+// The rest of a run: room(4) length(4), its plan and its table.
+fn run_rest(case: &[u8], allowance: u64, atom: u64, text: &mut [u8], other: &mut [u8]) {
+    let mut numbers = [0u8; 8];
     let _ = decode(case, &mut numbers);
-    let allowance = hex::long_at(&numbers, 0);
-    let room = hex::word_at(&numbers, 8) as usize;
-    let cut = 32 + 2 * (hex::word_at(&numbers, 12) as usize);
+    let room = hex::word_at(&numbers, 0) as usize;
+    let cut = 16 + 2 * (hex::word_at(&numbers, 4) as usize);
     if case.len() < cut {
         return;
     }
-    let n = decode(&case[32..cut], text);
+    let n = decode(&case[16..cut], text);
     let m = decode(&case[cut..], other);
-    run_texts(&text[..n], &other[..m], allowance, room);
+    run_texts(&text[..n], &other[..m], allowance, atom, room);
+}
+
+// The number of 8 bytes that a line of digits begins with.
+fn long_of(line: &[u8]) -> u64 {
+    let mut number = [0u8; 8];
+    let _ = decode(line, &mut number);
+    hex::long_at(&number, 0)
+}
+
+// A run, of kind 04 or 05: its allowance, the atom that it names, and the rest.
+fn run_numbers(kind: u8, case: &[u8], text: &mut [u8], other: &mut [u8]) {
+    if case.len() < 32 {
+        return;
+    }
+    let allowance = long_of(case);
+    let rest = &case[16..];
+    if kind == 4 {
+        run_rest(rest, allowance, NO_ATOM, text, other);
+        return;
+    }
+    run_rest(&case[32..], allowance, long_of(rest), text, other);
 }
 
 fn run_case(line: &[u8], text: &mut [u8]) {
@@ -134,9 +156,9 @@ fn run_case(line: &[u8], text: &mut [u8]) {
         return;
     }
     let kind = hex::line::byte_at(line, 0);
-    if kind == 4 {
+    if 4 <= kind {
         let mut other = text_room();
-        run_numbers(&line[2..], text, &mut other);
+        run_numbers(kind, &line[2..], text, &mut other);
         return;
     }
     let n = decode(&line[2..], text);

@@ -1,27 +1,39 @@
-// Runs the plan text on standard input over the table in the file `table` (an empty one where it is missing). The argument, a decimal number
-// below 2^64, is the allowance; without one it is 1,000,000; any other argument gets a line of usage. Prints the match lines, then the line
-// 51 0000 status(1) tries(8) matches(4) with status 00 done, 01 spent, 02 full; for refused texts the line ff number line(2) text, text 01 the
-// plan, 02 the table.
+// Runs the plan text on standard input over the table in the file `table` (an empty one where it is missing). Two arguments may be given, decimal
+// numbers below 2^64: the allowance, 1,000,000 without one, and the atom that the run names as its new one, none without one. Any other arguments
+// get a line of usage. Prints the match lines, then the line 51 0000 status(1) tries(8) matches(4) with status 00 done, 01 spent, 02 full; for
+// refused texts the line ff number line(2) text, text 01 the plan, 02 the table.
 ghost use Prim.Native.Nat.{_≤_};
 ghost use lib.ListN.{length};
 use arguments::Argument;
 use arguments::decimal;
 use entries::run::run;
+use modes::mode::DeltaAtom;
 use printing::TEXT_ROOM;
 use printing::print_run;
 
-// The allowance that the arguments give.
-fn allowance() -> Argument {
-    let count = os::arg_count();
+fn say_usage() {
+    io::write_all(
+        1,
+        b"usage: run [ALLOWANCE [ATOM]] < PLAN, both in decimal, below 2^64\n",
+    );
+}
+
+// The number that argument i gives.
+fn number_at(i: usize) -> Argument {
+    let mut word = io::buffer();
+    let n = os::arg(i, &mut word);
+    decimal(&word[..n])
+}
+
+// The allowance that `count` words give, the program's name being the first.
+fn allowance(count: usize) -> Argument {
     if count < 2 {
         return Argument::Number(1_000_000);
     }
-    if 2 < count {
+    if 3 < count {
         return Argument::Other;
     }
-    let mut word = io::buffer();
-    let n = os::arg(1, &mut word);
-    decimal(&word[..n])
+    number_at(1)
 }
 
 // How many bytes of the table there are.
@@ -37,31 +49,39 @@ fn read_table(table: &mut [u8]) -> usize
     n
 }
 
-fn run_over(plan: &[u8], table: &[u8], n: usize, allowance: u64) {
+fn run_over(plan: &[u8], table: &[u8], n: usize, allowance: u64, named: DeltaAtom) {
     if table.len() < n {
         return;
     }
     let mut out = io::large_buffer();
-    let answer = run(plan, &table[..n], allowance, &mut out);
+    let answer = run(plan, &table[..n], allowance, named, &mut out);
     print_run(answer, &out);
 }
 
-fn run_with(allowance: u64) {
+fn run_with(allowance: u64, named: DeltaAtom) {
     let mut plan = [0u8; TEXT_ROOM];
     let n = io::read_full(0, &mut plan);
     let mut table = [0u8; TEXT_ROOM];
     let m = read_table(&mut table);
-    run_over(&plan[..n], &table, m, allowance);
+    run_over(&plan[..n], &table, m, allowance, named);
+}
+
+// Runs with the atom that a third word names.
+fn run_named(allowance: u64, count: usize) {
+    if count < 3 {
+        run_with(allowance, DeltaAtom::None);
+        return;
+    }
+    match number_at(2) {
+        Argument::Number(atom) => run_with(allowance, DeltaAtom::Atom(atom)),
+        Argument::Other => say_usage(),
+    }
 }
 
 fn main() {
-    match allowance() {
-        Argument::Number(a) => run_with(a),
-        Argument::Other => {
-            let _ = io::write_all(
-                1,
-                b"usage: run [ALLOWANCE] < PLAN, ALLOWANCE in decimal, below 2^64\n",
-            );
-        }
+    let count = os::arg_count();
+    match allowance(count) {
+        Argument::Number(a) => run_named(a, count),
+        Argument::Other => say_usage(),
     }
 }

@@ -9,6 +9,7 @@ use Rattle.packing.specs.Packed.{packedRefusal}
 use Rattle.hex.specs.Digits.{bytesOf}
 use Rattle.hex_lines.specs.Lines.{lineAt}
 use Rattle.first_reading.proofs.ReadingLaws.{first-line}
+use Rattle.model.specs.Running.{Mode}
 use Rattle.running.specs.Run.{matchLine, lineText, Replies}
 use Rattle.output.specs.Written.{written, Puts}
 use Rattle.bindings.specs.Envs.{envOf}
@@ -55,5 +56,5 @@ module _ (p o : List ℕ) (r : ReplyAs) where
   pub tells-back : (n : ℕ) → 2 ≤ r .kind → (r .kind ≡ 2 → ⊥) → n ≡ packedRefusal (r .number) (r .text) (r .line) → Tells (replyOf p r) o o n
   tells-back n g f h = rw (ne-eqb (r .kind) 0 (λ e. omega arith), ne-eqb (r .kind) 1 (λ e. omega arith), ne-eqb (r .kind) 2 f) (record { number = h; output = refl })
 
-pub tells-some : (p t o q : List ℕ) (A n : ℕ) (r : ReplyAs) → Replies p t A (replyOf p r) → Tells (replyOf p r) o q n → TellsSome p t A o q n
-tells-some p t o q A n r a b = record { reply = replyOf p r; replies = a; tells = b }
+pub tells-some : (p t o q : List ℕ) (md nd : Mode) (A n : ℕ) (r : ReplyAs) → nd ≡ md → Replies p t nd A (replyOf p r) → Tells (replyOf p r) o q n → TellsSome p t md A o q n
+tells-some p t o q md nd A n r e a b = record { reply = replyOf p r; replies = rw e at a; tells = b }

@@ -5,6 +5,7 @@ use mathlib.Core.List.{List}
 use lib.Dec.{ltb}
 use lib.ListN.{length}
 use Rattle.base.specs.Choose.{pick}
+use Rattle.model.specs.Running.{Mode}
 use Rattle.output.specs.Written.{written}
 use Rattle.running.specs.Run.{lineText, Reply, Rejected, Match, None, Exhausted, Replies}
 use Rattle.packing.specs.Packed.{packedRefusal}
@@ -32,7 +33,7 @@ pub record Tells (r : Reply) (o q : List ℕ) (n : ℕ) : Type 0 where
   pub output : q ≡ replyOutput r o
 
 -- they tell a reply of the second entry
-pub record TellsSome (p t : List ℕ) (A : ℕ) (o q : List ℕ) (n : ℕ) : Type 0 where
+pub record TellsSome (p t : List ℕ) (md : Mode) (A : ℕ) (o q : List ℕ) (n : ℕ) : Type 0 where
   pub reply : Reply
-  pub replies : Replies p t A reply
+  pub replies : Replies p t md A reply
   pub tells : Tells reply o q n

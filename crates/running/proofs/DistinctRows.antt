@@ -3,9 +3,9 @@ use Prim.Native.Nat.{ℕ, zero, suc, _+_, _*_, _/_, _%_, _<_}
 use mathlib.Core.Path.{_≡_, refl, sym, _∙_, ap, subst}
 use mathlib.Core.Logic.{_≢_, _⊎_, inl, inr}
 use mathlib.Core.Bool.{Bool, true, false}
-use mathlib.Core.List.{List, [], _∷_, _++_, flatMap, append-assoc, append-nil, List·Memᴰ, List·Memᴰ·cases-cons, List·Memᴰ·not-nil}
+use mathlib.Core.List.{List, [], _∷_, _++_, flatMap, append-assoc, List·Memᴰ, List·Memᴰ·cases-cons, List·Memᴰ·not-nil}
 use native.Mathlib.Omega.{arith}
-use lib.ListN.{length, getD, length-append}
+use lib.ListN.{length, getD, length-append, take-append-drop}
 use lib.Seq.{getD-append-add}
 use lib.Dec.{ltb, eqb}
 use lib.Pow.{areBytes}
@@ -32,7 +32,7 @@ use Rattle.records.specs.Items.{itemsAt}
 use Rattle.records.proofs.ItemsLaws.{items-count}
 use Rattle.plans.proofs.Items.{behind}
 use Rattle.records.specs.Rows.{rowOf, rowsIn}
-use Rattle.running.specs.Tables.{tableOf, tableIn}
+use Rattle.running.specs.Tables.{newFrom, tableOf, tableIn}
 
 -- ---- the frame of a row
 
@@ -197,6 +197,6 @@ unfolding tableIn
 distinct-rows t n c ok =
     let w = accepted Table t n c ok in
     let e = w .lines in
-    subst (Pairs _≢_) (sym (append-nil (rowsIn (framesOf t)))) (rows-apart (framesOf t)
+    subst (Pairs _≢_) (sym (take-append-drop (newFrom (framesOf t)) (rowsIn (framesOf t)))) (rows-apart (framesOf t)
     (λ i h. record { long = w .formed i (omega arith) .long; bytes = is-true (areBytes (getD (framesOf t) i [])) (frame-bytes t i) })
     (λ i j h l r q. w .apart i j h (omega arith) (row-keyed (getD (getD (framesOf t) j []) 0 0) r) (ap keyOf q)))

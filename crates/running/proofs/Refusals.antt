@@ -4,16 +4,17 @@ use Prim.Native.Nat.{ℕ}
 use mathlib.Core.Path.{_≡_, refl}
 use mathlib.Core.List.{List}
 use Rattle.model.specs.Limits.{Played}
-use Rattle.running.specs.Validation.{Verdict, Passed, Invalid, validation}
+use Rattle.model.specs.Running.{Mode}
+use Rattle.running.specs.Validation.{Verdict, Passed, Invalid, validationWith}
 use Rattle.running.specs.Run.{Refused, afterTests, run}
 
-pub invalid-run : (p t : List ℕ) (k x l : ℕ) → validation p t ≡ Invalid k x l → (A : ℕ) (o : List ℕ) → run p t A o ≡ record { outcome = Refused k x l; output = o }
+pub invalid-run : (p t : List ℕ) (md : Mode) (k x l : ℕ) → validationWith p t md ≡ Invalid k x l → (A : ℕ) (o : List ℕ) → run p t md A o ≡ record { outcome = Refused k x l; output = o }
 unfolding run
-invalid-run p t k x l h A o = rw h
+invalid-run p t md k x l h A o = rw h
 
-pub not-refused : (p t : List ℕ) (A : ℕ) (o : List ℕ) → ((k x l : ℕ) → run p t A o .outcome ≡ Refused k x l → ⊥) → validation p t ≡ Passed
+pub not-refused : (p t : List ℕ) (md : Mode) (A : ℕ) (o : List ℕ) → ((k x l : ℕ) → run p t md A o .outcome ≡ Refused k x l → ⊥) → validationWith p t md ≡ Passed
 unfolding run
-not-refused p t A o h = by (validation p t) _ h
+not-refused p t md A o h = by (validationWith p t md) _ h
   where
     by : (v : Verdict) (r : Played) → ((k x l : ℕ) → afterTests v r o .outcome ≡ Refused k x l → ⊥) → v ≡ Passed
     by Passed r h = refl

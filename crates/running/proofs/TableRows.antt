@@ -4,11 +4,11 @@ use Prim.Native.Nat.{ℕ, zero, suc, _+_, _*_, _<_, _≤_}
 use mathlib.Core.Path.{_≡_, subst}
 use mathlib.Core.Logic.{_⊎_, inl, inr}
 use mathlib.Core.Bool.{true}
-use mathlib.Core.List.{List, [], _∷_, List·Memᴰ, List·Memᴰ·cases-cons, List·Memᴰ·not-nil, append-nil}
+use mathlib.Core.List.{List, [], _∷_, List·Memᴰ, List·Memᴰ·cases-cons, List·Memᴰ·not-nil}
 use native.Mathlib.Omega.{arith}
 use native.Mathlib.Nat.{mul-suc}
 use native.Mathlib.Decide.{decLt}
-use lib.ListN.{getD, List·getD-eq-default}
+use lib.ListN.{getD, List·getD-eq-default, take-append-drop}
 use borrow.Author.Tests.{leb-true}
 use Rattle.base.proofs.ChooseLaws.{pick-elim}
 use Rattle.hex.specs.Digits.{shortAt, wordAt}
@@ -32,7 +32,7 @@ use Rattle.model.specs.Matching.{Proper}
 use Rattle.model.proofs.Carried.{TableHas}
 use Rattle.records.specs.Items.{itemsAt}
 use Rattle.records.specs.Rows.{rowOf, rowsIn}
-use Rattle.running.specs.Tables.{globalIn, tableOf, tableIn}
+use Rattle.running.specs.Tables.{globalIn, newFrom, tableOf, tableIn}
 use Rattle.running.proofs.DistinctRows.{IsRow, is-node, is-literal, row-kind, row-at}
 
 -- an item stands at its place
@@ -103,7 +103,7 @@ module _ (t : List ℕ) (n c : ℕ) (ok : reading TableText t ≡ Accepted n c) 
   pub rows-sized : (r : Row) → List·Memᴰ r (rows (tableOf t)) → Sized r
   unfolding tableIn
   rows-sized r m =
-      let a = row-at (framesOf t) r (subst (List·Memᴰ r) (append-nil (rowsIn (framesOf t))) m) in
+      let a = row-at (framesOf t) r (subst (List·Memᴰ r) (take-append-drop (newFrom (framesOf t)) (rowsIn (framesOf t))) m) in
       let w = accepted TableText t n c ok in
       let l = w .lines in
       rw (a .is) (row-sized (getD (framesOf t) (a .at) []) (row-kind _ (a .kind)) (w .formed (a .at) (omega (arith, a .within)) .limits) (frame-at-bytes (a .at)))

@@ -1,8 +1,9 @@
 -- Why the runner refuses texts: "The runner reads the plan, then the table so, then tests the table for 11, then each plan line for 10, 9,
--- 11 and the missing global."
+-- 11 and the missing global." Note 1: then 12.
 use Prim.Native.Nat.{ℕ, zero, suc}
 use mathlib.Core.Bool.{Bool, true, false, _&&_, not}
 use mathlib.Core.List.{List, [], _∷_, _++_, flatMap}
+use mathlib.Core.Option.{none, some}
 use lib.ListN.{length, getD, replicate}
 use lib.Dec.{eqb}
 use Rattle.base.specs.Choose.{pick}
@@ -17,9 +18,10 @@ use Rattle.second_reading.specs.Second.{reading}
 use Rattle.model.specs.Atoms.{Operand, local, global, wild, Lookup, ByOp, ByChildPos, ByRepr, ByContains, Step, Join, ExtractChild, CheckChildEq, CheckEq, CheckEqGlobal, BindGlobal, CopyBinding, Expand, ExtractLitVal, CheckLit, CheckPred, Row, Node, Literal, opOf, unset, Table, globalClass}
 use Rattle.model.specs.Bound.{Bound, blank}
 use Rattle.model.specs.Reading.{boundBy, pickedBy, ready}
-use Rattle.model.specs.Refusing.{runnable, allRows, fits, opsBy}
+use Rattle.model.specs.Refusing.{runnable, allRows, fits, opsBy, hasJoin}
+use Rattle.model.specs.Running.{Mode}
 use Rattle.records.specs.Rows.{rowOf}
-use Rattle.running.specs.Tables.{tableIn, stepsIn}
+use Rattle.running.specs.Tables.{tableIn, stepsIn, planSteps}
 
 -- "A refusal returns number, text (query, plan, table) and line from 1": the texts are 00, 01 and 02
 pub data Verdict : Type 0 where
@@ -132,3 +134,17 @@ validation p t =
     andThen (ofReading plan (reading Plan p))
     (andThen (ofReading table (reading TableText t))
     (testsIn (framesOf p) (framesOf t)))
+
+-- ---- Note 1: "12 (plan, line 0), the named atom has no Join, tested last"
+
+abbrev pub namedJoins : Mode → List Step → Verdict
+namedJoins none ss = Passed
+namedJoins (some a) ss = pick (hasJoin a ss) Passed (Invalid 12 plan 0)
+
+-- the tests of frames, with this one
+abbrev pub testsWith : List (List ℕ) → List (List ℕ) → Mode → Verdict
+testsWith fs gs md = andThen (testsIn fs gs) (namedJoins md (stepsIn fs))
+
+-- all tests of a run that names an atom, or none
+unfoldable pub validationWith : List ℕ → List ℕ → Mode → Verdict
+validationWith p t md = andThen (validation p t) (namedJoins md (planSteps p))

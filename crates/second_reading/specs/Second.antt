@@ -22,19 +22,20 @@ use Rattle.frame_keys.specs.Keys.{keyGiven}
 
 -- a query's and a plan's header says how many variables, globals and literals there are
 abbrev pub headerCounts : List ℕ → ℕ → Counts
-headerCounts h a = record { variables = getD h 1 0; globals = getD h 2 0; literals = getD h 3 0; atoms = a }
+headerCounts h a = record { variables = getD h 1 0; globals = getD h 2 0; literals = getD h 3 0; atoms = a; rows = 0 }
 
--- "variable, global, literal or atom not below its count (64 for a plan's atom, 16 for a table's global)"; c is the number of atoms
+-- "variable, global, literal or atom not below its count (64 for a plan's atom, 16 for a table's global)"; Note 1: "above the row count"; c is the
+-- number of atoms or of rows
 abbrev pub countsOf : Text → List ℕ → ℕ → Counts
 countsOf Query x c = headerCounts (bytesOf (firstLine x)) c
 countsOf Plan x c = headerCounts (bytesOf (firstLine x)) atomsMost
-countsOf Table x c = record { variables = 0; globals = globalsMost; literals = 0; atoms = 0 }
+countsOf Table x c = record { variables = 0; globals = globalsMost; literals = 0; atoms = 0; rows = c }
 
 -- the same from the text's sheet s
 abbrev pub countsIn : Text → List ℕ → ℕ → Counts
 countsIn Query s c = headerCounts (frameAt s 0) c
 countsIn Plan s c = headerCounts (frameAt s 0) atomsMost
-countsIn Table s c = record { variables = 0; globals = globalsMost; literals = 0; atoms = 0 }
+countsIn Table s c = record { variables = 0; globals = globalsMost; literals = 0; atoms = 0; rows = c }
 
 -- ---- one line: the number of the first test that it fails, 0 where it passes
 

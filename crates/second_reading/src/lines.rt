@@ -31,10 +31,11 @@ fn header_counts(header: &[u8], atoms: usize) -> Counts
         globals,
         literals,
         atoms,
+        rows: 0,
     }
 }
 
-// What there is to name in a text, c of its frames being atoms.
+// What there is to name in a text, c of its frames being atoms or rows.
 pub fn counts_of(t: Text, sheet: &[u8], c: usize) -> Counts
     ensures { λ r. ⌜ r ≡ countsIn t (now (sheet .entry)) c ⌝ }
 {
@@ -46,6 +47,7 @@ pub fn counts_of(t: Text, sheet: &[u8], c: usize) -> Counts
             globals: 16,
             literals: 0,
             atoms: 0,
+            rows: c,
         },
     }
 }

@@ -8,7 +8,9 @@ use Rattle.first_reading.specs.First.{framesOf}
 use Rattle.frame_tests.specs.declared.tests.Text.the-variants.{Table as TableText}
 use Rattle.second_reading.specs.Second.{reading}
 use Rattle.reading.specs.IndexedReading.{Lent}
-use Rattle.running.specs.Validation.{Verdict, andThen, ofReading, testsIn}
+use Rattle.model.specs.Running.{Mode}
+use Rattle.chains.specs.Chains.{linksAt}
+use Rattle.running.specs.Validation.{Verdict, andThen, ofReading, testsWith}
 
 -- what is lent for the table text t: a sheet and an index too; a row's line has ten digits or more
 pub record TableLent (t s i R K L : List ℕ) : Type 0 where
@@ -17,8 +19,8 @@ pub record TableLent (t s i R K L : List ℕ) : Type 0 where
   pub children : length t ≤ textMost → length t / 4 ≤ length K
   pub small : length K < 65536
   pub few : length R < 65536
-  pub links : 512 + 2 * length R ≤ length L
+  pub links : linksAt + 2 * length R ≤ length L
 
 -- the tests behind the reading of the plan, whose frames are fs: the table t is read, then both are tested
-abbrev pub tableTests : List (List ℕ) → List ℕ → Verdict
-tableTests fs t = andThen (ofReading table (reading TableText t)) (testsIn fs (framesOf t))
+abbrev pub tableTests : List (List ℕ) → List ℕ → Mode → Verdict
+tableTests fs t md = andThen (ofReading table (reading TableText t)) (testsWith fs (framesOf t) md)

@@ -1,6 +1,7 @@
 // The run of a plan on its sheet over a table text: the table is read, then run on its sheet.
 ghost use Rattle.frames.specs.Sheet.{framesIn};
 ghost use Rattle.first_reading.specs.First.{framesOf};
+ghost use Rattle.modes.specs.Modes.{modeOf};
 ghost use Rattle.validation.specs.Plans.{PlanSheet};
 ghost use Rattle.world_run.specs.Ends.{Ends};
 ghost use Rattle.sheet_run.specs.SheetRuns.{haltIn};
@@ -8,10 +9,11 @@ ghost use Rattle.table_run.specs.TableRuns.{tableTests, TableLent};
 use first_reading::first::Reading;
 use first_reading::first::sheet_size;
 use frame_tests::tests::Text;
+use modes::mode::DeltaAtom;
 use reading::second::read_indexed;
 use sheet_run::sheets::run_sheets;
 use world_run::world::Ended;
-use world_run::world::refused;
+use world_run::world::refused_table;
 
 // The run of the plan on a sheet over a table text, with the arrays that are lent for the table.
 pub fn run_table(
@@ -23,14 +25,15 @@ pub fn run_table(
     children: &mut [u16],
     links: &mut [u16],
     allowance: u64,
+    named: DeltaAtom,
     out: &mut [u8],
 ) -> Ended
     requires { ⌜ PlanSheet (now plan) ⌝ }
     requires { ⌜ TableLent (now table) (now sheet) (now index) (now rows) (now children) (now links) ⌝ }
-    ensures { λ r. ⌜ Ends (tableTests (framesIn (now (plan .entry))) (now (table .entry))) (haltIn (framesIn (now (plan .entry))) (framesOf (now (table .entry))) allowance (now (out .entry))) (now (out .entry)) (now (out .exit)) r ⌝ }
+    ensures { λ r. ⌜ Ends (tableTests (framesIn (now (plan .entry))) (now (table .entry)) (modeOf named)) (haltIn (framesIn (now (plan .entry))) (framesOf (now (table .entry))) (modeOf named) allowance (now (out .entry))) (now (out .entry)) (now (out .exit)) r ⌝ }
 {
     match read_indexed(Text::Table, table, sheet, index) {
-        Reading::Refused(k, line) => refused(k, 2, line),
+        Reading::Refused(k, line) => refused_table(k, line),
         Reading::Accepted(lines, _) => {
             let size = sheet_size(table.len(), lines);
             run_sheets(
@@ -41,6 +44,7 @@ pub fn run_table(
                 children,
                 links,
                 allowance,
+                named,
                 out,
             )
         }

@@ -1,2 +1,3 @@
 pub mod ShapeLaws
 pub mod GlobalLaws
+pub mod NewRowLaws

@@ -1,11 +1,12 @@
 -- The whole test, one part after another. Assumes nothing.
 use Prim.Native.Nat.{ℕ}
 use mathlib.Core.Path.{_≡_, _∙_}
-use mathlib.Core.List.{List, append-nil}
+use mathlib.Core.List.{List}
+use lib.ListN.{take-append-drop}
 use native.Mathlib.Omega.{arith}
 use Rattle.frames.specs.Sheet.{framesIn}
 use Rattle.records.specs.Rows.{rowsIn}
-use Rattle.running.specs.Tables.{tableIn}
+use Rattle.running.specs.Tables.{newFrom, tableIn}
 use Rattle.step_tests.specs.Steps.{Described}
 use Rattle.table_tests.specs.declared.shapes.Verdict.{Verdict as Answer}
 use Rattle.table_tests.specs.declared.shapes.Verdict.the-variants.{Passed as NoFault, Invalid as Fault}
@@ -20,7 +21,7 @@ module _ (x y : List ℕ) (v : Answer) (F : List ℕ) (s : TableNoted y v F) whe
   module _ (G : List ℕ) (e : v ≡ NoFault) (g : GlobalsRead y G) where
     speaks : Described (tableIn (framesIn y)) F G
     unfolding tableIn
-    speaks = record { shaped = rw (append-nil (rowsIn (framesIn y))) (s .shaped e); globals = g .is }
+    speaks = record { shaped = rw (take-append-drop (newFrom (framesIn y)) (rowsIn (framesIn y))) (s .shaped e); globals = g .is }
 
     pub plan-ready : PlanSheet x → PlanReady x F G
     plan-ready p = record { plan = p; table = tableIn (framesIn y); described = speaks }

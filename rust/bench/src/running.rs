@@ -70,7 +70,7 @@ fn line(name: &str, plan: &str, table: &str) {
 #[cfg(feature = "ours")]
 fn ours(plan: &str, table: &str, says: &Ran, lines: &[u8]) -> Option<f64> {
     let mut out = vec![0; ROOM];
-    let mut run = || rimdovek_sys::run(black_box(plan.as_bytes()), black_box(table.as_bytes()), u64::MAX, &mut out);
+    let mut run = || rimdovek_sys::run(black_box(plan.as_bytes()), black_box(table.as_bytes()), u64::MAX, None, &mut out);
     let first = run().expect("it runs");
     let speed = 1_000.0 / best(says.tries as usize, || _ = black_box(run()));
     assert_eq!(

@@ -19,6 +19,7 @@ mod c {
             table: *const u8,
             table_len: usize,
             allowance: u64,
+            atom: u64,
             out: *mut u8,
             out_len: usize,
             tries: *mut u64,
@@ -30,6 +31,7 @@ mod c {
             table: *const u8,
             table_len: usize,
             allowance: u64,
+            atom: u64,
             out: *mut u8,
             out_len: usize,
         ) -> u64;
@@ -178,10 +180,10 @@ pub struct Ran {
     pub matches: u64,
 }
 
-/// A run takes some 2,400 bytes of stack a Join and 220,000 besides: a plan up to this long stays below 1.9 MB.
-const SHORT_PLAN: usize = 16 << 10;
+/// A run takes some 2,800 bytes of stack a Join and 250,000 besides: a plan up to this long stays below 1.7 MB.
+const SHORT_PLAN: usize = 12 << 10;
 
-/// Enough for the longest plan text that is accepted, which takes less than 7 MB.
+/// Enough for the longest plan text that is accepted, which takes less than 7.7 MB.
 const STACK: usize = 8 << 20;
 
 /// A call that runs a plan: on a thread of its own where the plan is long.
@@ -195,13 +197,17 @@ fn with_stack<T: Send>(plan: &[u8], call: impl FnOnce() -> T + Send) -> T {
     })
 }
 
-/// Runs a plan over a table with an allowance of tries; the lines of the matches go into the lent output.
+/// The number that names no atom.
+const NO_ATOM: u64 = u64::MAX;
+
+/// Runs a plan over a table with an allowance of tries; the lines of the matches go into the lent output. The Join of the atom `delta_atom`, if one is
+/// named, tries new rows, those from the table's frame 33 on, Joins of lower atoms old rows, higher ones all.
 ///
 /// The C function's answer, accepted: the status from bit 32 on, the bytes written below.
 ///
 /// # Panics
-/// Where the plan has more than 16 kB and no thread can be made.
-pub fn run(plan: &[u8], table: &[u8], allowance: u64, out: &mut [u8]) -> Result<Ran, Refusal> {
+/// Where the plan has more than 12 kB and no thread can be made.
+pub fn run(plan: &[u8], table: &[u8], allowance: u64, delta_atom: Option<u32>, out: &mut [u8]) -> Result<Ran, Refusal> {
     let (mut tries, mut matches) = (0, 0);
     // SAFETY: the pointers are of references that outlive the call, and the lengths are the slices'.
     let answer = accepted(with_stack(plan, || unsafe {
@@ -211,6 +217,7 @@ pub fn run(plan: &[u8], table: &[u8], allowance: u64, out: &mut [u8]) -> Result<
             table.as_ptr(),
             table.len(),
             allowance,
+            delta_atom.map_or(NO_ATOM, u64::from),
             out.as_mut_ptr(),
             out.len(),
             &mut tries,
@@ -241,11 +248,11 @@ pub enum SomeMatch {
     Match,
 }
 
-/// Some match of a plan over a table.
+/// Some match of a plan over a table, in a run that names the atom `delta_atom`, if any.
 ///
 /// # Panics
 /// As `run`.
-pub fn some_match(plan: &[u8], table: &[u8], allowance: u64, out: &mut [u8]) -> Result<SomeMatch, Refusal> {
+pub fn some_match(plan: &[u8], table: &[u8], allowance: u64, delta_atom: Option<u32>, out: &mut [u8]) -> Result<SomeMatch, Refusal> {
     // SAFETY: the pointers are of references that outlive the call, and the lengths are the slices'.
     let answer = accepted(with_stack(plan, || unsafe {
         c::rimdovek_some_match(
@@ -254,6 +261,7 @@ pub fn some_match(plan: &[u8], table: &[u8], allowance: u64, out: &mut [u8]) -> 
             table.as_ptr(),
             table.len(),
             allowance,
+            delta_atom.map_or(NO_ATOM, u64::from),
             out.as_mut_ptr(),
             out.len(),
         )

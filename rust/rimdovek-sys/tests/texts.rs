@@ -83,7 +83,7 @@ fn ran(allowance: u64, status: Status, tries: u64, found: bool) {
         tries,
         matches: found.into(),
     };
-    assert_eq!(run(PLAN, TABLE, allowance, &mut out), Ok(says));
+    assert_eq!(run(PLAN, TABLE, allowance, None, &mut out), Ok(says));
     assert_eq!(&out[..written], &MATCH[..written]);
     assert!(out[written..].iter().all(|byte| *byte == LENT));
 }
@@ -98,7 +98,7 @@ fn worked_run() {
 #[test]
 fn no_room_for_the_match() {
     let mut out = [LENT; 18];
-    let answer = run(PLAN, TABLE, 6, &mut out).expect("it runs");
+    let answer = run(PLAN, TABLE, 6, None, &mut out).expect("it runs");
     assert_eq!((answer.status, answer.written, answer.matches), (Status::Full, 0, 0));
     assert_eq!(out, [LENT; 18]);
 }
@@ -106,21 +106,38 @@ fn no_room_for_the_match() {
 #[test]
 fn refused_texts_of_a_run() {
     let mut out = [LENT; 64];
-    assert_eq!(run(b"", TABLE, 6, &mut out), refusal(2, 1, 0));
-    assert_eq!(some_match(b"", TABLE, 6, &mut out), refusal(2, 1, 0));
-    assert_eq!(run(PLAN, b"3g\n", 6, &mut out).unwrap_err().text, 2);
+    assert_eq!(run(b"", TABLE, 6, None, &mut out), refusal(2, 1, 0));
+    assert_eq!(some_match(b"", TABLE, 6, None, &mut out), refusal(2, 1, 0));
+    assert_eq!(run(PLAN, b"3g\n", 6, None, &mut out).unwrap_err().text, 2);
     assert_eq!(out, [LENT; 64]);
 }
 
 #[test]
 fn worked_some_match() {
     let mut out = [LENT; 419];
-    assert_eq!(some_match(PLAN, TABLE, 2, &mut out), Ok(SomeMatch::Spent));
-    assert_eq!(some_match(PLAN, b"", 6, &mut out), Ok(SomeMatch::None));
+    assert_eq!(some_match(PLAN, TABLE, 2, None, &mut out), Ok(SomeMatch::Spent));
+    assert_eq!(some_match(PLAN, b"", 6, None, &mut out), Ok(SomeMatch::None));
     assert_eq!(out, [LENT; 419]);
-    assert_eq!(some_match(PLAN, TABLE, 6, &mut out), Ok(SomeMatch::Match));
+    assert_eq!(some_match(PLAN, TABLE, 6, None, &mut out), Ok(SomeMatch::Match));
     assert_eq!(&out[..MATCH.len()], MATCH);
-    assert_eq!(some_match(PLAN, TABLE, 6, &mut []), Ok(SomeMatch::Match));
+    assert_eq!(some_match(PLAN, TABLE, 6, None, &mut []), Ok(SomeMatch::Match));
+}
+
+/// Three old rows and two new ones: each match that uses a new row is found under one atom.
+#[test]
+fn matches_of_new_rows() {
+    const ROWS: &[u8] = b"30000502010007\n300006010200070005\n30000c01020007000b\n330003\n3000090102000a0005\n30000b02010008\n";
+    for (atom, tries, line) in [(0, 7, b"500009000a00050007\n"), (1, 7, b"50000c0007000b0008\n")] {
+        let mut out = [LENT; 64];
+        let answer = run(PLAN, ROWS, u64::MAX, Some(atom), &mut out).expect("it runs");
+        assert_eq!((answer.status, answer.tries, answer.matches), (Status::Done, tries, 1));
+        assert_eq!(&out[..line.len()], line);
+        assert_eq!(some_match(PLAN, ROWS, u64::MAX, Some(atom), &mut out), Ok(SomeMatch::Match));
+    }
+    let mut out = [LENT; 64];
+    assert_eq!(run(PLAN, ROWS, u64::MAX, None, &mut out).expect("it runs").matches, 3);
+    assert_eq!(run(PLAN, ROWS, u64::MAX, Some(2), &mut out), refusal(12, 1, 0));
+    assert_eq!(some_match(PLAN, ROWS, u64::MAX, Some(256), &mut out), refusal(12, 1, 0));
 }
 
 /// A plan of a Join and as many more lines as fit into a text of so many bytes.
@@ -133,15 +150,15 @@ fn long_plan(size: usize, line: &str) -> String {
 /// Joins that name their own target, and checks: both texts as long as any, and the longest that runs on the caller's stack of 2 MB.
 #[test]
 fn longest_plans() {
-    for size in [16 << 10, 65_536] {
+    for size in [12 << 10, 65_536] {
         for line in ["400000020001000002000000\n", "430000\n"] {
             let plan = long_plan(size, line);
             let mut out = [LENT; 64];
-            let answer = run(plan.as_bytes(), b"3000050100\n", u64::MAX, &mut out).expect("it runs");
+            let answer = run(plan.as_bytes(), b"3000050100\n", u64::MAX, None, &mut out).expect("it runs");
             assert_eq!((answer.status, answer.matches), (Status::Done, 1));
             assert_eq!(&out[..7], b"500005\n");
             assert_eq!(
-                some_match(plan.as_bytes(), b"3000050100\n", u64::MAX, &mut out),
+                some_match(plan.as_bytes(), b"3000050100\n", u64::MAX, None, &mut out),
                 Ok(SomeMatch::Match)
             );
         }

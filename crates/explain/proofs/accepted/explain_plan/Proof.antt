@@ -35,11 +35,11 @@ sheet-size-requires c κs = search needs
 array-share-prefix-sheet : tie.Need-array-share-prefix-sheet
 array-share-prefix-sheet c = search read-within
 
-slice-aggregate-say-frames : tie.Need-slice-aggregate-say-frames
-slice-aggregate-say-frames c = search read-fits
+slice-aggregate-say-sheet : tie.Need-slice-aggregate-say-sheet
+slice-aggregate-say-sheet c = search read-fits
 
-say-frames-requires : tie.Need-say-frames-requires
-say-frames-requires c κs = search needs
+say-sheet-requires : tie.Need-say-sheet-requires
+say-sheet-requires c κs = search needs
 
 returns : tie.Need-returns
 returns c = search needs
@@ -60,7 +60,7 @@ explain-plan-spec =
     enum-known-lines
     sheet-size-requires
     array-share-prefix-sheet
-    slice-aggregate-say-frames
-    say-frames-requires
+    slice-aggregate-say-sheet
+    say-sheet-requires
     returns
     returns-2)

@@ -8,10 +8,10 @@ use Rattle.explain.proofs.accepted.say_frames.Statement.{statement}
 use Rattle.explain.proofs.accepted.say_frames.Tie as tie
 
 abbrev Inv-loop : tie.InvT-loop
-Inv-loop sheet at₀ at = at ≤ length sheet
+Inv-loop sheet named at₀ at = at ≤ length sheet
 
 abbrev μ-loop : tie.MeasureT-loop
-μ-loop sheet at₀ at = length sheet - at
+μ-loop sheet named at₀ at = length sheet - at
 
 loop-holds : tie.Need-loop-holds Inv-loop μ-loop
 loop-holds c = search needs

@@ -63,6 +63,12 @@ byte-at-requires-11 c κs = search needs
 lookup-in-requires : tie.Need-lookup-in-requires
 lookup-in-requires c κs = search needs
 
+short-at-requires : tie.Need-short-at-requires
+short-at-requires c κs = search needs
+
+wide-short-requires : tie.Need-wide-short-requires
+wide-short-requires c κs = search needs
+
 returns : tie.Need-returns
 unfolding fieldIn decode
 returns c = rw (c .before .before .match .keys1, c .before .byte-at .ensures)
@@ -92,7 +98,11 @@ unfolding fieldIn decode
 returns-7 c = rw (c .before .before .before .before .match .keys7, c .lookup-in .ensures, c .before .byte-at11 .ensures, c .before .before .byte-at10 .ensures, c .before .before .before .byte-at9 .ensures)
 
 returns-8 : tie.Need-returns-8
-returns-8 c = range-other _ _ _ _ (c .match .rest)
+unfolding fieldIn decode
+returns-8 c = rw (c .before .before .before .match .keys8, c .before .wide-short .ensures .0, c .before .before .short-at .ensures)
+
+returns-9 : tie.Need-returns-9
+returns-9 c = range-other _ _ _ _ (c .match .rest)
 
 pub field-in-spec : {M : Type 1} → statement M
 field-in-spec =
@@ -117,6 +127,8 @@ field-in-spec =
     add-byte-at-4
     byte-at-requires-11
     lookup-in-requires
+    short-at-requires
+    wide-short-requires
     returns
     returns-2
     returns-3
@@ -124,4 +136,5 @@ field-in-spec =
     returns-5
     returns-6
     returns-7
-    returns-8)
+    returns-8
+    returns-9)

@@ -46,7 +46,11 @@ unfolding decode
 returns-10 c = (rw (c .match .keys10), search needs)
 
 returns-11 : tie.Need-returns-11
-returns-11 c = (narrow-other _ (c .before .pre) (c .match .rest), search needs)
+unfolding decode
+returns-11 c = (rw (c .match .keys11), search needs)
+
+returns-12 : tie.Need-returns-12
+returns-12 c = (narrow-other _ (c .before .pre) (c .match .rest), search needs)
 
 pub width-spec : {M : Type 1} → statement M
 width-spec =
@@ -62,4 +66,5 @@ width-spec =
     returns-8
     returns-9
     returns-10
-    returns-11)
+    returns-11
+    returns-12)

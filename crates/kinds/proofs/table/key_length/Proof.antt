@@ -53,7 +53,11 @@ unfolding kindAt kinds
 returns-12 c = rw (c .match .keys12)
 
 returns-13 : tie.Need-returns-13
-returns-13 c = keyless _ (c .match .rest)
+unfolding kindAt kinds
+returns-13 c = rw (c .match .keys13)
+
+returns-14 : tie.Need-returns-14
+returns-14 c = keyless _ (c .match .rest)
 
 pub key-length-spec : {M : Type 1} → statement M
 key-length-spec =
@@ -71,4 +75,5 @@ key-length-spec =
     returns-10
     returns-11
     returns-12
-    returns-13)
+    returns-13
+    returns-14)

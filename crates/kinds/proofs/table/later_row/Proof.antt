@@ -73,7 +73,11 @@ unfolding kindAt kinds
 returns-17 c = rw (c .match .keys17)
 
 returns-18 : tie.Need-returns-18
-returns-18 c = later-other _ (c .before .pre) (c .match .rest)
+unfolding kindAt kinds
+returns-18 c = rw (c .match .keys18)
+
+returns-19 : tie.Need-returns-19
+returns-19 c = later-other _ (c .before .pre) (c .match .rest)
 
 pub later-row-spec : {M : Type 1} → statement M
 later-row-spec =
@@ -96,4 +100,5 @@ later-row-spec =
     returns-15
     returns-16
     returns-17
-    returns-18)
+    returns-18
+    returns-19)

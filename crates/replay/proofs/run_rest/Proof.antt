@@ -1,20 +1,14 @@
--- `replay::run_numbers` meets its contract: each part is within the case.
+-- `replay::run_rest` meets its contract: each part is within the case.
 use Rattle.base.proofs.Lists.{taken}
 use borrow.Author.Needs.{needs}
-use Rattle.replay.proofs.run_numbers.Statement.{statement}
-use Rattle.replay.proofs.run_numbers.Tie as tie
+use Rattle.replay.proofs.run_rest.Statement.{statement}
+use Rattle.replay.proofs.run_rest.Tie as tie
 
 slice-aggregate-decode : tie.Need-slice-aggregate-decode
 slice-aggregate-decode c = search needs
 
 decode-requires : tie.Need-decode-requires
 decode-requires c κs = search needs
-
-slice-aggregate-long-at : tie.Need-slice-aggregate-long-at
-slice-aggregate-long-at c = search needs
-
-long-at-requires : tie.Need-long-at-requires
-long-at-requires c κs = search needs
 
 slice-aggregate-word-at : tie.Need-slice-aggregate-word-at
 slice-aggregate-word-at c = search needs
@@ -91,14 +85,12 @@ same-length-2 c = search needs
 returns-2 : tie.Need-returns-2
 returns-2 c = search needs
 
-pub run-numbers-spec : {M : Type 1} → statement M
-run-numbers-spec =
+pub run-rest-spec : {M : Type 1} → statement M
+run-rest-spec =
     tie.close
     (tie.spec
     slice-aggregate-decode
     decode-requires
-    slice-aggregate-long-at
-    long-at-requires
     slice-aggregate-word-at
     word-at-requires
     cast-room
