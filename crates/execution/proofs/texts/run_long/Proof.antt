@@ -1,3 +1,4 @@
+-- `execution::texts::run_long` meets its contract.
 use native.Mathlib.Omega.{arith}
 use mathlib.Core.Path.{refl}
 use Rattle.fields.specs.Limits.{textMost}
@@ -6,39 +7,29 @@ use Rattle.execution.proofs.TextLaws.{table-lent}
 use borrow.Author.Needs.{needs}
 use Rattle.execution.proofs.texts.run_long.Statement.{statement}
 use Rattle.execution.proofs.texts.run_long.Tie as tie
-use Rattle.execution.proofs.texts.run_long.Reads as reads
-use Rattle.execution.proofs.texts.run_long.Lts as lts
 use Rattle.table_run.proofs.tables.run_table.Reads as run-table-reads
 
--- src/texts.rt:145:9
 slice-aggregate-run-table : tie.Need-slice-aggregate-run-table
 slice-aggregate-run-table c = search needs
 
--- src/texts.rt:146:9
 slice-aggregate-run-table-2 : tie.Need-slice-aggregate-run-table-2
 slice-aggregate-run-table-2 c = search needs
 
--- src/texts.rt:147:9
 slice-aggregate-run-table-3 : tie.Need-slice-aggregate-run-table-3
 slice-aggregate-run-table-3 c = search needs
 
--- src/texts.rt:148:9
 slice-aggregate-run-table-4 : tie.Need-slice-aggregate-run-table-4
 slice-aggregate-run-table-4 c = search needs
 
--- src/texts.rt:149:9
 slice-aggregate-run-table-5 : tie.Need-slice-aggregate-run-table-5
 slice-aggregate-run-table-5 c = search needs
 
--- src/texts.rt:142:5
 run-table-requires : tie.Need-run-table-requires
 run-table-requires c κs = (c .before .before .before .before .before .before .before .before .before .pre, table-lent _ textMost manySlots 1024 refl (λ h. h) (omega arith) (λ c a b. omega arith) (omega arith))
 
--- src/texts.rt:133:1
 same-length : tie.Need-same-length
 same-length c = search needs
 
--- src/texts.rt:133:1
 returns : tie.Need-returns
 returns c = search needs
 

@@ -1,3 +1,4 @@
+-- `execution::texts::run_middle` meets its contract.
 use native.Mathlib.Omega.{arith}
 use mathlib.Core.Path.{refl}
 use Rattle.indexing.specs.Index.{manySlots}
@@ -6,39 +7,29 @@ use Rattle.execution.proofs.TextLaws.{table-lent}
 use borrow.Author.Needs.{needs}
 use Rattle.execution.proofs.texts.run_middle.Statement.{statement}
 use Rattle.execution.proofs.texts.run_middle.Tie as tie
-use Rattle.execution.proofs.texts.run_middle.Reads as reads
-use Rattle.execution.proofs.texts.run_middle.Lts as lts
 use Rattle.table_run.proofs.tables.run_table.Reads as run-table-reads
 
--- src/texts.rt:121:9
 slice-aggregate-run-table : tie.Need-slice-aggregate-run-table
 slice-aggregate-run-table c = search needs
 
--- src/texts.rt:122:9
 slice-aggregate-run-table-2 : tie.Need-slice-aggregate-run-table-2
 slice-aggregate-run-table-2 c = search needs
 
--- src/texts.rt:123:9
 slice-aggregate-run-table-3 : tie.Need-slice-aggregate-run-table-3
 slice-aggregate-run-table-3 c = search needs
 
--- src/texts.rt:124:9
 slice-aggregate-run-table-4 : tie.Need-slice-aggregate-run-table-4
 slice-aggregate-run-table-4 c = search needs
 
--- src/texts.rt:125:9
 slice-aggregate-run-table-5 : tie.Need-slice-aggregate-run-table-5
 slice-aggregate-run-table-5 c = search needs
 
--- src/texts.rt:118:5
 run-table-requires : tie.Need-run-table-requires
 run-table-requires c κs = (c .before .before .before .before .before .before .before .before .before .pre .0, table-lent _ middleText manySlots 1024 refl (λ _. c .before .before .before .before .before .before .before .before .before .pre .1) (omega arith) (λ c a b. omega arith) (omega arith))
 
--- src/texts.rt:108:1
 same-length : tie.Need-same-length
 same-length c = search needs
 
--- src/texts.rt:108:1
 returns : tie.Need-returns
 returns c = search needs
 

@@ -1,3 +1,4 @@
+-- `execution::texts::run_texts` meets its contract.
 use mathlib.Core.Path.{refl}
 use Rattle.fields.specs.Limits.{textMost}
 use Rattle.indexing.specs.Index.{fewSlots, manySlots}
@@ -6,87 +7,65 @@ use Rattle.reading.proofs.LentLaws.{lent-for}
 use borrow.Author.Needs.{needs}
 use Rattle.execution.proofs.texts.run_texts.Statement.{statement}
 use Rattle.execution.proofs.texts.run_texts.Tie as tie
-use Rattle.execution.proofs.texts.run_texts.Reads as reads
-use Rattle.execution.proofs.texts.run_texts.Lts as lts
 use Rattle.execution.proofs.texts.run_plan.Reads as run-plan-reads
 
--- src/texts.rt:202:38
 slice-aggregate-run-plan : tie.Need-slice-aggregate-run-plan
 slice-aggregate-run-plan c = search needs
 
--- src/texts.rt:202:50
 slice-aggregate-run-plan-2 : tie.Need-slice-aggregate-run-plan-2
 slice-aggregate-run-plan-2 c = search needs
 
--- src/texts.rt:202:9
 run-plan-requires : tie.Need-run-plan-requires
 run-plan-requires c κs = lent-for _ tinyText fewSlots refl (λ _. c .before .before .before .if1 .taken)
 
--- src/texts.rt:202:9
 same-length : tie.Need-same-length
 same-length c = search needs
 
--- src/texts.rt:202:9
 returns : tie.Need-returns
 returns c = search needs
 
--- src/texts.rt:207:38
 slice-aggregate-run-plan-3 : tie.Need-slice-aggregate-run-plan-3
 slice-aggregate-run-plan-3 c = search needs
 
--- src/texts.rt:207:50
 slice-aggregate-run-plan-4 : tie.Need-slice-aggregate-run-plan-4
 slice-aggregate-run-plan-4 c = search needs
 
--- src/texts.rt:207:9
 run-plan-requires-2 : tie.Need-run-plan-requires-2
 run-plan-requires-2 c κs = lent-for _ shortText manySlots refl (λ _. c .before .before .before .if2 .taken)
 
--- src/texts.rt:207:9
 same-length-2 : tie.Need-same-length-2
 same-length-2 c = search needs
 
--- src/texts.rt:207:9
 returns-2 : tie.Need-returns-2
 returns-2 c = search needs
 
--- src/texts.rt:212:38
 slice-aggregate-run-plan-5 : tie.Need-slice-aggregate-run-plan-5
 slice-aggregate-run-plan-5 c = search needs
 
--- src/texts.rt:212:50
 slice-aggregate-run-plan-6 : tie.Need-slice-aggregate-run-plan-6
 slice-aggregate-run-plan-6 c = search needs
 
--- src/texts.rt:212:9
 run-plan-requires-3 : tie.Need-run-plan-requires-3
 run-plan-requires-3 c κs = lent-for _ middleText manySlots refl (λ _. c .before .before .before .if3 .taken)
 
--- src/texts.rt:212:9
 same-length-3 : tie.Need-same-length-3
 same-length-3 c = search needs
 
--- src/texts.rt:212:9
 returns-3 : tie.Need-returns-3
 returns-3 c = search needs
 
--- src/texts.rt:216:27
 slice-aggregate-run-plan-7 : tie.Need-slice-aggregate-run-plan-7
 slice-aggregate-run-plan-7 c = search needs
 
--- src/texts.rt:216:39
 slice-aggregate-run-plan-8 : tie.Need-slice-aggregate-run-plan-8
 slice-aggregate-run-plan-8 c = search needs
 
--- src/texts.rt:216:5
 run-plan-requires-4 : tie.Need-run-plan-requires-4
 run-plan-requires-4 c κs = lent-for _ textMost manySlots refl (λ h. h)
 
--- src/texts.rt:196:1
 same-length-4 : tie.Need-same-length-4
 same-length-4 c = search needs
 
--- src/texts.rt:196:1
 returns-4 : tie.Need-returns-4
 returns-4 c = search needs
 

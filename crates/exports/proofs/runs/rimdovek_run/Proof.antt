@@ -1,41 +1,33 @@
+-- `exports::runs::rimdovek_run` meets its contract.
 use Rattle.run_answers.specs.Runs.{packedRun, triesIn, matchesIn}
 use Rattle.exports.proofs.RunLaws.{told-of-run, run-output}
 use borrow.Author.Needs.{needs}
 use Rattle.exports.proofs.runs.rimdovek_run.Statement.{statement}
 use Rattle.exports.proofs.runs.rimdovek_run.Tie as tie
-use Rattle.exports.proofs.runs.rimdovek_run.Reads as reads
-use Rattle.exports.proofs.runs.rimdovek_run.Lts as lts
 use Rattle.entries.proofs.run.run.Reads as run-reads
 use Rattle.run_answers.proofs.atoms.delta_atom.Reads as delta-atom-reads
 use Rattle.run_answers.proofs.runs.matches_in.Reads as matches-in-reads
 use Rattle.run_answers.proofs.runs.packed.Reads as packed-reads
 use Rattle.run_answers.proofs.runs.tries_in.Reads as tries-in-reads
 
--- src/runs.rt:29:41
 delta-atom-requires : tie.Need-delta-atom-requires
 delta-atom-requires c κs = search needs
 
--- src/runs.rt:29:9
 run-requires : tie.Need-run-requires
 run-requires c κs = search needs
 
--- src/runs.rt:30:14
 tries-in-requires : tie.Need-tries-in-requires
 tries-in-requires c κs = search needs
 
--- src/runs.rt:31:16
 matches-in-requires : tie.Need-matches-in-requires
 matches-in-requires c κs = search needs
 
--- src/runs.rt:32:5
 packed-requires : tie.Need-packed-requires
 packed-requires c κs = search needs
 
--- src/runs.rt:14:1
 same-length : tie.Need-same-length
 same-length c = search needs
 
--- src/runs.rt:14:1
 returns : tie.Need-returns
 returns c = (
   told-of-run _ _ _ _ _ _ (c .before .before .before .before .before .before .before .delta-atom .ensures) _ (c .before .before .before .before .before .run .result) (c .before .before .before .before .before .run .ensures) packedRun _ (c .packed .ensures),

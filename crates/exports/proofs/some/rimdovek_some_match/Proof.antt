@@ -1,30 +1,24 @@
+-- `exports::some::rimdovek_some_match` meets its contract.
 use Rattle.run_answers.proofs.ReplyLaws.{tells-some}
 use borrow.Author.Needs.{needs}
 use Rattle.exports.proofs.some.rimdovek_some_match.Statement.{statement}
 use Rattle.exports.proofs.some.rimdovek_some_match.Tie as tie
-use Rattle.exports.proofs.some.rimdovek_some_match.Reads as reads
-use Rattle.exports.proofs.some.rimdovek_some_match.Lts as lts
 use Rattle.entries.proofs.some.some_match.Reads as some-match-reads
 use Rattle.run_answers.proofs.atoms.delta_atom.Reads as delta-atom-reads
 use Rattle.run_answers.proofs.some.told.Reads as told-reads
 
--- src/some.rt:19:45
 delta-atom-requires : tie.Need-delta-atom-requires
 delta-atom-requires c κs = search needs
 
--- src/some.rt:19:10
 some-match-requires : tie.Need-some-match-requires
 some-match-requires c κs = search needs
 
--- src/some.rt:19:5
 told-requires : tie.Need-told-requires
 told-requires c κs = search needs
 
--- src/some.rt:9:1
 same-length : tie.Need-same-length
 same-length c = search needs
 
--- src/some.rt:9:1
 returns : tie.Need-returns
 returns c = tells-some _ _ _ _ _ _ _ _ (c .before .before .before .before .some-match .result) (c .before .before .before .before .before .delta-atom .ensures) (c .before .before .before .before .some-match .ensures .1) (c .before .before .told .ensures)
 

@@ -1,3 +1,4 @@
+-- `named_joins::joins::has_join` meets its contract.
 use borrow.Author.Needs.{needs}
 use native.Mathlib.Omega.{arith}
 use Prim.Native.Nat.{_-_}
@@ -7,8 +8,6 @@ use Rattle.table_tests.proofs.ShapeLaws.{frame-less}
 use Rattle.named_joins.proofs.NamedLaws.{Seeking, seeking-first, seeking-end, seeking-found, seeking-next}
 use Rattle.named_joins.proofs.joins.has_join.Statement.{statement}
 use Rattle.named_joins.proofs.joins.has_join.Tie as tie
-use Rattle.named_joins.proofs.joins.has_join.Reads as reads
-use Rattle.named_joins.proofs.joins.has_join.Lts as lts
 use Rattle.frames.proofs.frame.frame_at.Reads as frame-at-reads
 use Rattle.named_joins.proofs.joins.joins_atom.Reads as joins-atom-reads
 
@@ -18,39 +17,30 @@ Inv-loop plan atom at₀ at = Seeking plan atom at
 abbrev μ-loop : tie.MeasureT-loop
 μ-loop plan atom at₀ at = length plan - at
 
--- src/joins.rt:36:9
 frame-at-requires : tie.Need-frame-at-requires Inv-loop μ-loop
 frame-at-requires c κs = search needs
 
--- src/joins.rt:38:5
 loop-holds : tie.Need-loop-holds Inv-loop μ-loop
 loop-holds c = seeking-first _ (c .before .before .pre) _ _ (c .frame-at .ensures)
 
--- src/joins.rt:39:13
 frame-at-requires-2 : tie.Need-frame-at-requires-2 Inv-loop μ-loop
 frame-at-requires-2 c κs = search needs
 
--- src/joins.rt:40:12
 joins-atom-requires : tie.Need-joins-atom-requires Inv-loop μ-loop
 joins-atom-requires c κs = search needs
 
--- src/joins.rt:41:13
 returns : tie.Need-returns Inv-loop μ-loop
 returns c = seeking-found _ _ _ (c .before .before .before .before .loop .inv) (c .before .before .before .loop-test .taken) _ (c .before .before .frame-at2 .ensures) _ (c .before .joins-atom .ensures) (c .if1 .taken)
 
--- src/joins.rt:43:9
 add-at : tie.Need-add-at Inv-loop μ-loop
 add-at c = omega (arith, frame-within _ _ (c .before .before .before .loop-test .taken) _ (c .before .before .frame-at2 .ensures), c .before .before .before .before .before .before .before .good)
 
--- src/joins.rt:38:5
 loop-less : tie.Need-loop-less Inv-loop μ-loop
 loop-less c = frame-less _ _ _ (c .before .before .before .loop-test .taken) (c .before .before .frame-at2 .ensures)
 
--- src/joins.rt:38:5
 loop-again : tie.Need-loop-again Inv-loop μ-loop
 loop-again c = seeking-next _ _ _ (c .before .before .before .before .loop .inv) (c .before .before .before .loop-test .taken) _ (c .before .before .frame-at2 .ensures) _ (c .before .joins-atom .ensures) (c .if1 .left)
 
--- src/joins.rt:32:1
 returns-2 : tie.Need-returns-2 Inv-loop μ-loop
 returns-2 c = seeking-end _ _ _ (c .before .loop .inv) (c .loop-test .left)
 

@@ -1,25 +1,20 @@
+-- `table_tests::new_rows::new_from` meets its contract.
 use Rattle.table_tests.proofs.NewRowLaws.{new-proper, row-found}
 use borrow.Author.Needs.{needs}
 use Rattle.table_tests.proofs.new_rows.new_from.Statement.{statement}
 use Rattle.table_tests.proofs.new_rows.new_from.Tie as tie
-use Rattle.table_tests.proofs.new_rows.new_from.Reads as reads
-use Rattle.table_tests.proofs.new_rows.new_from.Lts as lts
 use Rattle.indexing.proofs.index.find_by.Reads as find-by-reads
 use Rattle.table_tests.proofs.new_rows.row_from.Reads as row-from-reads
 
--- src/new_rows.rt:28:36
 slice-aggregate-find-by : tie.Need-slice-aggregate-find-by
 slice-aggregate-find-by c = search needs
 
--- src/new_rows.rt:28:14
 find-by-requires : tie.Need-find-by-requires
 find-by-requires c κs = (new-proper, search needs)
 
--- src/new_rows.rt:28:5
 row-from-requires : tie.Need-row-from-requires
 row-from-requires c κs = search needs
 
--- src/new_rows.rt:23:1
 returns : tie.Need-returns
 returns c = row-found _ _ _ _ (c .before .find-by .ensures) (c .row-from .ensures)
 
