@@ -50,8 +50,8 @@ pub fn run(plan: &[u8], table: &[u8], allowance: u64, named: DeltaAtom, out: &mu
 {
     let e = run_texts(plan, table, allowance, named, out);
     if e.passed {
-        let stand = e.stand;
-        let t = stand.tally;
+        let handed = e.handed;
+        let t = handed.tally;
         return Outcome::Ran(status_of(t.status), t.tries, t.matches, t.written);
     }
     Outcome::Refused(e.number, e.text, e.line)

@@ -22,9 +22,9 @@ pub fn some_match(plan: &[u8], table: &[u8], allowance: u64, named: DeltaAtom) -
 {
     let mut out = [0u8; 1];
     let e = run_texts(plan, table, allowance, named, &mut out);
-    let stand = e.stand;
-    let tally = stand.tally;
-    let env = stand.env;
+    let handed = e.handed;
+    let tally = handed.tally;
+    let env = handed.env;
     let kind: u8 = if e.passed { tally.status } else { 3 };
     Reply {
         kind,

@@ -125,8 +125,18 @@ pub fn width(code: u8) -> usize
     }
 }
 
-// Test 4 of the field with this code that begins at byte i.
+// Test 4 of the field with this code that begins at byte i. That of a class, of which rows are made, is made in place.
 pub fn field_fits(code: u8, frame: &[u8], i: usize) -> bool
+    requires { ⌜ i < 65300 ⌝ }
+    ensures { λ r. ⌜ r ≡ fieldFits (decode code) (now (frame .entry)) i ⌝ }
+{
+    if code == CLASS {
+        return short_at(frame, i) <= 0xfffe;
+    }
+    other_fits(code, frame, i)
+}
+
+fn other_fits(code: u8, frame: &[u8], i: usize) -> bool
     requires { ⌜ i < 65300 ⌝ }
     ensures { λ r. ⌜ r ≡ fieldFits (decode code) (now (frame .entry)) i ⌝ }
 {

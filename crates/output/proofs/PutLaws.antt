@@ -103,8 +103,8 @@ module _ (x : List ℕ) (n : ℕ) (o₀ : List ℕ) (from : ℕ) (o : List ℕ) 
 pub none-put : (x : List ℕ) (n : ℕ) (o : List ℕ) (at : ℕ) → n ≤ length x → length o ≤ at → PutsBytes o at (take n x) o (at + 2 * n)
 none-put x n o at l h = record { is = sym (written-past (digitsOf (take n x)) o at h); next = omega (arith, length-take-le n x l) }
 
-pub short-put : (o q : List ℕ) (at r x a b : ℕ) → a ≡ x / 0x100 → b ≡ x % 0x100 → PutsBytes o at (a ∷ b ∷ []) q r → PutsBytes o at (x / 0x100 ∷ x % 0x100 ∷ []) q r
-short-put o q at r x a b h k u = rw (← h, ← k) u
+pub short-put : (o p q : List ℕ) (at i r x a b : ℕ) → a ≡ x / 0x100 → b ≡ x % 0x100 → PutsBytes o at (a ∷ []) p i → PutsBytes p i (b ∷ []) q r → PutsBytes o at (x / 0x100 ∷ x % 0x100 ∷ []) q r
+short-put o p q at i r x a b h k u v = rw (← h, ← k) (bytes-then (a ∷ []) (b ∷ []) u v)
 
 pub word-put : (o q : List ℕ) (at r x a b c d : ℕ) → x < 0x1_0000_0000 → a ≡ x / 0x100_0000 % 0x100 → b ≡ x / 0x1_0000 % 0x100 → c ≡ x / 0x100 % 0x100 → d ≡ x % 0x100 → PutsBytes o at (a ∷ b ∷ c ∷ d ∷ []) q r → PutsBytes o at (wordBytes x) q r
 word-put o q at r x a b c d l h i j k u = let m : x / 0x100_0000 ≡ a = omega arith in rw (m, ← i, ← j, ← k) u

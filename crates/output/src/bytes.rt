@@ -121,5 +121,6 @@ pub fn put_short(out: &mut [u8], at: usize, x: u16) -> usize
     requires { ⌜ at < 0x4000_0000 ⌝ }
     ensures { λ r. ⌜ PutsBytes (now (out .entry)) at (x / 0x100 ∷ x % 0x100 ∷ []) (now (out .exit)) r ⌝ }
 {
-    put_first(out, at, &[high_of(x), low_of(x)], 2)
+    let i = put_byte(out, at, high_of(x));
+    put_byte(out, i, low_of(x))
 }

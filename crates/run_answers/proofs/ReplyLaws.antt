@@ -12,7 +12,7 @@ use Rattle.first_reading.proofs.ReadingLaws.{first-line}
 use Rattle.model.specs.Running.{Mode}
 use Rattle.running.specs.Run.{matchLine, lineText, Replies}
 use Rattle.output.specs.Written.{written, Puts}
-use Rattle.bindings.specs.Envs.{envOf}
+use Rattle.bindings.specs.Envs.{held, envOf}
 use Rattle.match_lines.specs.MatchLines.{textBy}
 use Rattle.bindings.specs.declared.env.Env.{Env}
 use Rattle.runner.proofs.HaltLaws.{text-length}
@@ -36,8 +36,8 @@ module _ (p h o : List ℕ) (n m need : ℕ) (env : Env) (a : h ≡ lineAt p 0) 
   pub no-room : length o < need → o ≡ placed (lineText (matchLine p (envOf [] [] env))) o
   no-room g = placed-not _ _ o text-same (omega (arith, text-length n m (envOf [] [] env)))
 
-  pub has-room : need ≤ length o → (q : List ℕ) (r : ℕ) → ((words children : List ℕ) → Puts o 0 (textBy n m (envOf words children env)) q r) → q ≡ placed (lineText (matchLine p (envOf [] [] env))) o
-  has-room g q r w = placed-all _ _ o text-same q (omega (arith, text-length n m (envOf [] [] env))) (w [] [] .is)
+  pub has-room : need ≤ length o → (q : List ℕ) (r : ℕ) → ((words children picked : List ℕ) → Puts o 0 (textBy n m (held words children (env .classes) picked (env .literals))) q r) → q ≡ placed (lineText (matchLine p (envOf [] [] env))) o
+  has-room g q r w = placed-all _ _ o text-same q (omega (arith, text-length n m (envOf [] [] env))) (w [] [] (env .picked) .is)
 
 -- ---- the reply
 

@@ -24,7 +24,9 @@ fn place_line(plan: &[u8], env: Env, out: &mut [u8])
     if out.len() < need {
         return;
     }
-    write_match(env, n, m, out);
+    let classes = env.classes;
+    let literals = env.literals;
+    write_match(&classes, &literals, n, m, out);
 }
 
 // The reply as one number; the line of a match is written where it has room.

@@ -2,16 +2,15 @@
 use Prim.Native.Nat.{ℕ}
 use mathlib.Core.Path.{_≡_, refl}
 use mathlib.Core.Option.{none}
-use Rattle.fields.specs.Limits.{literalsMost}
 use Rattle.model.specs.Atoms.{unset}
 use Rattle.base.proofs.Lists.{blank-at}
 use Rattle.model.specs.Running.{noRow, rowAt}
 use Rattle.model.proofs.Exactness.{Blank}
-use Rattle.running.specs.Run.{variablesRoom, unbound}
+use Rattle.running.specs.Run.{variablesRoom, literalsRoom, unbound}
 
 pub unbound-blank : Blank unbound
 unfolding unbound
-unbound-blank = record { classes = λ v. blank-at variablesRoom unset v; literals = λ l. blank-at literalsMost none l; sequences = λ q. refl }
+unbound-blank = record { classes = λ v. blank-at variablesRoom unset v; literals = λ l. blank-at literalsRoom none l; sequences = λ q. refl }
 
 pub unbound-picked : (v : ℕ) → rowAt unbound v ≡ noRow
 unfolding unbound

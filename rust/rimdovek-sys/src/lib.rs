@@ -180,10 +180,10 @@ pub struct Ran {
     pub matches: u64,
 }
 
-/// A run takes some 2,800 bytes of stack a Join and 250,000 besides: a plan up to this long stays below 1.7 MB.
-const SHORT_PLAN: usize = 12 << 10;
+/// A run takes some 1,700 bytes of stack a Join and 250,000 besides: a plan up to this long stays below 1.7 MB.
+const SHORT_PLAN: usize = 20 << 10;
 
-/// Enough for the longest plan text that is accepted, which takes less than 7.7 MB.
+/// Enough for the longest plan text that is accepted, which takes less than 4.6 MB.
 const STACK: usize = 8 << 20;
 
 /// A call that runs a plan: on a thread of its own where the plan is long.
@@ -206,7 +206,7 @@ const NO_ATOM: u64 = u64::MAX;
 /// The C function's answer, accepted: the status from bit 32 on, the bytes written below.
 ///
 /// # Panics
-/// Where the plan has more than 12 kB and no thread can be made.
+/// Where the plan has more than 20 kB and no thread can be made.
 pub fn run(plan: &[u8], table: &[u8], allowance: u64, delta_atom: Option<u32>, out: &mut [u8]) -> Result<Ran, Refusal> {
     let (mut tries, mut matches) = (0, 0);
     // SAFETY: the pointers are of references that outlive the call, and the lengths are the slices'.

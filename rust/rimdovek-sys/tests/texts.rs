@@ -150,7 +150,7 @@ fn long_plan(size: usize, line: &str) -> String {
 /// Joins that name their own target, and checks: both texts as long as any, and the longest that runs on the caller's stack of 2 MB.
 #[test]
 fn longest_plans() {
-    for size in [12 << 10, 65_536] {
+    for size in [20 << 10, 65_536] {
         for line in ["400000020001000002000000\n", "430000\n"] {
             let plan = long_plan(size, line);
             let mut out = [LENT; 64];
