@@ -5,15 +5,15 @@ use mathlib.Core.Bool.{Bool, true, false, not}
 use mathlib.Core.List.{List, [], _∷_}
 use native.Mathlib.Omega.{arith}
 use lib.ListN.{length, getD, take, drop, List·getD-eq-default}
-use lib.Dec.{leb, ltb}
-use borrow.Author.Tests.{eq-eqb, ne-eqb, le-leb, not-true, not-false}
+use lib.Dec.{leb, ltb, eqb}
+use borrow.Author.Tests.{eq-eqb, ne-eqb, eqb-true, le-leb, not-true, not-false}
 use Rattle.base.specs.Choose.{pick}
 use Rattle.frames.specs.Sheet.{frameAt}
 use Rattle.frames.specs.Frames.{frameLength}
 use Rattle.kinds.specs.Kinds.{kindAt}
 use Rattle.frame_keys.specs.Keys.{begins, isFound}
-use Rattle.indexing.specs.Index.{slotsFor, hashOf, placeOf, olderOf, searched, found, Falling, givenBy}
-use Rattle.indexing.proofs.SlotLaws.{take-least}
+use Rattle.indexing.specs.Index.{slotsFor, hashOf, placeOf, olderOf, searched, found, Falling, givenBy, Absent}
+use Rattle.indexing.proofs.SlotLaws.{take-least, key-hash}
 use Rattle.frame_keys.proofs.KeyLaws.{shorter, part-begins, part-not}
 
 pub number-past : (l : List ℕ) (i : ℕ) → length l ≤ i → (0 ≡ getD l i 0) × (0 < 65536)
@@ -80,6 +80,17 @@ module _ (slots : ℕ) where
         some zero y = absurd (y refl)
         some (suc n) y = omega arith
 
+-- ---- an empty slot
+
+none-found : (x i k : List ℕ) (h : ℕ) → h ≡ hashOf k → eqb (getD i (h % slotsFor (length i)) 0) 0 ≡ true → [] ≡ found (slotsFor (length i)) x i k
+unfolding found searched
+none-found x i k h e z =
+    let n : getD i (hashOf k % slotsFor (length i)) 0 ≡ 0 = eqb-true _ 0 (rw e at z) in
+    rw n
+
+pub absent-by : (i k : List ℕ) (h : ℕ) (b : Bool) → h ≡ hashOf k → b ≡ eqb (getD i (h % slotsFor (length i)) 0) 0 → b ≡ true → Absent i k
+absent-by i k h b e q t x d p = none-found x i k h e (sym q ∙ t) ∙ d .are .is k p
+
 -- ---- a key that is given twice
 
 found-length : (r : List ℕ) → leb 1 (length r) ≡ isFound r
@@ -94,3 +105,9 @@ module _ (slots : ℕ) (x i f : List ℕ) (b k : ℕ) (p : b ≡ getD f 0 0) (q 
   key-is w m r z u v g =
       let e : take m f ≡ take k f = take-least k m f (rw (← u) v) in
       found-length r ∙ ap isFound g ∙ rw (← p, ← q, ne-eqb _ _ z, e)
+
+  -- its slot is empty
+  pub key-absent : (s : ℕ) (t : Bool) → slots ≡ slotsFor (length i) → (k ≡ 0 → ⊥) → s ≡ hashOf f → t ≡ eqb (getD i (s % slotsFor (length i)) 0) 0 → t ≡ true → false ≡ givenBy slots x i f
+  key-absent s t n z h e y =
+      key-is k (pick (ltb k (length f)) k (length f)) [] z refl refl
+      (rw n (none-found x i (take (pick (ltb k (length f)) k (length f)) f) s (key-hash f b k k (pick (ltb k (length f)) k (length f)) s p q z refl refl h) (sym e ∙ y)))

@@ -1,13 +1,14 @@
 // An index of a sheet's keyed frames: one list of entries a slot, by the first bytes of a frame's key.
+ghost use mathlib.Core.Bool.{true};
 ghost use mathlib.Core.Path.{_≡_};
 ghost use Prim.Native.Nat.{_%_, _<_, _≤_};
 ghost use lib.ListN.{length, getD};
-ghost use lib.Dec.{ltb};
+ghost use lib.Dec.{ltb, eqb};
 ghost use Rattle.base.specs.Choose.{pick};
 ghost use Rattle.frames.specs.Sheet.{framesIn};
 ghost use Rattle.frames.specs.Frames.{kindOf};
 ghost use Rattle.frame_keys.specs.Keys.{find as findOf};
-ghost use Rattle.indexing.specs.Index.{slotsFor, hashed as hashedOf, hashOf, found, givenBy, noted, entriesWith, Falling, Proper, Indexed, Noting};
+ghost use Rattle.indexing.specs.Index.{slotsFor, hashed as hashedOf, hashOf, found, givenBy, noted, entriesWith, Falling, Proper, Indexed, Absent, Noting};
 use fields::field::wide;
 use frame_keys::keys::begins_at;
 use frames::frame::frame_at;
@@ -87,6 +88,20 @@ fn number_at(index: &[u16], i: usize) -> usize
     index[i] as usize
 }
 
+// Whether the slot of a hash has no entry: then no frame is entered with that hash.
+fn is_empty(index: &[u16], hash: usize) -> bool
+    ensures { λ r. ⌜ r ≡ eqb (getD (now (index .entry)) (hash % slotsFor (length (now (index .entry)))) 0) 0 ⌝ }
+{
+    number_at(index, slot_for(hash, index.len())) == 0
+}
+
+// Whether it is seen at once, without a search, that no frame has the key.
+pub fn is_absent(index: &[u16], key: &[u8]) -> bool
+    ensures { λ r. ⌜ (r ≡ true → Absent (now (index .entry)) (now (key .entry))) ⌝ }
+{
+    is_empty(index, hash_of(key))
+}
+
 // The latest entered frame that begins with the key, which has that hash, and an empty part where there is none.
 fn search<'a, 'b, 'c>(sheet: &'a [u8], index: &'b [u16], key: &'c [u8], hash: usize) -> &'a [u8]
     requires { ⌜ Falling (slotsFor (length (now index))) (now index) ⌝ }
@@ -126,6 +141,9 @@ pub fn key_given(sheet: &[u8], index: &[u16], frame: &[u8], hash: usize, k: u8) 
     ensures { λ r. ⌜ r ≡ givenBy (slotsFor (length (now (index .entry)))) (now (sheet .entry)) (now (index .entry)) (now (frame .entry)) ⌝ }
 {
     if k == 0 {
+        return false;
+    }
+    if is_empty(index, hash) {
         return false;
     }
     let n = at_most(wide(k), frame.len());

@@ -7,13 +7,17 @@ ghost use Rattle.running.specs.Tables.{classFrom, globalIn};
 ghost use Rattle.table_tests.specs.Globals.{GlobalsRead};
 use hex::short_at;
 use indexing::index::find_by;
+use indexing::index::is_absent;
+
+// No class has this number.
+const UNSET: u16 = 0xffff;
 
 // The class of a frame 32; unset where there is no frame.
 fn class_from(frame: &[u8]) -> u16
     ensures { λ r. ⌜ r ≡ classFrom (now (frame .entry)) ⌝ }
 {
     if frame.len() == 0 {
-        return 0xffff;
+        return UNSET;
     }
     short_at(frame, 2)
 }
@@ -23,6 +27,9 @@ fn global_class(sheet: &[u8], index: &[u16], g: u8) -> u16
     ensures { λ r. ⌜ r ≡ globalIn (framesIn (now (sheet .entry))) g ⌝ }
 {
     let key = [0x32, g];
+    if is_absent(index, &key) {
+        return UNSET;
+    }
     class_from(find_by(sheet, index, &key))
 }
 

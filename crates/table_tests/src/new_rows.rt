@@ -8,6 +8,7 @@ ghost use Rattle.running.specs.Tables.{rowFrom};
 use fields::field::wide_short;
 use hex::short_at;
 use indexing::index::find_by;
+use indexing::index::is_absent;
 
 // The row that a frame 33 gives; the number n of rows where there is no frame.
 fn row_from(frame: &[u8], n: usize) -> usize
@@ -25,5 +26,8 @@ pub fn new_from(sheet: &[u8], index: &[u16], n: usize) -> usize
     ensures { λ r. ⌜ r ≡ rowFrom (find (0x33 ∷ []) (framesIn (now (sheet .entry)))) n ⌝ }
 {
     let key = [0x33u8];
+    if is_absent(index, &key) {
+        return n;
+    }
     row_from(find_by(sheet, index, &key), n)
 }

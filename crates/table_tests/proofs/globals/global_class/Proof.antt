@@ -1,21 +1,51 @@
--- `table_tests::globals::global_class` meets its contract: what is found by the key of a frame 32.
+use mathlib.Core.Path.{refl}
+use mathlib.Core.List.{[]}
 use Rattle.table_tests.proofs.GlobalLaws.{global-proper, class-found}
 use borrow.Author.Needs.{needs}
 use Rattle.table_tests.proofs.globals.global_class.Statement.{statement}
 use Rattle.table_tests.proofs.globals.global_class.Tie as tie
+use Rattle.table_tests.proofs.globals.global_class.Reads as reads
+use Rattle.table_tests.proofs.globals.global_class.Lts as lts
+use Rattle.indexing.proofs.index.find_by.Reads as find-by-reads
+use Rattle.indexing.proofs.index.is_absent.Reads as is-absent-reads
+use Rattle.table_tests.proofs.globals.class_from.Reads as class-from-reads
 
+-- src/globals.rt:27:25
+slice-aggregate-is-absent : tie.Need-slice-aggregate-is-absent
+slice-aggregate-is-absent c = search needs
+
+-- src/globals.rt:27:8
+is-absent-requires : tie.Need-is-absent-requires
+is-absent-requires c κs = search needs
+
+-- src/globals.rt:28:9
+returns : tie.Need-returns
+returns c = class-found [] _ _ _ (c .before .is-absent .ensures (c .if1 .taken) _ (c .before .before .before .before .before .pre) (global-proper _)) refl
+
+-- src/globals.rt:30:38
 slice-aggregate-find-by : tie.Need-slice-aggregate-find-by
 slice-aggregate-find-by c = search needs
 
+-- src/globals.rt:30:16
 find-by-requires : tie.Need-find-by-requires
 find-by-requires c κs = (global-proper _, search needs)
 
+-- src/globals.rt:30:5
 class-from-requires : tie.Need-class-from-requires
 class-from-requires c κs = search needs
 
-returns : tie.Need-returns
-returns c = search class-found
+-- src/globals.rt:22:1
+returns-2 : tie.Need-returns-2
+returns-2 c = class-found _ _ _ _ (c .before .find-by .ensures) (c .class-from .ensures)
 
 pub global-class-spec : {M : Type 1} → statement M
 global-class-spec =
-    tie.close (tie.spec slice-aggregate-find-by find-by-requires class-from-requires returns)
+    tie.close
+    (tie.spec
+    slice-aggregate-is-absent
+    is-absent-requires
+    returns
+    slice-aggregate-find-by
+    find-by-requires
+    class-from-requires
+    returns-2)
