@@ -2,7 +2,7 @@
 ghost use mathlib.Core.Path.{_≡_};
 ghost use Rattle.modes.specs.Modes.{modeOf};
 ghost use Rattle.running.specs.Run.{run as runOf};
-ghost use Rattle.runner.specs.Halts.{statusNumber};
+ghost use Rattle.counting.specs.Halts.{statusNumber};
 ghost use Rattle.entries.specs.Outcomes.{statusOf, statusBy, outcomeResult};
 use execution::texts::run_texts;
 use modes::mode::DeltaAtom;

@@ -18,7 +18,7 @@ use Rattle.model.specs.Running.{Mode}
 use Rattle.running.specs.Run.{Outcome, Refused, Ran, run, Reply, Rejected, Match, None, Exhausted, Replies}
 use Rattle.running.proofs.RefusalBounds.{Within as RefusedWithin, run-within, reply-within}
 use Rattle.run_answers.specs.Runs.{packedRun}
-use Rattle.runner.specs.Halts.{statusNumber}
+use Rattle.counting.specs.Halts.{statusNumber}
 use Rattle.run_answers.specs.Replied.{packedReply}
 use Rattle.run_answers.proofs.RunLaws.{few-codes, within-told}
 use Rattle.exports.specs.Plans.{packedAnswer}

@@ -3,6 +3,7 @@ ghost use mathlib.Core.Path.{_≡_};
 ghost use Prim.Native.Nat.{_<_, _≤_};
 ghost use Rattle.fields.specs.Fields.{width as widthOf, fieldFits, operandIn, lookupIn, fieldIn, fieldReal, fieldPasses};
 ghost use Rattle.fields.specs.Codes.{decode};
+ghost use Rattle.fields.specs.declared.field.Field.the-variants.{Class};
 use field_values::values::ends_fit;
 use field_values::values::lookup_fits;
 use field_values::values::path_fits;
@@ -125,13 +126,20 @@ pub fn width(code: u8) -> usize
     }
 }
 
+fn class_fits(frame: &[u8], i: usize) -> bool
+    requires { ⌜ i < 65300 ⌝ }
+    ensures { λ r. ⌜ r ≡ fieldFits Class (now (frame .entry)) i ⌝ }
+{
+    short_at(frame, i) <= 0xfffe
+}
+
 // Test 4 of the field with this code that begins at byte i. That of a class, of which rows are made, is made in place.
 pub fn field_fits(code: u8, frame: &[u8], i: usize) -> bool
     requires { ⌜ i < 65300 ⌝ }
     ensures { λ r. ⌜ r ≡ fieldFits (decode code) (now (frame .entry)) i ⌝ }
 {
     if code == CLASS {
-        return short_at(frame, i) <= 0xfffe;
+        return class_fits(frame, i);
     }
     other_fits(code, frame, i)
 }
@@ -142,7 +150,7 @@ fn other_fits(code: u8, frame: &[u8], i: usize) -> bool
 {
     match code {
         BOOTSTRAP => short_at(frame, i) <= 256,
-        CLASS => short_at(frame, i) <= 0xfffe,
+        CLASS => class_fits(frame, i),
         OPERAND => byte_at(frame, i) <= 1,
         ELEMENT => byte_at(frame, i) <= 1,
         KEY_SITE => site_fits(byte_at(frame, i), byte_at(frame, i + 1)),

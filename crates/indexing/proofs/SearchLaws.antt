@@ -8,11 +8,11 @@ use lib.ListN.{length, getD, take, drop, List·getD-eq-default}
 use lib.Dec.{leb, ltb, eqb}
 use borrow.Author.Tests.{eq-eqb, ne-eqb, eqb-true, le-leb, not-true, not-false}
 use Rattle.base.specs.Choose.{pick}
-use Rattle.frames.specs.Sheet.{frameAt}
+use Rattle.frames.specs.Sheet.{frameAt, framesIn}
 use Rattle.frames.specs.Frames.{frameLength}
 use Rattle.kinds.specs.Kinds.{kindAt}
-use Rattle.frame_keys.specs.Keys.{begins, isFound}
-use Rattle.indexing.specs.Index.{slotsFor, hashOf, placeOf, olderOf, searched, found, Falling, givenBy, Absent}
+use Rattle.frame_keys.specs.Keys.{begins, find, isFound}
+use Rattle.indexing.specs.Index.{slotsFor, hashOf, placeOf, olderOf, searched, found, Falling, givenBy, Proper, Indexed}
 use Rattle.indexing.proofs.SlotLaws.{take-least, key-hash}
 use Rattle.frame_keys.proofs.KeyLaws.{shorter, part-begins, part-not}
 
@@ -88,8 +88,9 @@ none-found x i k h e z =
     let n : getD i (hashOf k % slotsFor (length i)) 0 ≡ 0 = eqb-true _ 0 (rw e at z) in
     rw n
 
-pub absent-by : (i k : List ℕ) (h : ℕ) (b : Bool) → h ≡ hashOf k → b ≡ eqb (getD i (h % slotsFor (length i)) 0) 0 → b ≡ true → Absent i k
-absent-by i k h b e q t x d p = none-found x i k h e (sym q ∙ t) ∙ d .are .is k p
+-- no frame has a key whose slot has no entry
+pub absent-by : (x i k : List ℕ) (b : Bool) → b ≡ eqb (getD i (hashOf k % slotsFor (length i)) 0) 0 → b ≡ true → Indexed x i → Proper k → [] ≡ find k (framesIn x)
+absent-by x i k b q t d p = none-found x i k (hashOf k) refl (sym q ∙ t) ∙ d .are .is k p
 
 -- ---- a key that is given twice
 

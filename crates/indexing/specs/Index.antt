@@ -127,7 +127,3 @@ module _ (slots : ℕ) where
 pub record Indexed (x i : List ℕ) : Type 0 where
   pub entries : ℕ
   pub are : Indexes (slotsFor (length i)) x i (framesIn x) entries
-
--- no sheet with this index has a frame with the key k
-abbrev pub Absent : List ℕ → List ℕ → Type 0
-Absent i k = (x : List ℕ) → Indexed x i → Proper k → [] ≡ find k (framesIn x)

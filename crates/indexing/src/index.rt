@@ -1,5 +1,4 @@
 // An index of a sheet's keyed frames: one list of entries a slot, by the first bytes of a frame's key.
-ghost use mathlib.Core.Bool.{true};
 ghost use mathlib.Core.Path.{_≡_};
 ghost use Prim.Native.Nat.{_%_, _<_, _≤_};
 ghost use lib.ListN.{length, getD};
@@ -8,7 +7,7 @@ ghost use Rattle.base.specs.Choose.{pick};
 ghost use Rattle.frames.specs.Sheet.{framesIn};
 ghost use Rattle.frames.specs.Frames.{kindOf};
 ghost use Rattle.frame_keys.specs.Keys.{find as findOf};
-ghost use Rattle.indexing.specs.Index.{slotsFor, hashed as hashedOf, hashOf, found, givenBy, noted, entriesWith, Falling, Proper, Indexed, Absent, Noting};
+ghost use Rattle.indexing.specs.Index.{slotsFor, hashed as hashedOf, hashOf, found, givenBy, noted, entriesWith, Falling, Proper, Indexed, Noting};
 use fields::field::wide;
 use frame_keys::keys::begins_at;
 use frames::frame::frame_at;
@@ -95,9 +94,9 @@ fn is_empty(index: &[u16], hash: usize) -> bool
     number_at(index, slot_for(hash, index.len())) == 0
 }
 
-// Whether it is seen at once, without a search, that no frame has the key.
+// Whether the slot of a key has no entry: then no frame has the key, and none need be searched for.
 pub fn is_absent(index: &[u16], key: &[u8]) -> bool
-    ensures { λ r. ⌜ (r ≡ true → Absent (now (index .entry)) (now (key .entry))) ⌝ }
+    ensures { λ r. ⌜ r ≡ eqb (getD (now (index .entry)) (hashOf (now (key .entry)) % slotsFor (length (now (index .entry)))) 0) 0 ⌝ }
 {
     is_empty(index, hash_of(key))
 }

@@ -7,7 +7,7 @@ use Rattle.packing.specs.Unpacked.{TellsRefusal}
 use Rattle.packing.proofs.UnpackedLaws.{refusal-told}
 use Rattle.model.specs.Limits.{Status, Done, Spent, Full}
 use Rattle.running.proofs.RefusalBounds.{Within}
-use Rattle.runner.specs.Halts.{statusNumber}
+use Rattle.counting.specs.Halts.{statusNumber}
 use Rattle.entries.specs.Outcomes.{statusOf, outcomeOf}
 use Rattle.entries.specs.declared.run.Status.{Status as StatusAs}
 use Rattle.entries.specs.declared.run.Outcome.{Outcome as OutcomeAs}

@@ -1,7 +1,7 @@
 -- The runner's answer as one number, and its counts.
 use Prim.Native.Nat.{ℕ}
 use Rattle.packing.specs.Packed.{packedRefusal, packedWritten}
-use Rattle.runner.specs.Halts.{statusNumber}
+use Rattle.counting.specs.Halts.{statusNumber}
 use Rattle.running.specs.Run.{Outcome, Refused, Ran}
 
 -- a refusal, or how the run ended and the bytes written

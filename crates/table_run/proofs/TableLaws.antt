@@ -30,7 +30,7 @@ use Rattle.rows.proofs.RoomLaws.{rows-number, rows-most, rows-short, table-room
 use Rattle.model.specs.Running.{Mode}
 use Rattle.running.specs.Tables.{rowFrom, newFrom}
 use Rattle.running.specs.Validation.{Invalid, testsWith}
-use Rattle.runner.specs.Halts.{Halt}
+use Rattle.counting.specs.Halts.{Halt}
 use Rattle.world_run.specs.Ends.{Ends}
 use Rattle.world_run.specs.declared.world.Ended.{Ended}
 use Rattle.sheet_run.specs.SheetRuns.{haltIn, SheetLent}

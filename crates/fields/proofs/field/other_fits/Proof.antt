@@ -9,8 +9,8 @@ use Rattle.fields.proofs.field.other_fits.Tie as tie
 short-at-requires : tie.Need-short-at-requires
 short-at-requires c κs = search needs
 
-short-at-requires-2 : tie.Need-short-at-requires-2
-short-at-requires-2 c κs = search needs
+class-fits-requires : tie.Need-class-fits-requires
+class-fits-requires c κs = search needs
 
 byte-at-requires : tie.Need-byte-at-requires
 byte-at-requires c κs = search needs
@@ -105,7 +105,7 @@ returns c = rw (c .before .match .keys1, c .short-at .ensures)
 
 returns-2 : tie.Need-returns-2
 unfolding fieldFits decode
-returns-2 c = rw (c .before .match .keys2, c .short-at2 .ensures)
+returns-2 c = rw (c .before .match .keys2) (c .class-fits .ensures)
 
 returns-3 : tie.Need-returns-3
 unfolding fieldFits decode
@@ -147,7 +147,7 @@ other-fits-spec =
     tie.close
     (tie.spec
     short-at-requires
-    short-at-requires-2
+    class-fits-requires
     byte-at-requires
     byte-at-requires-2
     byte-at-requires-3

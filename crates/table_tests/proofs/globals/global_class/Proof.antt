@@ -1,40 +1,30 @@
+-- `table_tests::globals::global_class` meets its contract.
+use Rattle.indexing.proofs.SearchLaws.{absent-by}
 use mathlib.Core.Path.{refl}
 use mathlib.Core.List.{[]}
 use Rattle.table_tests.proofs.GlobalLaws.{global-proper, class-found}
 use borrow.Author.Needs.{needs}
 use Rattle.table_tests.proofs.globals.global_class.Statement.{statement}
 use Rattle.table_tests.proofs.globals.global_class.Tie as tie
-use Rattle.table_tests.proofs.globals.global_class.Reads as reads
-use Rattle.table_tests.proofs.globals.global_class.Lts as lts
-use Rattle.indexing.proofs.index.find_by.Reads as find-by-reads
-use Rattle.indexing.proofs.index.is_absent.Reads as is-absent-reads
-use Rattle.table_tests.proofs.globals.class_from.Reads as class-from-reads
 
--- src/globals.rt:27:25
 slice-aggregate-is-absent : tie.Need-slice-aggregate-is-absent
 slice-aggregate-is-absent c = search needs
 
--- src/globals.rt:27:8
 is-absent-requires : tie.Need-is-absent-requires
 is-absent-requires c κs = search needs
 
--- src/globals.rt:28:9
 returns : tie.Need-returns
-returns c = class-found [] _ _ _ (c .before .is-absent .ensures (c .if1 .taken) _ (c .before .before .before .before .before .pre) (global-proper _)) refl
+returns c = class-found [] _ _ _ (absent-by _ _ _ _ (c .before .is-absent .ensures) (c .if1 .taken) (c .before .before .before .before .before .pre) (global-proper _)) refl
 
--- src/globals.rt:30:38
 slice-aggregate-find-by : tie.Need-slice-aggregate-find-by
 slice-aggregate-find-by c = search needs
 
--- src/globals.rt:30:16
 find-by-requires : tie.Need-find-by-requires
 find-by-requires c κs = (global-proper _, search needs)
 
--- src/globals.rt:30:5
 class-from-requires : tie.Need-class-from-requires
 class-from-requires c κs = search needs
 
--- src/globals.rt:22:1
 returns-2 : tie.Need-returns-2
 returns-2 c = class-found _ _ _ _ (c .before .find-by .ensures) (c .class-from .ensures)
 
