@@ -1,5 +1,5 @@
 #!/usr/bin/env python3
-"""The reading of query, plan and table texts, modelled from the words of documents 01 and 02 (Note 1) and not from the code, and the cases of
+"""The reading of query, plan and table texts, modelled from the words of documents 01 and 02 (Notes 1 and 2) and not from the code, and the cases of
 reading that the program replay runs. Where they leave room, the readings are those of docs/DECISIONS.md.
 
     tests/read_texts.py DIR              writes reading.in and .out, refused.in and .out; the seed is fixed, so the same files come out
@@ -50,7 +50,7 @@ FRAMES = {QUERY: '''
 45 target global
 46 target other
 47 node flags pre suf n operands
-48 node flag rest n elements
+48 node idempotent flag rest n elements
 49 node flag rest n operands
 4a node literal
 4b node value(4)
@@ -66,7 +66,7 @@ VARIABLES = {'node', 'a', 'b', 'local', 'target', 'parent', 'other'}
 REALS = {'by_repr', 'fan-out', 'cv'}
 KEYS = {0x10: ['op'], 0x11: ['atom'], 0x12: [], 0x13: ['op', 'position'], 0x14: ['op'], 0x20: [], 0x21: ['atom'],
         0x22: ['number', 'site', 'position'], 0x23: ['class', 'path', 'position', 'op'], 0x32: ['global'], 0x33: []}
-MOST = {'variables': 64, 'globals': 16, 'literals': 16, 'k': 64, 'bootstrap': 256, 'class': 0xfffe, 'classes': 0xfffe}
+MOST = {'variables': 64, 'globals': 16, 'literals': 16, 'k': 64, 'bootstrap': 256, 'class': 0xfffe, 'classes': 0xfffe, 'idempotent': 1}
 MOST_ITEMS = {'lookups': 18, 'nodes': 64}  # else 16; frame 22 has 32 classes
 TEXT_MOST, ATOMS_MOST, ROWS_MOST = 65536, 64, 1024
 
@@ -297,7 +297,11 @@ def field_edges(kind, f):
     for flags in range(5) if kind == 0x47 else ():
         yield from (put(put(put(f, 2, 1, flags), 3, 1, p), 4, 1, s) for p, s in ((7, 0), (0, 7), (7, 7)))
     for flag in range(3) if kind in (0x48, 0x49) else ():
-        yield put(put(f, 2, 1, flag), 3, 1, 7)
+        at = at_field(kind, 'flag')[0]
+        yield put(put(f, at, 1, flag), at + 1, 1, 7)
+    if kind == 0x48:
+        # as it was before Note 2
+        yield from (g[:2] + g[3:] for g in (good(kind, n) for n in (0, 1, 2, 16)))
     last = len(f) - item[1] if item else at_field(kind, 'operand')[0] if ('operand', 2) in fields else None
     names = {item[0] if item else 'operand'}
     if last and names & {'operand', 'operands', 'elements'}:

@@ -160,12 +160,26 @@ fn say_expand(frame: &[u8]) {
     say_items(frame);
 }
 
-fn say_decompose(step: &[u8], frame: &[u8]) {
-    say(step);
-    say_variable(byte_at(frame, 1));
-    say_handle(byte_at(frame, 2) == 1, b" rest ", byte_at(frame, 3));
+// The rest of a collection, where the flag has it, and the items.
+fn say_rest(flag: u8, rest: u8, frame: &[u8]) {
+    say_handle(flag == 1, b" rest ", rest);
     say(b" into ");
     say_items(frame);
+}
+
+fn say_decompose_ac(frame: &[u8]) {
+    say(b"DecomposeAC ");
+    say_variable(byte_at(frame, 1));
+    if byte_at(frame, 2) == 1 {
+        say(b" idempotent");
+    }
+    say_rest(byte_at(frame, 3), byte_at(frame, 4), frame);
+}
+
+fn say_decompose_aci(frame: &[u8]) {
+    say(b"DecomposeACI ");
+    say_variable(byte_at(frame, 1));
+    say_rest(byte_at(frame, 2), byte_at(frame, 3), frame);
 }
 
 fn say_extract_literal(frame: &[u8]) {
@@ -199,8 +213,8 @@ pub fn say_step(frame: &[u8], named: DeltaAtom) {
         0x45 => say_pair(b"BindGlobal ", frame, b" to ", true),
         0x46 => say_pair(b"CopyBinding ", frame, b" from ", false),
         0x47 => say_expand(frame),
-        0x48 => say_decompose(b"DecomposeAC ", frame),
-        0x49 => say_decompose(b"DecomposeACI ", frame),
+        0x48 => say_decompose_ac(frame),
+        0x49 => say_decompose_aci(frame),
         0x4a => say_extract_literal(frame),
         0x4b => say_check_literal(frame),
         _ => say_check_pred(frame),

@@ -5,7 +5,7 @@ use mathlib.Core.List.{List, [], _∷_, _++_}
 use lib.ListN.{getD, replicate}
 use lib.Dec.{eqb}
 use Rattle.base.specs.Choose.{pick}
-use Rattle.fields.specs.Limits.{variablesMost, globalsMost, literalsMost, itemsMost, lookupsMost, nodesMost, classesMost, kMost}
+use Rattle.fields.specs.Limits.{variablesMost, globalsMost, literalsMost, itemsMost, lookupsMost, nodesMost, classesMost, kMost, idempotentMost}
 use Rattle.fields.specs.Fields.{width}
 use Rattle.fields.specs.declared.field.Field.{Field}
 use Rattle.fields.specs.declared.field.Field.the-variants.{Free, Most, Variable, Global, Literal, Atom, Bootstrap, Real, Class, Operand, Element, KeySite, ProbePath, Ends, Rest, Lookup, Row}
@@ -49,6 +49,10 @@ classes = Most classesMost
 
 abbrev pub k : Field
 k = Most kMost
+
+-- a truth value, false or true
+abbrev pub idempotent : Field
+idempotent = Most idempotentMost
 
 -- ---- texts by their numbers, and no text
 
@@ -184,8 +188,8 @@ from3f =
     ∷ fixed plan 0 (Variable ∷ Variable ∷ [])
     -- 47 ExpandA node flags pre suf n operands
     ∷ counted plan 0 (Variable ∷ Ends ∷ items ∷ []) Operand
-    -- 48 DecomposeAC node flag rest n (operand, multiplicity)
-    ∷ counted plan 0 (Variable ∷ Rest ∷ items ∷ []) Element
+    -- 48 DecomposeAC node idempotent flag rest n (operand, multiplicity), idempotent "after the node" (Note 2)
+    ∷ counted plan 0 (Variable ∷ idempotent ∷ Rest ∷ items ∷ []) Element
     -- 49 DecomposeACI node flag rest n operands
     ∷ counted plan 0 (Variable ∷ Rest ∷ items ∷ []) Operand
     -- 4a ExtractLitVal node literal

@@ -10,7 +10,7 @@ use lib.ListN.{length}
 use borrow.Author.Tests.{eqb-true, lt-ltb}
 use Rattle.set_model.specs.Lists.{one, Pairs}
 use Rattle.model.proofs.Bools.{both, first, second}
-use Rattle.model.specs.Atoms.{Operand, local, global, wild, A, AC, ACI, isRun, Atom, Plain, Lit, LitBind, Eq, EqGlobal, Pred, Variadic, Lookup, ByChildPos, ByContains, Step, Join, Expand, ExtractLitVal, CheckLit, Row, Node, Literal, opOf, children, Table, rows}
+use Rattle.model.specs.Atoms.{Operand, local, global, wild, A, AC, ACI, isRun, Atom, Plain, Lit, LitBind, Eq, EqGlobal, Pred, Variadic, Lookup, ByChildPos, ByContains, ExpandA, DecomposeACI, Step, Join, Expand, ExtractLitVal, CheckLit, Row, Node, Literal, opOf, children, Table, rows}
 use Rattle.model.specs.Bound.{put, Bound, has, add}
 use Rattle.model.proofs.BoundLaws.{put-same}
 use Rattle.model.specs.Lowering.{pvIsBound, pvMarkBound, readChild, emitReadChildren, childLookups, containsLookups, joinLookups, Emitted, lowerEq, lowerEqGlobal, lower, Lowered, done, more}
@@ -178,10 +178,10 @@ module _ (tb : Table) where
       go false e = subst (λ (m : Emitted). allFit tb O (m .steps ++ ss) ≡ true) (Option·some-injective _ _ e) (r O)
   atom-fits B k (Pred g ds) l ss e sh r O = absurd sh
   atom-fits B k (Variadic n o cs (A p s)) l ss e sh r O = subst (λ (m : Emitted). allFit tb O (m .steps ++ ss) ≡ true) (Option·some-injective _ _ e)
-      (join-then B O n k o (containsLookups B cs) (Expand n cs (A p s) ∷ ss) (elements-fit o B cs) (λ P q. both (ap (λ (c : ℕ). allRows isNode c (rows tb)) q ∙ nodes o sh) (r P)))
+      (join-then B O n k o (containsLookups B cs) (Expand n cs (ExpandA p s) ∷ ss) (elements-fit o B cs) (λ P q. both (ap (λ (c : ℕ). allRows isNode c (rows tb)) q ∙ nodes o sh) (r P)))
   atom-fits B k (Variadic n o cs (AC ms q)) l ss e sh r O = absurd sh
   atom-fits B k (Variadic n o cs (ACI q)) l ss e sh r O = subst (λ (m : Emitted). allFit tb O (m .steps ++ ss) ≡ true) (Option·some-injective _ _ e)
-      (join-then B O n k o (containsLookups B cs) (Expand n cs (ACI q) ∷ ss) (elements-fit o B cs) (λ P x. both (ap (λ (c : ℕ). allRows isNode c (rows tb)) x ∙ nodes o (λ row m p. some-node row (sh row m p))) (r P)))
+      (join-then B O n k o (containsLookups B cs) (Expand n cs (DecomposeACI q) ∷ ss) (elements-fit o B cs) (λ P x. both (ap (λ (c : ℕ). allRows isNode c (rows tb)) x ∙ nodes o (λ row m p. some-node row (sh row m p))) (r P)))
     where
       some-node : (row : Row) → AsNode (Pairs _<_) row → AsNode (λ ds. Unit {0}) row
       some-node (Node c o ds) z = tt

@@ -97,7 +97,7 @@ module _ (C L : ℕ → Type 0) where
     move-has (CheckEqGlobal a g) r σ h m i = alone _ (kept (sameClass (class σ a) (globalClass tb g)) σ h) m i
     move-has (BindGlobal v g) r σ h m i = alone _ (bound σ h v _ (w .globals g)) m i
     move-has (CopyBinding v o) r σ h m i = alone _ (bound σ h v _ (h .classes o)) m i
-    move-has (Expand n cs f) r σ h m i = absurd (subst T (sym r) tt)
+    move-has (Expand n cs x) r σ h m i = absurd (subst T (sym r) tt)
     move-has (ExtractLitVal n l) r σ h m i = alone _ (assigned σ h l _ (h .rows n .value)) m i
     move-has (CheckLit n x) r σ h m i = alone _ (kept (eqb (valueOf (rowAt σ n)) x) σ h) m i
     move-has (CheckPred g) r σ h m i = absurd (subst T (sym r) tt)

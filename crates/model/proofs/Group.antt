@@ -17,7 +17,7 @@ use Rattle.model.proofs.TabulateLaws.{mem-tabulate, tabulate-mem}
 use Rattle.model.proofs.Bools.{first, second, true-false}
 use Rattle.model.specs.Equality.{sameClass}
 use Rattle.model.proofs.EqualityLaws.{same-eq, eq-same}
-use Rattle.model.specs.Atoms.{Operand, local, global, wild, A, AC, ACI, Atom, Plain, Lit, LitBind, Eq, EqGlobal, Pred, Variadic, litsIn, seqsIn, tame, allTame, tameAtom, Lookup, Step, Join, ExtractChild, CheckChildEq, CheckEq, CheckEqGlobal, BindGlobal, CopyBinding, Expand, ExtractLitVal, CheckLit, Row, Node, Literal, opOf, children, valueOf, unset, childAt, Table, rows, globalClass}
+use Rattle.model.specs.Atoms.{Operand, local, global, wild, A, AC, ACI, Atom, Plain, Lit, LitBind, Eq, EqGlobal, Pred, Variadic, litsIn, seqsIn, tame, allTame, tameAtom, Lookup, ExpandA, DecomposeACI, Step, Join, ExtractChild, CheckChildEq, CheckEq, CheckEqGlobal, BindGlobal, CopyBinding, Expand, ExtractLitVal, CheckLit, Row, Node, Literal, opOf, children, valueOf, unset, childAt, Table, rows, globalClass}
 use Rattle.model.specs.Bound.{Bound, has, add, addAll}
 use Rattle.model.specs.Lowering.{pvIsBound, pvMarkBound, markAll, readChild, emitReadChildren, childLookups, containsLookups, joinLookups, Emitted, lowerEq, lowerEqGlobal, lower}
 use Rattle.model.specs.Stores.{keep}
@@ -188,7 +188,7 @@ module _ (W : Type 0) (tb : Table) (md : Mode) (pr : Proper tb) where
       long i m = let t = tabulate-mem (suc (length (children (rowAt σ n))) - length cs) (λ i. i) i m in let b = t .below in let e = t .is in length-take-le i (children (rowAt σ n)) (omega arith)
 
   expand-finds : (n : ℕ) (p : Option ℕ) (cs : List Operand) (s : Option ℕ) (K : Known) (σ : Env) (v : Inv K σ) (ne : (d : ℕ) → List·Memᴰ d (children (rowAt σ n)) → d ≢ unset)
-      → Finds W (Inv (addSeq (withVars (addSeq K p) (markAll (addSeq K p .vars) cs)) s)) Ext (runs tb md (Expand n cs (A p s) ∷ []) σ) (λ α. Ext σ α × Parts tb α p cs s (children (rowAt σ n)))
+      → Finds W (Inv (addSeq (withVars (addSeq K p) (markAll (addSeq K p .vars) cs)) s)) Ext (runs tb md (Expand n cs (ExpandA p s) ∷ []) σ) (λ α. Ext σ α × Parts tb α p cs s (children (rowAt σ n)))
   unfolding runs
   expand-finds n p cs s K σ v ne =
       rw (flat-map (λ (m : Move). onward (runs tb md []) (m .next)) (λ i. record { counts = counted p s; next = fitAt tb p cs s (children (rowAt σ n)) σ i }) (offsets p s (length (children (rowAt σ n))) (length cs)))
@@ -253,18 +253,18 @@ module _ (W : Type 0) (tb : Table) (md : Mode) (pr : Proper tb) where
         leaf-finds n o (ExtractLitVal n l) (addLit (addVar K n) l) (λ α y. y ≡ α .literals l) sh (λ α a b p q. p ∙ sym q)
         (λ y τ q w. last-step W tb md (addLit (addVar K n) l) τ (ExtractLitVal n l) (setLit τ l y) (ap (λ z. alone (setLit τ l z)) q) (gives-lit (addVar K n) τ l y w))
 
-    seq-finds : (n o : ℕ) (cs : List Operand) (p s : Option ℕ) → InShape tb (Variadic n o cs (A p s)) → (W → allTame cs ≡ true) → Right (Variadic n o cs (A p s)) (record { steps = Join n k (joinLookups (has (K .vars) n) n o (containsLookups (K .vars) cs)) ∷ Expand n cs (A p s) ∷ []; bound = markAll (add (K .vars) n) cs })
+    seq-finds : (n o : ℕ) (cs : List Operand) (p s : Option ℕ) → InShape tb (Variadic n o cs (A p s)) → (W → allTame cs ≡ true) → Right (Variadic n o cs (A p s)) (record { steps = Join n k (joinLookups (has (K .vars) n) n o (containsLookups (K .vars) cs)) ∷ Expand n cs (ExpandA p s) ∷ []; bound = markAll (add (K .vars) n) cs })
     seq-finds n o cs p s sh t =
-        subst (λ (C : Known). Finds W (Inv C) Ext (runs tb md (Join n k (joinLookups (has (K .vars) n) n o (containsLookups (K .vars) cs)) ∷ Expand n cs (A p s) ∷ []) σ) (λ α. Ext σ α × Holds tb (joinRows tb md k) α (Variadic n o cs (A p s)))) (after-seqs n o cs p s K)
-        (node-finds n o (containsLookups (K .vars) cs) (Expand n cs (A p s) ∷ []) (addSeq (withVars (addSeq (addVar K n) p) (markAll (addSeq (addVar K n) p .vars) cs)) s) (λ ds. Unit {0}) (λ α. Parts tb α p cs s) sh
+        subst (λ (C : Known). Finds W (Inv C) Ext (runs tb md (Join n k (joinLookups (has (K .vars) n) n o (containsLookups (K .vars) cs)) ∷ Expand n cs (ExpandA p s) ∷ []) σ) (λ α. Ext σ α × Holds tb (joinRows tb md k) α (Variadic n o cs (A p s)))) (after-seqs n o cs p s K)
+        (node-finds n o (containsLookups (K .vars) cs) (Expand n cs (ExpandA p s) ∷ []) (addSeq (withVars (addSeq (addVar K n) p) (markAll (addSeq (addVar K n) p .vars) cs)) s) (λ ds. Unit {0}) (λ α. Parts tb α p cs s) sh
         (λ w α ds es x y. parts-once tb α p cs s (t w) ds es)
         (λ α r e z. looks-elements tb K σ r α v e cs (z .middle) (λ x m. subst (List·Memᴰ x) (sym (z .is)) (Memᴰ·append-right (part α p) (Memᴰ·append-left (part α s) m))) (z .covers))
         (λ ds z ne τ q w. rw q at (expand-finds n p cs s (addVar K n) τ w (rw q ne))))
 
-    set-finds-in : (n o : ℕ) (cs : List Operand) (r : Option ℕ) → Suits tb (Variadic n o cs (ACI r)) → (W → allTame cs ≡ true) → Right (Variadic n o cs (ACI r)) (record { steps = Join n k (joinLookups (has (K .vars) n) n o (containsLookups (K .vars) cs)) ∷ Expand n cs (ACI r) ∷ []; bound = markAll (add (K .vars) n) cs })
+    set-finds-in : (n o : ℕ) (cs : List Operand) (r : Option ℕ) → Suits tb (Variadic n o cs (ACI r)) → (W → allTame cs ≡ true) → Right (Variadic n o cs (ACI r)) (record { steps = Join n k (joinLookups (has (K .vars) n) n o (containsLookups (K .vars) cs)) ∷ Expand n cs (DecomposeACI r) ∷ []; bound = markAll (add (K .vars) n) cs })
     set-finds-in n o cs r sh t =
-        subst (λ (C : Known). Finds W (Inv C) Ext (runs tb md (Join n k (joinLookups (has (K .vars) n) n o (containsLookups (K .vars) cs)) ∷ Expand n cs (ACI r) ∷ []) σ) (λ α. Ext σ α × Holds tb (joinRows tb md k) α (Variadic n o cs (ACI r)))) (after-rest n o cs r K)
-        (node-finds n o (containsLookups (K .vars) cs) (Expand n cs (ACI r) ∷ []) (addSeq (withVars (addVar K n) (markAll (add (K .vars) n) cs)) r) (Pairs _<_) (λ α ds. SetHolds (tb .globals) ds (asSets α) cs r) (sh .0)
+        subst (λ (C : Known). Finds W (Inv C) Ext (runs tb md (Join n k (joinLookups (has (K .vars) n) n o (containsLookups (K .vars) cs)) ∷ Expand n cs (DecomposeACI r) ∷ []) σ) (λ α. Ext σ α × Holds tb (joinRows tb md k) α (Variadic n o cs (ACI r)))) (after-rest n o cs r K)
+        (node-finds n o (containsLookups (K .vars) cs) (Expand n cs (DecomposeACI r) ∷ []) (addSeq (withVars (addVar K n) (markAll (add (K .vars) n) cs)) r) (Pairs _<_) (λ α ds. SetHolds (tb .globals) ds (asSets α) cs r) (sh .0)
         (λ w α ds es x y. sets-once (tb .globals) (asSets α) cs r (t w) ds es x y)
         (λ α row e z. looks-bound tb K σ row cs (set-names tb K σ α cs r (children row) v e z))
         (λ ds z ne τ q w. rw q at (set-finds W tb md n cs r (addVar K n) τ w (sh .1) (rw q ne) (rw q z) t)))

@@ -20,7 +20,7 @@ use Rattle.set_model.proofs.Apart.{finds-once}
 use Rattle.set_model.specs.Lists.{Pairs}
 use Rattle.model.proofs.ListsLaws.{pairs-map, Clash, Finds}
 use Rattle.model.proofs.Bools.{bool-ext, true-false}
-use Rattle.model.specs.Atoms.{Operand, local, global, wild, ACI, localOf, allTame, Expand, children, unset, Table}
+use Rattle.model.specs.Atoms.{Operand, local, global, wild, localOf, allTame, DecomposeACI, Expand, children, unset, Table}
 use Rattle.model.specs.Bound.{Bound, has, add, addAll, isIn}
 use Rattle.model.proofs.BoundLaws.{has-all}
 use Rattle.model.specs.Lowering.{pvIsBound, pvMarkBound, markAll}
@@ -55,7 +55,7 @@ module _ (tb : Table) (md : Mode) (σ : Env) where
   all-ends k h (offered ∷ ms) = all-ends k h ms
   all-ends k h (taken ts ∷ ms) = let p = h ts in let q = all-ends k h ms in rw (p, q) (sym (map-append (fromSet σ) (k ts) (flatMap k (ends ms))))
 
-  pub runs-set : (n : ℕ) (cs : List Operand) (r : Option ℕ) → runs tb md (Expand n cs (ACI r) ∷ []) σ ≡ map (fromSet σ) (setStep (tb .globals) (children (rowAt σ n)) cs r (asSet σ))
+  pub runs-set : (n : ℕ) (cs : List Operand) (r : Option ℕ) → runs tb md (Expand n cs (DecomposeACI r) ∷ []) σ ≡ map (fromSet σ) (setStep (tb .globals) (children (rowAt σ n)) cs r (asSet σ))
   unfolding runs setStep
   runs-set n cs r = all-ends (ended (children (rowAt σ n)) (inTurns tb σ cs) r (asSet σ)) (λ ts. one-end r (bindAll (asSet σ) (inTurns tb σ cs) ts) (without ts (children (rowAt σ n)))) (turns (children (rowAt σ n)) (map (setClassOf (tb .globals) (σ .classes)) (inTurns tb σ cs)) [])
 
@@ -164,7 +164,7 @@ tame-none (global g ∷ cs) h = tame-none cs h
 tame-none (wild ∷ cs) h = true-false h refl
 
 pub set-finds : (W : Type 0) (tb : Table) (md : Mode) (n : ℕ) (cs : List Operand) (rest : Option ℕ) (K : Known) (σ : Env) → Inv K σ → Classed (tb .globals) cs → ((d : ℕ) → List·Memᴰ d (children (rowAt σ n)) → d ≢ unset) → Pairs _<_ (children (rowAt σ n)) → (W → allTame cs ≡ true)
-    → Finds W (Inv (addSeq (withVars K (markAll (K .vars) cs)) rest)) Ext (runs tb md (Expand n cs (ACI rest) ∷ []) σ) (λ α. Ext σ α × SetHolds (tb .globals) (children (rowAt σ n)) (asSets α) cs rest)
+    → Finds W (Inv (addSeq (withVars K (markAll (K .vars) cs)) rest)) Ext (runs tb md (Expand n cs (DecomposeACI rest) ∷ []) σ) (λ α. Ext σ α × SetHolds (tb .globals) (children (rowAt σ n)) (asSets α) cs rest)
 set-finds W tb md n cs rest K σ v cl ne asc t = rw (runs-set tb md σ n cs rest) (record {
   each = λ τ m. let r = Memᴰ·of-map (fromSet σ) steps m in subst (Inv (addSeq (withVars K (markAll (K .vars) cs)) rest)) (r .2) (inv rest (r .0) (set-fits G ds cs rest (asSet σ) (K .vars) (K .seqs) ne (v .vars, v .seqs) (r .0) (r .1)));
   sound = λ τ m α e. let r = Memᴰ·of-map (fromSet σ) steps m in back (r .0) (r .1) α (subst (λ (z : Env). Ext z α) (sym (r .2)) e);

@@ -10,7 +10,7 @@ use Rattle.set_model.specs.Lists.{one}
 use Rattle.model.proofs.ListsLaws.{flat-flat, flat-map}
 use Rattle.model.specs.Tabulate.{tabulate}
 use Rattle.model.specs.Stores.{keep}
-use Rattle.model.specs.Atoms.{Operand, A, Lookup, Step, Join, Expand, children, Table}
+use Rattle.model.specs.Atoms.{Operand, Lookup, ExpandA, Step, Join, Expand, children, Table}
 use Rattle.model.specs.Running.{Mode, joinRows, Env, rowAt, bindRow, meets, fitAt, Move, try, go, moves, onward, runs, Event, attempt, found, trace, founds, attempts}
 
 pub founds-append : (l m : List Event) → founds (l ++ m) ≡ founds l ++ founds m
@@ -70,7 +70,7 @@ unfolding trace
 trace-join tb md v k ls ss σ = flat-map (eventsOf (trace tb md ss)) (λ r. try (keep (meets tb σ r ls) (bindRow σ v r))) (joinRows tb md k)
 
 pub trace-both : (tb : Table) (md : Mode) (n : ℕ) (cs : List Operand) (p s : ℕ) (ss : List Step) (σ : Env)
-    → trace tb md (Expand n cs (A (some p) (some s)) ∷ ss) σ ≡ flatMap (λ i. attempt ∷ onward (trace tb md ss) (fitAt tb (some p) cs (some s) (children (rowAt σ n)) σ i)) (tabulate (suc (length (children (rowAt σ n))) - length cs) (λ i. i))
+    → trace tb md (Expand n cs (ExpandA (some p) (some s)) ∷ ss) σ ≡ flatMap (λ i. attempt ∷ onward (trace tb md ss) (fitAt tb (some p) cs (some s) (children (rowAt σ n)) σ i)) (tabulate (suc (length (children (rowAt σ n))) - length cs) (λ i. i))
 unfolding trace
 trace-both tb md n cs p s ss σ = flat-map (eventsOf (trace tb md ss)) (λ i. try (fitAt tb (some p) cs (some s) (children (rowAt σ n)) σ i)) (tabulate (suc (length (children (rowAt σ n))) - length cs) (λ i. i))
 

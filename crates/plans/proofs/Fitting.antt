@@ -12,13 +12,13 @@ use Rattle.fields.specs.Limits.{itemsMost}
 use Rattle.fields.specs.declared.field.Counts.{Counts}
 use Rattle.set_model.specs.Lists.{one}
 use Rattle.model.proofs.TabulateLaws.{tabulate-mem}
-use Rattle.model.specs.Atoms.{Operand, local, global, wild, Atom, Plain, Lit, LitBind, Eq, EqGlobal, Pred, Variadic, Lookup, ByChildPos, ByContains, Step, Join}
+use Rattle.model.specs.Atoms.{Operand, local, global, wild, Form, A, AC, ACI, Atom, Plain, Lit, LitBind, Eq, EqGlobal, Pred, Variadic, Lookup, ByChildPos, ByContains, Step, Join}
 use Rattle.model.specs.Bound.{Bound, has, add}
-use Rattle.model.specs.Lowering.{pvIsBound, pvMarkBound, readChild, emitReadChildren, childLookups, containsLookups, joinLookups, Emitted, lowerEq, lowerEqGlobal, lower, Lowered, done, more}
+use Rattle.model.specs.Lowering.{pvIsBound, pvMarkBound, readChild, emitReadChildren, childLookups, containsLookups, joinLookups, Emitted, expansionOf, lowerEq, lowerEqGlobal, lower, Lowered, done, more}
 use Rattle.model.specs.Scheduling.{State, Chosen, Fair, atomOf, numbers, schedule}
 use Rattle.model.proofs.Scheduled.{ordered, number-mem, reached}
 use Rattle.records.specs.Items.{Each}
-use Rattle.plans.specs.StepFrames.{Byte, OperandFits, LookupFits, StepFits, AtomFits}
+use Rattle.plans.specs.StepFrames.{Byte, OperandFits, LookupFits, FormFits, ExpansionFits, StepFits, AtomFits}
 
 -- counts with room for more atoms: a plan's are 64
 abbrev pub withAtoms : Counts → ℕ → Counts
@@ -54,6 +54,17 @@ each-mem P (y ∷ l) h x i = at (List·Memᴰ·cases-cons i) (λ j. each-mem P l
     at : (x ≡ y) ⊎ List·Memᴰ x l → (List·Memᴰ x l → P x) → P x
     at (inl e) r = subst P (sym e) (h .0)
     at (inr j) r = r j
+
+expansion-fits : (cs : List Operand) (f : Form) → FormFits cs f → ExpansionFits cs (expansionOf f)
+expansion-fits cs (A pre suf) h = h
+expansion-fits cs (AC ms rest) h = h
+expansion-fits cs (ACI rest) h = h
+
+-- what holds of the steps of each atom holds of a lowering sequence, whatever its order
+pub lowered-each : (P : Step → Type 0) {at : ℕ → Atom} {B : Bound} {ss : List Step} {B′ : Bound} {ks : List ℕ} → Lowered at B ss B′ ks
+    → ((k : ℕ) → List·Memᴰ k ks → (C : Bound) (l : Emitted) → lower C k (at k) ≡ some l → Each P (l .steps)) → Each P ss
+lowered-each P done h = tt
+lowered-each P (more {B} k l {ss} e r) h = each-append P (l .steps) ss (h k (List·Memᴰ·head refl) B l e) (lowered-each P r (λ j i. h j (List·Memᴰ·tail i)))
 
 -- ---- lookups: at most one for each operand, and ByOp
 one-few : {X : Type 0} (b : Bool) (x : X) (l : List X) (m : ℕ) → length l ≤ m → length (one b x ++ l) ≤ suc m
@@ -129,13 +140,10 @@ module _ (n : Counts) where
   atom-fits B k (Variadic v o cs f) l e j h =
       let few = h .2 .0 in
       subst Steps (Option·some-injective _ _ e)
-      (join-fits (has B v) v k o (containsLookups B cs) (h .0) j (h .1) (omega (arith, contains-few B cs)) (contains-fit B cs (h .2 .1)), ((h .0, h .2, h .3), tt))
+      (join-fits (has B v) v k o (containsLookups B cs) (h .0) j (h .1) (omega (arith, contains-few B cs)) (contains-fit B cs (h .2 .1)), ((h .0, h .2, expansion-fits cs f (h .3)), tt))
 
-  -- ---- a lowering sequence, whatever its order
   pub lowered-fit : {at : ℕ → Atom} {B : Bound} {ss : List Step} {B′ : Bound} {ks : List ℕ} → Lowered at B ss B′ ks → ((k : ℕ) → List·Memᴰ k ks → (k < n .atoms) × AtomFits n (at k)) → Each (StepFits n) ss
-  lowered-fit done h = tt
-  lowered-fit {at = at} (more {B} k l {ss} e r) h =
-      each-append (StepFits n) (l .steps) ss (atom-fits B k (at k) l e (h k (List·Memᴰ·head refl) .0) (h k (List·Memᴰ·head refl) .1)) (lowered-fit r (λ j i. h j (List·Memᴰ·tail i)))
+  lowered-fit {at = at} r h = lowered-each (StepFits n) r (λ k i C l e. atom-fits C k (at k) l e (h k i .0) (h k i .1))
 
   -- ---- the plan of a query, whatever the costs
   pub schedule-fit : (qs : List Atom) {X : Type 0} (choose : X → State → Chosen X) (x : X) → Fair (atomOf qs) (numbers qs) choose → length qs ≤ n .atoms → Each (AtomFits n) qs → Each (StepFits n) (schedule qs choose x .steps)

@@ -1,4 +1,5 @@
 pub mod Fitting
+pub mod Idempotent
 pub mod Items
 pub mod Longest
 pub mod PlanRead

@@ -15,9 +15,9 @@ use Rattle.frame_tests.specs.declared.tests.Text.the-variants.{Plan}
 use Rattle.first_reading.specs.declared.first.Reading.the-variants.{Accepted}
 use Rattle.second_reading.specs.Second.{reading}
 use Rattle.model.proofs.TabulateLaws.{tabulate-length}
-use Rattle.model.specs.Atoms.{Operand, local, global, wild, Form, A, AC, ACI, Atom, Plain, Lit, LitBind, Eq, EqGlobal, Pred, Variadic, Lookup, Step, Join, Expand}
+use Rattle.model.specs.Atoms.{Operand, local, global, wild, Atom, Plain, Lit, LitBind, Eq, EqGlobal, Pred, Variadic, Lookup, Expansion, ExpandA, DecomposeAC, DecomposeACI, Step, Join, Expand}
 use Rattle.model.specs.Bound.{Bound, has, add}
-use Rattle.model.specs.Lowering.{pvIsBound, pvMarkBound, readChild, emitReadChildren, childLookups, containsLookups, joinLookups, Emitted, lowerEq, lowerEqGlobal, lower}
+use Rattle.model.specs.Lowering.{pvIsBound, pvMarkBound, readChild, emitReadChildren, childLookups, containsLookups, joinLookups, Emitted, expansionOf, lowerEq, lowerEqGlobal, lower}
 use Rattle.model.specs.Scheduling.{State, unplanned, Chosen, Fair, unlowered, atomOf, numbers, schedule}
 use Rattle.model.proofs.Scheduled.{Reached, fresh, takes, unlowered-lt, number-mem, reached}
 use Rattle.model.proofs.Lengths.{flat-length}
@@ -82,11 +82,11 @@ join-line : (v k : ℕ) (ls : List Lookup) → lineLength (Join v k ls) ≡ 9 + 
 unfolding frameOf
 join-line v k ls = omega (arith, flat-length lookupBytes 4 lookup-wide ls)
 
-expand-line : (v : ℕ) (cs : List Operand) (f : Form) → lineLength (Expand v cs f) ≤ 13 + 6 * length cs
+expand-line : (v : ℕ) (cs : List Operand) (x : Expansion) → lineLength (Expand v cs x) ≤ 13 + 6 * length cs
 unfolding frameOf
-expand-line v cs (A p s) = omega (arith, flat-length operandBytes 2 (λ c. refl) cs)
-expand-line v cs (AC ms r) = omega (arith, flat-length elementBytes 3 (λ e. refl) (elementsOf cs ms), elements-length cs ms)
-expand-line v cs (ACI r) = omega (arith, flat-length operandBytes 2 (λ c. refl) cs)
+expand-line v cs (ExpandA p s) = omega (arith, flat-length operandBytes 2 (λ c. refl) cs)
+expand-line v cs (DecomposeAC i ms r) = omega (arith, flat-length elementBytes 3 (λ e. refl) (elementsOf cs ms), elements-length cs ms)
+expand-line v cs (DecomposeACI r) = omega (arith, flat-length operandBytes 2 (λ c. refl) cs)
 
 read-line : (b : Bool) (v i : ℕ) (c : Operand) → total lineLength (readChild v i b c) ≤ 11
 unfolding total frameOf
@@ -158,7 +158,7 @@ atom-shape n B k (LitBind v o x) l h e = out _ l e (joined (join-few (has B v) v
 atom-shape n B k (Eq a b) l h e = eq-shape (has B a) (has B b) B a b l e
 atom-shape n B k (EqGlobal a g) l h e = global-shape (has B a) B a g l e
 atom-shape n B k (Pred g ds) l h e = out _ l e (alone (omega arith))
-atom-shape n B k (Variadic v o cs f) l h e = out _ l e (joined (join-few (has B v) v o (containsLookups B cs) (omega (arith, contains-few B cs, h .2 .0))) (omega (arith, expand-line v cs f, h .2 .0)))
+atom-shape n B k (Variadic v o cs f) l h e = out _ l e (joined (join-few (has B v) v o (containsLookups B cs) (omega (arith, contains-few B cs, h .2 .0))) (omega (arith, expand-line v cs (expansionOf f), h .2 .0)))
 
 pub atom-bytes : (n : Counts) (B : Bound) (k : ℕ) (a : Atom) (l : Emitted) → AtomFits n a → lower B k a ≡ some l → total lineLength (l .steps) ≤ 321
 atom-bytes n B k a l h e = shape-bytes (atom-shape n B k a l h e)

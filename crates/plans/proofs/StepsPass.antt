@@ -1,7 +1,7 @@
 -- The frame of a step that fits belongs to the plan, has its kind's length and passes the limits and the range. Proved by cases on the step.
 use Prim.Native.Nat.{ℕ, _/_, _%_, _<_, _≤_}
 use mathlib.Core.Path.{_≡_, refl}
-use mathlib.Core.Bool.{true, false}
+use mathlib.Core.Bool.{Bool, true, false}
 use mathlib.Core.Option.{Option, none, some}
 use mathlib.Core.List.{List, [], _∷_, _++_, flatMap}
 use native.Mathlib.Omega.{arith}
@@ -10,7 +10,7 @@ use lib.Seq.{getD-append-add}
 use lib.Dec.{leb, ltb}
 use lib.Pow.{areBytes}
 use borrow.Author.Tests.{lt-ltb, le-leb}
-use Rattle.fields.specs.Limits.{itemsMost, lookupsMost}
+use Rattle.fields.specs.Limits.{itemsMost, lookupsMost, idempotentMost}
 use Rattle.fields.specs.Fields.{fieldFits, fieldIn, fieldReal, fieldPasses, operandIn, lookupIn}
 use Rattle.field_values.specs.FieldValues.{lookupFits, endsFit, restFits}
 use Rattle.kinds.specs.Kinds.{kinds, kindAt}
@@ -22,10 +22,10 @@ use Rattle.fields.specs.declared.field.Test.the-variants.{Limits, Range, Reals}
 use Rattle.frame_tests.specs.declared.tests.Text.the-variants.{Plan}
 use Rattle.frame_keys.specs.Keys.{keyGiven}
 use Rattle.model.proofs.Bools.{both, first, second}
-use Rattle.model.specs.Atoms.{Operand, local, global, wild, A, AC, ACI, Lookup, ByOp, ByChildPos, ByRepr, ByContains, Step, Join, ExtractChild, CheckChildEq, CheckEq, CheckEqGlobal, BindGlobal, CopyBinding, Expand, ExtractLitVal, CheckLit, CheckPred}
+use Rattle.model.specs.Atoms.{Operand, local, global, wild, Lookup, ByOp, ByChildPos, ByRepr, ByContains, ExpandA, DecomposeAC, DecomposeACI, Step, Join, ExtractChild, CheckChildEq, CheckEq, CheckEqGlobal, BindGlobal, CopyBinding, Expand, ExtractLitVal, CheckLit, CheckPred}
 use Rattle.model.proofs.Lengths.{flat-length}
 use Rattle.records.specs.Items.{Each}
-use Rattle.plans.specs.StepFrames.{tagOf, indexOf, operandBytes, lookupBytes, Element, elementsOf, elementBytes, flagOf, orZero, endsFlags, frameOf, Byte, CountsFit, OperandFits, LookupFits, HandleFits, StepFits}
+use Rattle.plans.specs.StepFrames.{tagOf, indexOf, operandBytes, lookupBytes, Element, elementsOf, elementBytes, flagOf, orZero, truthByte, endsFlags, frameOf, Byte, CountsFit, OperandFits, LookupFits, HandleFits, StepFits}
 use Rattle.plans.proofs.Items.{items-pass, behind}
 use Rattle.plans.proofs.StepsRead.{lookup-wide}
 
@@ -39,9 +39,9 @@ step-belongs (CheckEq a b) = refl
 step-belongs (CheckEqGlobal a g) = refl
 step-belongs (BindGlobal t g) = refl
 step-belongs (CopyBinding t o) = refl
-step-belongs (Expand v cs (A p s)) = refl
-step-belongs (Expand v cs (AC ms r)) = refl
-step-belongs (Expand v cs (ACI r)) = refl
+step-belongs (Expand v cs (ExpandA p s)) = refl
+step-belongs (Expand v cs (DecomposeAC i ms r)) = refl
+step-belongs (Expand v cs (DecomposeACI r)) = refl
 step-belongs (ExtractLitVal v l) = refl
 step-belongs (CheckLit v x) = refl
 step-belongs (CheckPred g) = refl
@@ -56,9 +56,9 @@ step-length (CheckEq a b) = refl
 step-length (CheckEqGlobal a g) = refl
 step-length (BindGlobal t g) = refl
 step-length (CopyBinding t o) = refl
-step-length (Expand v cs (A p s)) = let h = flat-length operandBytes 2 (λ c. refl) cs in omega arith
-step-length (Expand v cs (AC ms r)) = let h = flat-length elementBytes 3 (λ e. refl) (elementsOf cs ms) in omega arith
-step-length (Expand v cs (ACI r)) = let h = flat-length operandBytes 2 (λ c. refl) cs in omega arith
+step-length (Expand v cs (ExpandA p s)) = let h = flat-length operandBytes 2 (λ c. refl) cs in omega arith
+step-length (Expand v cs (DecomposeAC i ms r)) = let h = flat-length elementBytes 3 (λ e. refl) (elementsOf cs ms) in omega arith
+step-length (Expand v cs (DecomposeACI r)) = let h = flat-length operandBytes 2 (λ c. refl) cs in omega arith
 step-length (ExtractLitVal v l) = refl
 step-length (CheckLit v x) = refl
 step-length (CheckPred g) = refl
@@ -137,7 +137,11 @@ each-any : {X : Type 0} (xs : List X) → Each (λ x. Unit {0}) xs
 each-any [] = tt
 each-any (x ∷ xs) = (tt, each-any xs)
 
--- ---- flags
+-- ---- truth values and flags
+truth-fits : (i : Bool) → leb (truthByte i) idempotentMost ≡ true
+truth-fits true = refl
+truth-fits false = refl
+
 ends-fit : (p s : Option ℕ) → endsFit (endsFlags p s) (orZero p) (orZero s) ≡ true
 ends-fit none none = refl
 ends-fit none (some y) = refl
@@ -162,15 +166,15 @@ step-limits n m (CheckEq a b) h = refl
 step-limits n m (CheckEqGlobal a g) h = refl
 step-limits n m (BindGlobal t g) h = refl
 step-limits n m (CopyBinding t o) h = refl
-step-limits n m (Expand v cs (A p s)) h =
+step-limits n m (Expand v cs (ExpandA p s)) h =
     rw (ends-fit p s, le-leb (length cs) itemsMost (h .1 .0))
     (items-pass operandBytes (fieldPasses Limits m) OperandField (OperandFits n) (λ c. refl) (operand-limits n m) cs (h .1 .1) (0x47 ∷ v ∷ endsFlags p s ∷ orZero p ∷ orZero s ∷ length cs ∷ []))
-step-limits n m (Expand v cs (AC ms r)) h =
+step-limits n m (Expand v cs (DecomposeAC i ms r)) h =
     let es = elementsOf cs ms in
     let few : length es ≤ itemsMost = omega (arith, elements-length cs ms, h .1 .0) in
-    rw (rest-fits r, le-leb (length es) itemsMost few)
-    (items-pass elementBytes (fieldPasses Limits m) ElementField (ElementFits n) (λ e. refl) (element-limits n m) es (elements-fit n cs ms (h .1 .1) (h .2 .1)) (0x48 ∷ v ∷ flagOf r ∷ orZero r ∷ length es ∷ []))
-step-limits n m (Expand v cs (ACI r)) h =
+    rw (truth-fits i, rest-fits r, le-leb (length es) itemsMost few)
+    (items-pass elementBytes (fieldPasses Limits m) ElementField (ElementFits n) (λ e. refl) (element-limits n m) es (elements-fit n cs ms (h .1 .1) (h .2 .1)) (0x48 ∷ v ∷ truthByte i ∷ flagOf r ∷ orZero r ∷ length es ∷ []))
+step-limits n m (Expand v cs (DecomposeACI r)) h =
     rw (rest-fits r, le-leb (length cs) itemsMost (h .1 .0))
     (items-pass operandBytes (fieldPasses Limits m) OperandField (OperandFits n) (λ c. refl) (operand-limits n m) cs (h .1 .1) (0x49 ∷ v ∷ flagOf r ∷ orZero r ∷ length cs ∷ []))
 step-limits n m (ExtractLitVal v l) h = refl
@@ -189,14 +193,14 @@ step-range n (CheckEq a b) h = rw (lt-ltb a (n .variables) (h .0), lt-ltb b (n .
 step-range n (CheckEqGlobal a g) h = rw (lt-ltb a (n .variables) (h .0), lt-ltb g (n .globals) (h .1))
 step-range n (BindGlobal t g) h = rw (lt-ltb t (n .variables) (h .0), lt-ltb g (n .globals) (h .1))
 step-range n (CopyBinding t o) h = rw (lt-ltb t (n .variables) (h .0), lt-ltb o (n .variables) (h .1))
-step-range n (Expand v cs (A p s)) h =
+step-range n (Expand v cs (ExpandA p s)) h =
     rw (lt-ltb v (n .variables) (h .0))
     (items-pass operandBytes (fieldPasses Range n) OperandField (OperandFits n) (λ c. refl) (operand-range n) cs (h .1 .1) (0x47 ∷ v ∷ endsFlags p s ∷ orZero p ∷ orZero s ∷ length cs ∷ []))
-step-range n (Expand v cs (AC ms r)) h =
+step-range n (Expand v cs (DecomposeAC i ms r)) h =
     let es = elementsOf cs ms in
     rw (lt-ltb v (n .variables) (h .0))
-    (items-pass elementBytes (fieldPasses Range n) ElementField (ElementFits n) (λ e. refl) (element-range n) es (elements-fit n cs ms (h .1 .1) (h .2 .1)) (0x48 ∷ v ∷ flagOf r ∷ orZero r ∷ length es ∷ []))
-step-range n (Expand v cs (ACI r)) h =
+    (items-pass elementBytes (fieldPasses Range n) ElementField (ElementFits n) (λ e. refl) (element-range n) es (elements-fit n cs ms (h .1 .1) (h .2 .1)) (0x48 ∷ v ∷ truthByte i ∷ flagOf r ∷ orZero r ∷ length es ∷ []))
+step-range n (Expand v cs (DecomposeACI r)) h =
     rw (lt-ltb v (n .variables) (h .0))
     (items-pass operandBytes (fieldPasses Range n) OperandField (OperandFits n) (λ c. refl) (operand-range n) cs (h .1 .1) (0x49 ∷ v ∷ flagOf r ∷ orZero r ∷ length cs ∷ []))
 step-range n (ExtractLitVal v l) h = rw (lt-ltb v (n .variables) (h .0), lt-ltb l (n .literals) (h .1))
@@ -213,9 +217,9 @@ step-reals n (CheckEq a b) = refl
 step-reals n (CheckEqGlobal a g) = refl
 step-reals n (BindGlobal t g) = refl
 step-reals n (CopyBinding t o) = refl
-step-reals n (Expand v cs (A p s)) = items-pass operandBytes (fieldPasses Reals n) OperandField (λ c. Unit {0}) (λ c. refl) (λ c u p q. refl) cs (each-any cs) (0x47 ∷ v ∷ endsFlags p s ∷ orZero p ∷ orZero s ∷ length cs ∷ [])
-step-reals n (Expand v cs (AC ms r)) = let es = elementsOf cs ms in items-pass elementBytes (fieldPasses Reals n) ElementField (λ e. Unit {0}) (λ e. refl) (λ e u p q. refl) es (each-any es) (0x48 ∷ v ∷ flagOf r ∷ orZero r ∷ length es ∷ [])
-step-reals n (Expand v cs (ACI r)) = items-pass operandBytes (fieldPasses Reals n) OperandField (λ c. Unit {0}) (λ c. refl) (λ c u p q. refl) cs (each-any cs) (0x49 ∷ v ∷ flagOf r ∷ orZero r ∷ length cs ∷ [])
+step-reals n (Expand v cs (ExpandA p s)) = items-pass operandBytes (fieldPasses Reals n) OperandField (λ c. Unit {0}) (λ c. refl) (λ c u p q. refl) cs (each-any cs) (0x47 ∷ v ∷ endsFlags p s ∷ orZero p ∷ orZero s ∷ length cs ∷ [])
+step-reals n (Expand v cs (DecomposeAC i ms r)) = let es = elementsOf cs ms in items-pass elementBytes (fieldPasses Reals n) ElementField (λ e. Unit {0}) (λ e. refl) (λ e u p q. refl) es (each-any es) (0x48 ∷ v ∷ truthByte i ∷ flagOf r ∷ orZero r ∷ length es ∷ [])
+step-reals n (Expand v cs (DecomposeACI r)) = items-pass operandBytes (fieldPasses Reals n) OperandField (λ c. Unit {0}) (λ c. refl) (λ c u p q. refl) cs (each-any cs) (0x49 ∷ v ∷ flagOf r ∷ orZero r ∷ length cs ∷ [])
 step-reals n (ExtractLitVal v l) = refl
 step-reals n (CheckLit v x) = refl
 step-reals n (CheckPred g) = refl
@@ -230,9 +234,9 @@ step-keyless earlier (CheckEq a b) = refl
 step-keyless earlier (CheckEqGlobal a g) = refl
 step-keyless earlier (BindGlobal t g) = refl
 step-keyless earlier (CopyBinding t o) = refl
-step-keyless earlier (Expand v cs (A p s)) = refl
-step-keyless earlier (Expand v cs (AC ms r)) = refl
-step-keyless earlier (Expand v cs (ACI r)) = refl
+step-keyless earlier (Expand v cs (ExpandA p s)) = refl
+step-keyless earlier (Expand v cs (DecomposeAC i ms r)) = refl
+step-keyless earlier (Expand v cs (DecomposeACI r)) = refl
 step-keyless earlier (ExtractLitVal v l) = refl
 step-keyless earlier (CheckLit v x) = refl
 step-keyless earlier (CheckPred g) = refl
@@ -272,6 +276,10 @@ module _ (n : Counts) (fit : CountsFit n) where
   handle-byte none h = refl
   handle-byte (some x) h = lt-ltb x 256 h
 
+  truth-byte : (i : Bool) → ltb (truthByte i) 256 ≡ true
+  truth-byte true = refl
+  truth-byte false = refl
+
   flag-byte : (r : Option ℕ) → ltb (flagOf r) 256 ≡ true
   flag-byte none = refl
   flag-byte (some x) = refl
@@ -291,12 +299,12 @@ module _ (n : Counts) (fit : CountsFit n) where
   step-bytes (CheckEqGlobal a g) h = rw (variable-byte (h .0), global-byte (h .1))
   step-bytes (BindGlobal t g) h = rw (variable-byte (h .0), global-byte (h .1))
   step-bytes (CopyBinding t o) h = rw (variable-byte (h .0), variable-byte (h .1))
-  step-bytes (Expand v cs (A p s)) h = rw (variable-byte (h .0), flags-byte p s, handle-byte p (h .2 .0), handle-byte s (h .2 .1), lt-ltb (length cs) 256 (omega (arith, h .1 .0))) (items-bytes operandBytes (OperandFits n) operand-bytes cs (h .1 .1))
-  step-bytes (Expand v cs (AC ms r)) h =
+  step-bytes (Expand v cs (ExpandA p s)) h = rw (variable-byte (h .0), flags-byte p s, handle-byte p (h .2 .0), handle-byte s (h .2 .1), lt-ltb (length cs) 256 (omega (arith, h .1 .0))) (items-bytes operandBytes (OperandFits n) operand-bytes cs (h .1 .1))
+  step-bytes (Expand v cs (DecomposeAC i ms r)) h =
       let es = elementsOf cs ms in
       let few : length es < 256 = omega (arith, elements-length cs ms, h .1 .0) in
-      rw (variable-byte (h .0), flag-byte r, handle-byte r (h .2 .2), lt-ltb (length es) 256 few) (items-bytes elementBytes (ElementFits n) element-bytes es (elements-fit n cs ms (h .1 .1) (h .2 .1)))
-  step-bytes (Expand v cs (ACI r)) h = rw (variable-byte (h .0), flag-byte r, handle-byte r (h .2), lt-ltb (length cs) 256 (omega (arith, h .1 .0))) (items-bytes operandBytes (OperandFits n) operand-bytes cs (h .1 .1))
+      rw (variable-byte (h .0), truth-byte i, flag-byte r, handle-byte r (h .2 .2), lt-ltb (length es) 256 few) (items-bytes elementBytes (ElementFits n) element-bytes es (elements-fit n cs ms (h .1 .1) (h .2 .1)))
+  step-bytes (Expand v cs (DecomposeACI r)) h = rw (variable-byte (h .0), flag-byte r, handle-byte r (h .2), lt-ltb (length cs) 256 (omega (arith, h .1 .0))) (items-bytes operandBytes (OperandFits n) operand-bytes cs (h .1 .1))
   step-bytes (ExtractLitVal v l) h = rw (variable-byte (h .0), lt-ltb l 256 (omega (arith, h .1, fit .literals)))
   step-bytes (CheckLit v x) h = let z = h .1 in rw (variable-byte (h .0), lt-ltb (x / 0x100_0000) 256 (omega arith), lt-ltb (x / 0x1_0000 % 0x100) 256 (omega arith), lt-ltb (x / 0x100 % 0x100) 256 (omega arith), lt-ltb (x % 0x100) 256 (omega arith))
   step-bytes (CheckPred g) h = rw (lt-ltb g 256 h)

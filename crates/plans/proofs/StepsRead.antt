@@ -12,10 +12,10 @@ use borrow.Author.Tests.{ne-eqb}
 use Rattle.base.specs.Choose.{pick}
 use Rattle.hex.specs.Digits.{wordAt}
 use Rattle.fields.specs.declared.field.Counts.{Counts}
-use Rattle.model.specs.Atoms.{Operand, local, global, wild, A, AC, ACI, Lookup, ByOp, ByChildPos, ByRepr, ByContains, Step, Join, ExtractChild, CheckChildEq, CheckEq, CheckEqGlobal, BindGlobal, CopyBinding, Expand, ExtractLitVal, CheckLit, CheckPred, isJoin}
+use Rattle.model.specs.Atoms.{Operand, local, global, wild, Lookup, ByOp, ByChildPos, ByRepr, ByContains, ExpandA, DecomposeAC, DecomposeACI, Step, Join, ExtractChild, CheckChildEq, CheckEq, CheckEqGlobal, BindGlobal, CopyBinding, Expand, ExtractLitVal, CheckLit, CheckPred, isJoin}
 use Rattle.records.specs.Items.{itemsAt, Each}
 use Rattle.records.specs.Lookups.{operandAt, lookupAt}
-use Rattle.plans.specs.StepFrames.{operandBytes, lookupBytes, Element, elementsOf, elementBytes, flagOf, orZero, endsFlags, wordBytes, frameOf, elementAt, someIf, stepOf, OperandFits, LookupFits, StepFits}
+use Rattle.plans.specs.StepFrames.{operandBytes, lookupBytes, Element, elementsOf, elementBytes, flagOf, orZero, truthByte, endsFlags, wordBytes, frameOf, elementAt, someIf, stepOf, OperandFits, LookupFits, StepFits}
 use Rattle.plans.proofs.Items.{items-read, behind}
 
 -- what begins behind p
@@ -92,7 +92,11 @@ multiplicities-of [] (m ∷ ms) h = absurd (omega arith)
 multiplicities-of (c ∷ cs) [] h = absurd (omega arith)
 multiplicities-of (c ∷ cs) (m ∷ ms) h = ap {B = List ℕ} (λ l. m ∷ l) (multiplicities-of cs ms (omega arith))
 
--- flags
+-- truth values and flags
+truth-read : (i : Bool) → eqb (truthByte i) 1 ≡ i
+truth-read true = refl
+truth-read false = refl
+
 rest-read : (r : Option ℕ) → someIf (eqb (flagOf r) 1) (orZero r) ≡ r
 rest-read none = refl
 rest-read (some x) = refl
@@ -124,10 +128,10 @@ read-back n (CheckEq a b) h = refl
 read-back n (CheckEqGlobal a g) h = refl
 read-back n (BindGlobal t g) h = refl
 read-back n (CopyBinding t o) h = refl
-read-back n (Expand v cs (A p s)) h = rw (operands-read n cs (h .1 .1) (0x47 ∷ v ∷ endsFlags p s ∷ orZero p ∷ orZero s ∷ length cs ∷ []), pre-read p s, suf-read p s)
-read-back n (Expand v cs (AC ms r)) h =
-    rw (elements-read n (elementsOf cs ms) (elements-fit n cs ms (h .1 .1)) (0x48 ∷ v ∷ flagOf r ∷ orZero r ∷ length (elementsOf cs ms) ∷ []), operands-of cs ms, multiplicities-of cs ms (h .2 .0), rest-read r)
-read-back n (Expand v cs (ACI r)) h = rw (operands-read n cs (h .1 .1) (0x49 ∷ v ∷ flagOf r ∷ orZero r ∷ length cs ∷ []), rest-read r)
+read-back n (Expand v cs (ExpandA p s)) h = rw (operands-read n cs (h .1 .1) (0x47 ∷ v ∷ endsFlags p s ∷ orZero p ∷ orZero s ∷ length cs ∷ []), pre-read p s, suf-read p s)
+read-back n (Expand v cs (DecomposeAC i ms r)) h =
+    rw (elements-read n (elementsOf cs ms) (elements-fit n cs ms (h .1 .1)) (0x48 ∷ v ∷ truthByte i ∷ flagOf r ∷ orZero r ∷ length (elementsOf cs ms) ∷ []), operands-of cs ms, multiplicities-of cs ms (h .2 .0), truth-read i, rest-read r)
+read-back n (Expand v cs (DecomposeACI r)) h = rw (operands-read n cs (h .1 .1) (0x49 ∷ v ∷ flagOf r ∷ orZero r ∷ length cs ∷ []), rest-read r)
 read-back n (ExtractLitVal v l) h = refl
 read-back n (CheckLit v x) h = rw (word-read 0x4b v x)
 read-back n (CheckPred g) h = refl

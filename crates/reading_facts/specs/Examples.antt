@@ -104,6 +104,12 @@ points =
     ∷ record { of = Plan; bytes = ascii "3f000000000000000000\n4300\n"; says = Refused 3 2 }
     ∷ record { of = Plan; bytes = ascii "3f000000000000000000\n40000013\n"; says = Refused 3 2 }
     ∷ record { of = Plan; bytes = ascii "3f000000000100000000\n430000\n"; says = Refused 5 2 }
+    -- Note 2: a frame 48 with idempotent 00, 01, 02; the short frame of older plans, without items and with one
+    ∷ record { of = Plan; bytes = ascii "3f010000000100000000\n480000000000\n"; says = Accepted 2 0 }
+    ∷ record { of = Plan; bytes = ascii "3f010000000100000000\n480001000000\n"; says = Accepted 2 0 }
+    ∷ record { of = Plan; bytes = ascii "3f010000000100000000\n480002000000\n"; says = Refused 4 2 }
+    ∷ record { of = Plan; bytes = ascii "3f010000000100000000\n4800000000\n"; says = Refused 3 2 }
+    ∷ record { of = Plan; bytes = ascii "3f010000000100000000\n4800000001000000\n"; says = Refused 3 2 }
     -- a plan's atom below 64, a table's global below 16
     ∷ record { of = Plan; bytes = ascii "3f010000000100000000\n40003f00\n"; says = Accepted 2 0 }
     ∷ record { of = Plan; bytes = ascii "3f010000000100000000\n40004000\n"; says = Refused 5 2 }

@@ -53,11 +53,11 @@ module _ (f : List ℕ) (k : ℕ) (is : k ≡ getD f 0 0) (n x y : ℕ) (hn : n 
   unfolding atomOfFrame frameOf kindAt kinds
   a-both z hz h = record { fits = omega arith; few = omega arith; narrow = omega arith; is = rw (← is, h, hn, hx, hy, hz, operands-length f 6 2 (getD f 5 0), items-alone f 6 (getD f 5 0)) }
 
-  pub ac-exact : k ≡ 11 → Opens f (0x48 ∷ n ∷ 0 ∷ 0 ∷ x ∷ 0 ∷ [])
+  pub ac-exact : k ≡ 11 → Opens f (0x48 ∷ n ∷ 0 ∷ 0 ∷ 0 ∷ x ∷ [])
   unfolding atomOfFrame frameOf kindAt kinds
   ac-exact h = record { fits = omega arith; few = omega arith; narrow = omega arith; is = rw (← is, h, hn, hx, elements-number f 4 6 (getD f 3 0), items-counted f 4 (getD f 3 0)) }
 
-  pub ac-sub : k ≡ 12 → Opens f (0x48 ∷ n ∷ 1 ∷ x ∷ y ∷ 0 ∷ [])
+  pub ac-sub : k ≡ 12 → Opens f (0x48 ∷ n ∷ 0 ∷ 1 ∷ x ∷ y ∷ [])
   unfolding atomOfFrame frameOf kindAt kinds
   ac-sub h = record { fits = omega arith; few = omega arith; narrow = omega arith; is = rw (← is, h, hn, hx, hy, elements-number f 5 7 (getD f 4 0), items-counted f 5 (getD f 4 0)) }
 

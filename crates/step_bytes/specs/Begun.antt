@@ -10,7 +10,7 @@ use Rattle.fields.specs.Fields.{width}
 use Rattle.kinds.specs.Kinds.{fixedLength, itemsOf}
 use Rattle.frames.specs.Frames.{kindOf}
 use Rattle.model.specs.Atoms.{Atom, Plain, Lit, LitBind, Eq, EqGlobal, Pred, Variadic, Step, Expand, ExtractLitVal, CheckLit}
-use Rattle.model.specs.Lowering.{Emitted}
+use Rattle.model.specs.Lowering.{Emitted, expansionOf}
 use Rattle.cost.specs.QueryAtoms.{atomOfFrame}
 use Rattle.plans.specs.StepFrames.{frameOf}
 use Rattle.output.specs.Written.{fixedIn}
@@ -49,7 +49,7 @@ behindOf (LitBind n o l) = ExtractLitVal n l ∷ []
 behindOf (Eq a b) = []
 behindOf (EqGlobal a g) = []
 behindOf (Pred g ds) = []
-behindOf (Variadic n o cs f) = Expand n cs f ∷ []
+behindOf (Variadic n o cs f) = Expand n cs (expansionOf f) ∷ []
 
 -- the fixed part that the bytes b begin with, and behind it the items of the collection f, as wide as that step's: the step behind its Join
 pub record Opens (f b : List ℕ) : Type 0 where

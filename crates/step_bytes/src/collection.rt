@@ -18,8 +18,8 @@ pub fn expand_part(frame: &[u8]) -> [u8; 6]
         8 => [0x47, node, 1, x, 0, y],
         9 => [0x47, node, 2, 0, x, y],
         10 => [0x47, node, 3, x, y, byte_at(frame, 5)],
-        11 => [0x48, node, 0, 0, x, 0],
-        12 => [0x48, node, 1, x, y, 0],
+        11 => [0x48, node, 0, 0, 0, x],
+        12 => [0x48, node, 0, 1, x, y],
         13 => [0x49, node, 0, 0, x, 0],
         _ => [0x49, node, 1, x, y, 0],
     }

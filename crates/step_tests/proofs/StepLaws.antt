@@ -188,7 +188,7 @@ module _ (tb : Table) (F G : List ℕ) (d : Described tb F G) where
       by false y = refl
       by true true = refl
       by true false = refl
-  simple-same B R O (Expand n cs f) h = refl
+  simple-same B R O (Expand n cs x) h = refl
   simple-same B R O (ExtractLitVal n l) h = rw (literal-same tb F G d (opAt O n)) (lit-by B R n (literalFault F O n))
   simple-same B R O (CheckLit n x) h = rw (literal-same tb F G d (opAt O n)) (lit-by B R n (literalFault F O n))
   simple-same B R O (CheckPred g) h = refl

@@ -128,9 +128,22 @@ fn frame(step: &Step) -> Vec<u8> {
             frame.extend(children.iter().flat_map(operand));
             frame
         }
-        Step::DecomposeAC { node, elems, rest, .. } => {
+        Step::DecomposeAC {
+            node,
+            elems,
+            rest,
+            idempotent,
+        } => {
             let rest = rest.map(|v| byte(v.idx()));
-            let mut frame = vec![0x48, byte(node.idx()), u8::from(rest.is_some()), rest.unwrap_or(0), count(elems)];
+            let idempotent = u8::from(*idempotent);
+            let mut frame = vec![
+                0x48,
+                byte(node.idx()),
+                idempotent,
+                u8::from(rest.is_some()),
+                rest.unwrap_or(0),
+                count(elems),
+            ];
             frame.extend(
                 elems
                     .iter()
