@@ -12,7 +12,7 @@ use Rattle.fields.specs.Limits.{itemsMost}
 use Rattle.fields.specs.declared.field.Counts.{Counts}
 use Rattle.set_model.specs.Lists.{one}
 use Rattle.model.proofs.TabulateLaws.{tabulate-mem}
-use Rattle.model.specs.Atoms.{Operand, local, global, wild, Form, A, AC, ACI, Atom, Plain, Lit, LitBind, Eq, EqGlobal, Pred, Variadic, Lookup, ByChildPos, ByContains, Step, Join}
+use Rattle.model.specs.Atoms.{Operand, local, global, wild, Form, A, AC, ACI, Atom, Plain, Lit, LitBind, Eq, EqGlobal, Pred, Variadic, Lookup, ByChildPos, ByContains, Step, Join, CheckEq, CheckEqGlobal, BindGlobal, CopyBinding}
 use Rattle.model.specs.Bound.{Bound, has, add}
 use Rattle.model.specs.Lowering.{pvIsBound, pvMarkBound, readChild, emitReadChildren, childLookups, containsLookups, joinLookups, Emitted, expansionOf, lowerEq, lowerEqGlobal, lower, Lowered, done, more}
 use Rattle.model.specs.Scheduling.{State, Chosen, Fair, atomOf, numbers, schedule}
@@ -59,6 +59,21 @@ expansion-fits : (cs : List Operand) (f : Form) → FormFits cs f → ExpansionF
 expansion-fits cs (A pre suf) h = h
 expansion-fits cs (AC ms rest) h = h
 expansion-fits cs (ACI rest) h = h
+
+-- what holds of the steps given out holds of those emitted
+pub emitted-have : (P : List Step → Type 0) (m l : Emitted) → some m ≡ some l → P (m .steps) → P (l .steps)
+emitted-have P m l e = subst (λ (x : Emitted). P (x .steps)) (Option·some-injective m l e)
+
+-- the steps of an Eq and of an EqGlobal that lower: one of three, one of two
+pub eq-have : (P : List Step → Type 0) (p q : Bool) (B : Bound) (a b : ℕ) (l : Emitted) → P (CheckEq a b ∷ []) → P (CopyBinding b a ∷ []) → P (CopyBinding a b ∷ []) → lowerEq p q B a b ≡ some l → P (l .steps)
+eq-have P true true B a b l x y z e = emitted-have P _ l e x
+eq-have P true false B a b l x y z e = emitted-have P _ l e y
+eq-have P false true B a b l x y z e = emitted-have P _ l e z
+eq-have P false false B a b l x y z e = let w : _≡_ {A = ℕ} 0 1 = cc in absurd (omega arith)
+
+pub global-has : (P : List Step → Type 0) (p : Bool) (B : Bound) (a g : ℕ) (l : Emitted) → P (CheckEqGlobal a g ∷ []) → P (BindGlobal a g ∷ []) → lowerEqGlobal p B a g ≡ some l → P (l .steps)
+global-has P true B a g l x y e = emitted-have P _ l e x
+global-has P false B a g l x y e = emitted-have P _ l e y
 
 -- what holds of the steps of each atom holds of a lowering sequence, whatever its order
 pub lowered-each : (P : Step → Type 0) {at : ℕ → Atom} {B : Bound} {ss : List Step} {B′ : Bound} {ks : List ℕ} → Lowered at B ss B′ ks
@@ -113,33 +128,23 @@ module _ (n : Counts) where
   reads-fit v i B (c ∷ cs) h k p = each-append (StepFits n) (readChild v i (pvIsBound B c) c) _ (read-fits (pvIsBound B c) v i c h (omega arith) (p .0)) (reads-fit v (suc i) (pvMarkBound B c) cs h (omega arith) (p .1))
 
   -- ---- one atom's steps
-  abbrev Steps : Emitted → Type 0
-  Steps l = Each (StepFits n) (l .steps)
+  abbrev Fit : List Step → Type 0
+  Fit ss = Each (StepFits n) ss
 
-  eq-fits : (p q : Bool) (B : Bound) (a b : ℕ) (l : Emitted) → a < n .variables → b < n .variables → lowerEq p q B a b ≡ some l → Steps l
-  eq-fits true true B a b l h k e = subst Steps (Option·some-injective _ _ e) ((h, k), tt)
-  eq-fits true false B a b l h k e = subst Steps (Option·some-injective _ _ e) ((k, h), tt)
-  eq-fits false true B a b l h k e = subst Steps (Option·some-injective _ _ e) ((h, k), tt)
-  eq-fits false false B a b l h k e = let z : _≡_ {A = ℕ} 0 1 = cc in absurd (omega arith)
-
-  global-fits : (p : Bool) (B : Bound) (a g : ℕ) (l : Emitted) → a < n .variables → g < n .globals → lowerEqGlobal p B a g ≡ some l → Steps l
-  global-fits true B a g l h k e = subst Steps (Option·some-injective _ _ e) ((h, k), tt)
-  global-fits false B a g l h k e = subst Steps (Option·some-injective _ _ e) ((h, k), tt)
-
-  pub atom-fits : (B : Bound) (k : ℕ) (a : Atom) (l : Emitted) → lower B k a ≡ some l → k < n .atoms → AtomFits n a → Steps l
+  pub atom-fits : (B : Bound) (k : ℕ) (a : Atom) (l : Emitted) → lower B k a ≡ some l → k < n .atoms → AtomFits n a → Fit (l .steps)
   unfolding lower
   atom-fits B k (Plain v o cs) l e j h =
       let few = h .2 .0 in
-      subst Steps (Option·some-injective _ _ e)
+      emitted-have Fit _ l e
       (join-fits (has B v) v k o (childLookups B 0 cs) (h .0) j (h .1) (omega (arith, children-few B 0 cs)) (children-fit B 0 cs (omega arith) (h .2 .1)), reads-fit v 0 (add B v) cs (h .0) (omega arith) (h .2 .1))
-  atom-fits B k (Lit v o x) l e j h = subst Steps (Option·some-injective _ _ e) (join-fits (has B v) v k o [] (h .0) j (h .1) (omega arith) tt, ((h .0, h .2), tt))
-  atom-fits B k (LitBind v o x) l e j h = subst Steps (Option·some-injective _ _ e) (join-fits (has B v) v k o [] (h .0) j (h .1) (omega arith) tt, ((h .0, h .2), tt))
-  atom-fits B k (Eq a b) l e j h = eq-fits (has B a) (has B b) B a b l (h .0) (h .1) e
-  atom-fits B k (EqGlobal a g) l e j h = global-fits (has B a) B a g l (h .0) (h .1) e
-  atom-fits B k (Pred g ds) l e j h = subst Steps (Option·some-injective _ _ e) (h .0, tt)
+  atom-fits B k (Lit v o x) l e j h = emitted-have Fit _ l e (join-fits (has B v) v k o [] (h .0) j (h .1) (omega arith) tt, ((h .0, h .2), tt))
+  atom-fits B k (LitBind v o x) l e j h = emitted-have Fit _ l e (join-fits (has B v) v k o [] (h .0) j (h .1) (omega arith) tt, ((h .0, h .2), tt))
+  atom-fits B k (Eq a b) l e j h = eq-have Fit (has B a) (has B b) B a b l (h, tt) ((h .1, h .0), tt) (h, tt) e
+  atom-fits B k (EqGlobal a g) l e j h = global-has Fit (has B a) B a g l (h, tt) (h, tt) e
+  atom-fits B k (Pred g ds) l e j h = emitted-have Fit _ l e (h .0, tt)
   atom-fits B k (Variadic v o cs f) l e j h =
       let few = h .2 .0 in
-      subst Steps (Option·some-injective _ _ e)
+      emitted-have Fit _ l e
       (join-fits (has B v) v k o (containsLookups B cs) (h .0) j (h .1) (omega (arith, contains-few B cs)) (contains-fit B cs (h .2 .1)), ((h .0, h .2, expansion-fits cs f (h .3)), tt))
 
   pub lowered-fit : {at : ℕ → Atom} {B : Bound} {ss : List Step} {B′ : Bound} {ks : List ℕ} → Lowered at B ss B′ ks → ((k : ℕ) → List·Memᴰ k ks → (k < n .atoms) × AtomFits n (at k)) → Each (StepFits n) ss

@@ -1,19 +1,19 @@
 -- Note 2: the frames 48 of a plan have 00 after the node, in whatever order the atoms are lowered. Proved by cases on the atom.
 use Prim.Native.Nat.{ℕ, suc}
-use mathlib.Core.Path.{_≡_, refl, subst}
+use mathlib.Core.Path.{_≡_, refl}
 use mathlib.Core.Bool.{Bool, true, false}
-use mathlib.Core.Option.{some, Option·some-injective}
+use mathlib.Core.Option.{some}
 use mathlib.Core.List.{List, [], _∷_, map}
 use native.Mathlib.Omega.{arith}
 use lib.ListN.{getD}
 use Rattle.model.specs.Atoms.{Operand, local, global, wild, Form, A, AC, ACI, Atom, Plain, Lit, LitBind, Eq, EqGlobal, Pred, Variadic, Step, Expand}
 use Rattle.model.specs.Bound.{Bound, has, add}
-use Rattle.model.specs.Lowering.{pvIsBound, pvMarkBound, readChild, emitReadChildren, Emitted, expansionOf, lowerEq, lowerEqGlobal, lower}
+use Rattle.model.specs.Lowering.{pvIsBound, pvMarkBound, readChild, emitReadChildren, Emitted, expansionOf, lower}
 use Rattle.model.specs.Scheduling.{State, Chosen, Fair, atomOf, numbers, schedule}
 use Rattle.model.proofs.Scheduled.{ordered, reached}
 use Rattle.records.specs.Items.{Each}
 use Rattle.plans.specs.StepFrames.{frameOf}
-use Rattle.plans.proofs.Fitting.{each-append, lowered-each}
+use Rattle.plans.proofs.Fitting.{each-append, emitted-have, eq-have, global-has, lowered-each}
 
 -- where the kind is 48 the byte after the node is 00
 abbrev pub NotIdempotent : List ℕ → Type 0
@@ -22,21 +22,17 @@ NotIdempotent f = getD f 0 0 ≡ 0x48 → getD f 2 0 ≡ 0
 abbrev StepNot : Step → Type 0
 StepNot s = NotIdempotent (frameOf s)
 
-abbrev StepsNot : Emitted → Type 0
-StepsNot l = Each StepNot (l .steps)
+abbrev AllNot : List Step → Type 0
+AllNot ss = Each StepNot ss
 
--- what holds of the steps given out holds of those emitted
-out : (m l : Emitted) → some m ≡ some l → StepsNot m → StepsNot l
-out m l e = subst StepsNot (Option·some-injective m l e)
-
-read-not : (b : Bool) (v i : ℕ) (c : Operand) → Each StepNot (readChild v i b c)
+read-not : (b : Bool) (v i : ℕ) (c : Operand) → AllNot (readChild v i b c)
 unfolding frameOf
 read-not true v i (local w) = ((λ e. absurd (omega arith)), tt)
 read-not false v i (local w) = ((λ e. absurd (omega arith)), tt)
 read-not b v i (global g) = ((λ e. absurd (omega arith)), tt)
 read-not b v i wild = tt
 
-reads-not : (v i : ℕ) (B : Bound) (cs : List Operand) → Each StepNot (emitReadChildren v i B cs)
+reads-not : (v i : ℕ) (B : Bound) (cs : List Operand) → AllNot (emitReadChildren v i B cs)
 unfolding emitReadChildren
 reads-not v i B [] = tt
 reads-not v i B (c ∷ cs) = each-append StepNot (readChild v i (pvIsBound B c) c) _ (read-not (pvIsBound B c) v i c) (reads-not v (suc i) (pvMarkBound B c) cs)
@@ -47,27 +43,15 @@ expand-not v cs (A pre suf) e = absurd (omega arith)
 expand-not v cs (AC ms rest) e = refl
 expand-not v cs (ACI rest) e = absurd (omega arith)
 
-eq-not : (p q : Bool) (B : Bound) (a b : ℕ) (l : Emitted) → lowerEq p q B a b ≡ some l → StepsNot l
-unfolding frameOf
-eq-not true true B a b l e = out _ l e ((λ k. absurd (omega arith)), tt)
-eq-not true false B a b l e = out _ l e ((λ k. absurd (omega arith)), tt)
-eq-not false true B a b l e = out _ l e ((λ k. absurd (omega arith)), tt)
-eq-not false false B a b l e = let z : _≡_ {A = ℕ} 0 1 = cc in absurd (omega arith)
-
-global-not : (p : Bool) (B : Bound) (a g : ℕ) (l : Emitted) → lowerEqGlobal p B a g ≡ some l → StepsNot l
-unfolding frameOf
-global-not true B a g l e = out _ l e ((λ k. absurd (omega arith)), tt)
-global-not false B a g l e = out _ l e ((λ k. absurd (omega arith)), tt)
-
-atom-not : (B : Bound) (k : ℕ) (a : Atom) (l : Emitted) → lower B k a ≡ some l → StepsNot l
+atom-not : (B : Bound) (k : ℕ) (a : Atom) (l : Emitted) → lower B k a ≡ some l → AllNot (l .steps)
 unfolding lower frameOf
-atom-not B k (Plain v o cs) l e = out _ l e ((λ j. absurd (omega arith)), reads-not v 0 (add B v) cs)
-atom-not B k (Lit v o x) l e = out _ l e ((λ j. absurd (omega arith)), ((λ j. absurd (omega arith)), tt))
-atom-not B k (LitBind v o x) l e = out _ l e ((λ j. absurd (omega arith)), ((λ j. absurd (omega arith)), tt))
-atom-not B k (Eq a b) l e = eq-not (has B a) (has B b) B a b l e
-atom-not B k (EqGlobal a g) l e = global-not (has B a) B a g l e
-atom-not B k (Pred g ds) l e = out _ l e ((λ j. absurd (omega arith)), tt)
-atom-not B k (Variadic v o cs f) l e = out _ l e ((λ j. absurd (omega arith)), (expand-not v cs f, tt))
+atom-not B k (Plain v o cs) l e = emitted-have AllNot _ l e ((λ j. absurd (omega arith)), reads-not v 0 (add B v) cs)
+atom-not B k (Lit v o x) l e = emitted-have AllNot _ l e ((λ j. absurd (omega arith)), ((λ j. absurd (omega arith)), tt))
+atom-not B k (LitBind v o x) l e = emitted-have AllNot _ l e ((λ j. absurd (omega arith)), ((λ j. absurd (omega arith)), tt))
+atom-not B k (Eq a b) l e = eq-have AllNot (has B a) (has B b) B a b l ((λ j. absurd (omega arith)), tt) ((λ j. absurd (omega arith)), tt) ((λ j. absurd (omega arith)), tt) e
+atom-not B k (EqGlobal a g) l e = global-has AllNot (has B a) B a g l ((λ j. absurd (omega arith)), tt) ((λ j. absurd (omega arith)), tt) e
+atom-not B k (Pred g ds) l e = emitted-have AllNot _ l e ((λ j. absurd (omega arith)), tt)
+atom-not B k (Variadic v o cs f) l e = emitted-have AllNot _ l e ((λ j. absurd (omega arith)), (expand-not v cs f, tt))
 
 frames-not : (ss : List Step) → Each StepNot ss → Each NotIdempotent (map frameOf ss)
 frames-not [] h = tt

@@ -1,9 +1,9 @@
 -- How long a plan can be: 17 steps and 321 bytes for each atom, so 1,088 steps and 20,565 bytes for the most atoms. Proved by cases on the
 -- atom and by induction over what the scheduler reaches, for a measure of steps that adds up.
 use Prim.Native.Nat.{ℕ, suc, _+_, _*_, _≤_}
-use mathlib.Core.Path.{_≡_, refl, ap, subst}
+use mathlib.Core.Path.{_≡_, refl, ap}
 use mathlib.Core.Bool.{Bool, true, false}
-use mathlib.Core.Option.{some, Option·some-injective}
+use mathlib.Core.Option.{some}
 use mathlib.Core.List.{List, [], _∷_, _++_, map, List·Memᴰ}
 use native.Mathlib.Omega.{arith}
 use native.Mathlib.Nat.{mul-le-mul-left, mul-suc}
@@ -17,7 +17,7 @@ use Rattle.second_reading.specs.Second.{reading}
 use Rattle.model.proofs.TabulateLaws.{tabulate-length}
 use Rattle.model.specs.Atoms.{Operand, local, global, wild, Atom, Plain, Lit, LitBind, Eq, EqGlobal, Pred, Variadic, Lookup, Expansion, ExpandA, DecomposeAC, DecomposeACI, Step, Join, Expand}
 use Rattle.model.specs.Bound.{Bound, has, add}
-use Rattle.model.specs.Lowering.{pvIsBound, pvMarkBound, readChild, emitReadChildren, childLookups, containsLookups, joinLookups, Emitted, expansionOf, lowerEq, lowerEqGlobal, lower}
+use Rattle.model.specs.Lowering.{pvIsBound, pvMarkBound, readChild, emitReadChildren, childLookups, containsLookups, joinLookups, Emitted, expansionOf, lower}
 use Rattle.model.specs.Scheduling.{State, unplanned, Chosen, Fair, unlowered, atomOf, numbers, schedule}
 use Rattle.model.proofs.Scheduled.{Reached, fresh, takes, unlowered-lt, number-mem, reached}
 use Rattle.model.proofs.Lengths.{flat-length}
@@ -27,7 +27,7 @@ use Rattle.plans.specs.PlanText.{textLength, planText, planCounts, planM
 use Rattle.plans.proofs.StepsRead.{lookup-wide}
 use Rattle.plans.proofs.StepsPass.{elements-length}
 use Rattle.plans.proofs.PlanRead.{PlanFits, plan-length, plan-accepted, plan-steps}
-use Rattle.plans.proofs.Fitting.{each-mem, children-few, contains-few, schedule-fit}
+use Rattle.plans.proofs.Fitting.{each-mem, children-few, contains-few, emitted-have, eq-have, global-has, schedule-fit}
 
 -- ---- a measure that adds up over the steps
 
@@ -134,31 +134,15 @@ join-few : (b : Bool) (v o : ℕ) (ls : List Lookup) → length ls ≤ 16 → le
 join-few true v o ls h = omega arith
 join-few false v o ls h = omega arith
 
--- what holds of the steps given out holds of those emitted
-out : (m l : Emitted) → some m ≡ some l → Shape (m .steps) → Shape (l .steps)
-out m l e = subst (λ (x : Emitted). Shape (x .steps)) (Option·some-injective m l e)
-
-eq-shape : (p q : Bool) (B : Bound) (a b : ℕ) (l : Emitted) → lowerEq p q B a b ≡ some l → Shape (l .steps)
-unfolding frameOf
-eq-shape true true B a b l e = out _ l e (alone (omega arith))
-eq-shape true false B a b l e = out _ l e (alone (omega arith))
-eq-shape false true B a b l e = out _ l e (alone (omega arith))
-eq-shape false false B a b l e = let z : _≡_ {A = ℕ} 0 1 = cc in absurd (omega arith)
-
-global-shape : (p : Bool) (B : Bound) (a g : ℕ) (l : Emitted) → lowerEqGlobal p B a g ≡ some l → Shape (l .steps)
-unfolding frameOf
-global-shape true B a g l e = out _ l e (alone (omega arith))
-global-shape false B a g l e = out _ l e (alone (omega arith))
-
 atom-shape : (n : Counts) (B : Bound) (k : ℕ) (a : Atom) (l : Emitted) → AtomFits n a → lower B k a ≡ some l → Shape (l .steps)
 unfolding lower frameOf
-atom-shape n B k (Plain v o cs) l h e = out _ l e (read (add B v) cs (join-few (has B v) v o (childLookups B 0 cs) (omega (arith, children-few B 0 cs, h .2 .0))) (h .2 .0))
-atom-shape n B k (Lit v o x) l h e = out _ l e (joined (join-few (has B v) v o [] (omega arith)) (omega arith))
-atom-shape n B k (LitBind v o x) l h e = out _ l e (joined (join-few (has B v) v o [] (omega arith)) (omega arith))
-atom-shape n B k (Eq a b) l h e = eq-shape (has B a) (has B b) B a b l e
-atom-shape n B k (EqGlobal a g) l h e = global-shape (has B a) B a g l e
-atom-shape n B k (Pred g ds) l h e = out _ l e (alone (omega arith))
-atom-shape n B k (Variadic v o cs f) l h e = out _ l e (joined (join-few (has B v) v o (containsLookups B cs) (omega (arith, contains-few B cs, h .2 .0))) (omega (arith, expand-line v cs (expansionOf f), h .2 .0)))
+atom-shape n B k (Plain v o cs) l h e = emitted-have Shape _ l e (read (add B v) cs (join-few (has B v) v o (childLookups B 0 cs) (omega (arith, children-few B 0 cs, h .2 .0))) (h .2 .0))
+atom-shape n B k (Lit v o x) l h e = emitted-have Shape _ l e (joined (join-few (has B v) v o [] (omega arith)) (omega arith))
+atom-shape n B k (LitBind v o x) l h e = emitted-have Shape _ l e (joined (join-few (has B v) v o [] (omega arith)) (omega arith))
+atom-shape n B k (Eq a b) l h e = eq-have Shape (has B a) (has B b) B a b l (alone (omega arith)) (alone (omega arith)) (alone (omega arith)) e
+atom-shape n B k (EqGlobal a g) l h e = global-has Shape (has B a) B a g l (alone (omega arith)) (alone (omega arith)) e
+atom-shape n B k (Pred g ds) l h e = emitted-have Shape _ l e (alone (omega arith))
+atom-shape n B k (Variadic v o cs f) l h e = emitted-have Shape _ l e (joined (join-few (has B v) v o (containsLookups B cs) (omega (arith, contains-few B cs, h .2 .0))) (omega (arith, expand-line v cs (expansionOf f), h .2 .0)))
 
 pub atom-bytes : (n : Counts) (B : Bound) (k : ℕ) (a : Atom) (l : Emitted) → AtomFits n a → lower B k a ≡ some l → total lineLength (l .steps) ≤ 321
 atom-bytes n B k a l h e = shape-bytes (atom-shape n B k a l h e)
