@@ -19,7 +19,7 @@ static int refused(uint64_t answer) {
 int main(void) {
     static uint8_t plan[20565], lines[4096];
     uint64_t tries, matches;
-    uint64_t planned = rimdovek_plan((const uint8_t *)query, strlen(query), plan, sizeof plan);
+    uint64_t planned = rimdovek_plan((const uint8_t *)query, strlen(query), false, NULL, 0, plan, sizeof plan);
     if (planned & RIMDOVEK_REFUSED) return refused(planned);
     size_t plan_len = planned >> 48;
     fwrite(plan, 1, plan_len, stdout);

@@ -34,14 +34,19 @@ uint64_t rimdovek_path_selectivity(bool measured, uint64_t fanout, uint32_t deno
    more than 256 resamples. */
 uint8_t rimdovek_estimate_draws(const double *draws, size_t draws_len, size_t k, size_t bootstrap, uint64_t cv, uint64_t *mean);
 
-/* Plans a query text. Accepted: bytes written in bits 48 to 62 (no plan is longer than 20,565), steps in 32 to 47, tallied in 16 to 31,
-   rejected in 0 to 15. It takes less than 120,000 bytes of stack. */
-uint64_t rimdovek_plan(const uint8_t *query, size_t query_len, uint8_t *out, size_t out_len);
+/* Plans a query text. Where `handed` holds, a table text stands beside it, from which frame 24 takes the samples; an empty text is a table. Without
+   frame 24 it is not looked at. Accepted: bytes written in bits 48 to 62 (no plan is longer than 20,565), steps in 32 to 47, tallied in 16 to 31,
+   rejected in 0 to 15. A refusal is of the query (0) or of the table (2). It takes less than 120,000 bytes of stack, with frame 24 less than
+   380,000. */
+uint64_t rimdovek_plan(const uint8_t *query, size_t query_len, bool handed, const uint8_t *table, size_t table_len, uint8_t *out,
+                       size_t out_len);
 
 /* The costs of round number `round` of a query, from 0: the bits of the first atoms' costs, as far as the array is long, and all ones for an
-   atom that is no candidate and past the atoms. Accepted: the atom chosen in bits 0 to 7, or RIMDOVEK_ENDED where no atom is a candidate. */
+   atom that is no candidate and past the atoms. A table text may stand beside the query, as above. Accepted: the atom chosen in bits 0 to 7, or
+   RIMDOVEK_ENDED where no atom is a candidate. */
 #define RIMDOVEK_ENDED UINT64_C(0x100)
-uint64_t rimdovek_round_costs(const uint8_t *query, size_t query_len, size_t round, uint64_t *costs, size_t costs_len);
+uint64_t rimdovek_round_costs(const uint8_t *query, size_t query_len, bool handed, const uint8_t *table, size_t table_len, size_t round,
+                              uint64_t *costs, size_t costs_len);
 
 /* No atom is named as the new one of a run. */
 #define RIMDOVEK_NO_ATOM UINT64_MAX

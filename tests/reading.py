@@ -7,7 +7,7 @@ import sys
 
 ROOTS = (
     "fitting/Planner fitting/Entry fitting/Promised running/Run entries/Outcomes round_costs/Costs "
-    "guarantee/Demand3 guarantee/NewRows guarantee/Idempotent guarantee/SecondEntry guarantee/Marked modes/Modes"
+    "guarantee/Demand3 guarantee/NewRows guarantee/Idempotent guarantee/TableSamples guarantee/SecondEntry guarantee/Marked modes/Modes gathering/Handed"
 ).split()
 NAMED = re.compile(r"Rattle·(\w+?)(?:·specs)?\.specs\.(\w+)")
 LISTED = re.compile(r"^\| `(\w+)/specs/(\w+)\.antt` \| (\d+) \|", re.M)

@@ -5,7 +5,7 @@ ghost use mathlib.Core.List.{map};
 ghost use Prim.Native.Nat.{_+_, _<_, _≤_};
 ghost use lib.ListN.{length};
 ghost use Rattle.frames.specs.Sheet.{framesIn};
-ghost use Rattle.indexing.specs.Index.{Indexed};
+ghost use Rattle.given.specs.Given.{Given};
 ghost use Rattle.model.specs.Bound.{boundMost};
 ghost use Rattle.model.specs.Scheduling.{numbers};
 ghost use Rattle.cost.specs.Emitters.{decode};
@@ -46,7 +46,7 @@ pub fn cheapest(
     requires { ⌜ Samples (framesIn (now sheet)) (s .how) ⌝ }
     requires { ⌜ Remembers (framesIn (now sheet)) (s .how) (now keys) (now values) s ⌝ }
     requires { ⌜ length (candidates (framesIn (now sheet)) (map decode (d .emitters)) (sheetAtoms (now sheet)) (d .used) (d .bound) (numbers (sheetAtoms (now sheet))) (tallyAt (now keys) s) none .next .memo) ≤ length (now keys) ⌝ }
-    requires { ⌜ Indexed (now sheet) (now index) ⌝ }
+    requires { ⌜ Given (now sheet) (now index) ⌝ }
     requires { ⌜ Priced (now sheet) (now from) n (now prices) ⌝ }
     ensures { λ r. ⌜ Chose (framesIn (now (sheet .entry))) (s .how) (now (keys .exit)) (now (values .exit)) (now (costs .exit)) r (candidates (framesIn (now (sheet .entry))) (map decode (d .emitters)) (sheetAtoms (now (sheet .entry))) (d .used) (d .bound) (numbers (sheetAtoms (now (sheet .entry)))) (tallyAt (now (keys .entry)) s) none) (offers (framesIn (now (sheet .entry))) (map decode (d .emitters)) (sheetAtoms (now (sheet .entry))) (d .used) (d .bound) (numbers (sheetAtoms (now (sheet .entry)))) (tallyAt (now (keys .entry)) s)) ⌝ }
 {

@@ -1,5 +1,5 @@
-// Explains the plan text on standard input, each step in words. A query text is planned first, and for each round the candidates are shown with
-// their costs. A refused text is explained by its number and line. The argument, a decimal number below 2^64, is an atom: each Join then says which
+// Explains the plan text on standard input, each step in words. A query text is planned first, with the table in the file `table` beside it, or none
+// where it is missing; it is said where its samples come from, and for each round the candidates are shown with their costs. A refused text is explained by its number and line. The argument, a decimal number below 2^64, is an atom: each Join then says which
 // rows it tries in a run that names that atom as its new one, and a last line says where no Join is of that atom. Any other arguments get a line
 // of usage.
 
@@ -8,6 +8,7 @@ mod costs;
 mod named;
 mod planned;
 mod refusals;
+mod source;
 mod steps;
 mod words;
 
@@ -19,7 +20,20 @@ use hex_lines::reader::line_from;
 use modes::mode::DeltaAtom;
 use planned::explain_query;
 use printing::TEXT_ROOM;
+use table_file::read_table;
 use words::say;
+
+fn explain_with(text: &[u8], found: bool, table: &[u8], n: usize, named: DeltaAtom) {
+    if n <= table.len() {
+        explain_query(text, found, &table[..n], named);
+    }
+}
+
+fn explain_beside(text: &[u8], named: DeltaAtom) {
+    let mut table = [0u8; TEXT_ROOM];
+    let file = read_table(&mut table);
+    explain_with(text, file.found, &table, file.size, named);
+}
 
 // A text is taken for a plan by its first byte.
 fn explain(text: &[u8], named: DeltaAtom) {
@@ -27,7 +41,7 @@ fn explain(text: &[u8], named: DeltaAtom) {
         explain_plan(text, named);
         return;
     }
-    explain_query(text, named);
+    explain_beside(text, named);
 }
 
 fn explain_input(named: DeltaAtom) {

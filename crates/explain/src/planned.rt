@@ -1,12 +1,14 @@
-// A query text, planned, in words: its rounds, then its plan.
+// A query text, planned, in words: where its samples come from, its rounds, then its plan.
 use super::accepted::explain_plan;
 use super::costs::say_cost;
 use super::refusals::say_refusal;
+use super::source::say_source;
 use super::words::say;
 use super::words::say_number;
 use fields::field::wide;
 use fitting::fit::PLAN_MOST;
 use fitting::fit::Planned;
+use gathering::beside::beside_if;
 use modes::mode::DeltaAtom;
 use planner::entry::plan;
 use round_costs::rounds::RoundCosts;
@@ -33,10 +35,10 @@ fn say_candidates(costs: &[u64]) {
 }
 
 // A round of the text: its candidates with their costs, and the atom chosen. Whether there is such a round.
-fn say_round(text: &[u8], round: usize) -> bool {
+fn say_round(text: &[u8], found: bool, table: &[u8], round: usize) -> bool {
     let mut costs = [0u64; 64];
-    match round_costs(text, round, &mut costs) {
-        RoundCosts::Refused(_, _) => false,
+    match round_costs(text, beside_if(found), table, round, &mut costs) {
+        RoundCosts::Refused(_, _, _) => false,
         RoundCosts::Ended => false,
         RoundCosts::Chosen(atom) => {
             say(b"round ");
@@ -51,28 +53,38 @@ fn say_round(text: &[u8], round: usize) -> bool {
 }
 
 // The rounds of a text: at most one an atom.
-fn say_rounds(text: &[u8]) {
+fn say_rounds(text: &[u8], found: bool, table: &[u8]) {
     let mut round: usize = 0;
     while round < 64 {
-        if !say_round(text, round) {
+        if !say_round(text, found, table, round) {
             return;
         }
         round += 1;
     }
 }
 
-fn say_plan(text: &[u8], out: &[u8], n: usize, named: DeltaAtom) {
+fn say_plan(text: &[u8], found: bool, table: &[u8], out: &[u8], n: usize, named: DeltaAtom) {
     if n <= out.len() {
         let lines = &out[..n];
-        say_rounds(text);
+        say_source(text);
+        say_rounds(text, found, table);
         explain_plan(lines, named);
     }
 }
 
-pub fn explain_query(text: &[u8], named: DeltaAtom) {
+fn say_back(number: u8, text: u8, line: usize) {
+    if text == 0 {
+        say_refusal(number, line, b"query");
+        return;
+    }
+    say_refusal(number, line, b"table");
+}
+
+// A query text, with a table text beside it where one is found.
+pub fn explain_query(text: &[u8], found: bool, table: &[u8], named: DeltaAtom) {
     let mut out = [0u8; PLAN_MOST];
-    match plan(text, &mut out) {
-        Planned::Refused(number, line) => say_refusal(number, line, b"query"),
-        Planned::Written(n, _, _, _) => say_plan(text, &out, n, named),
+    match plan(text, beside_if(found), table, &mut out) {
+        Planned::Refused(number, of, line) => say_back(number, of, line),
+        Planned::Written(n, _, _, _) => say_plan(text, found, table, &out, n, named),
     }
 }

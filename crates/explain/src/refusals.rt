@@ -12,7 +12,8 @@ fn say_condition(number: u8) {
         5 => say(b"variable, global, literal or atom not below its count"),
         6 => say(b"by_repr, fan-out or cv not finite or below 0"),
         7 => say(b"key given twice"),
-        _ => say(b"whole plan longer than the output"),
+        8 => say(b"whole plan longer than the output"),
+        _ => say(b"frame 24 without a table, or beside frames 21 to 23"),
     }
 }
 

@@ -4,8 +4,8 @@ use mathlib.Core.Bool.{true, false}
 use Rattle.packing.specs.Packed.{packedRefusal, packedChoice}
 use Rattle.round_costs.specs.Costs.{Answer, Chosen, Ended, Invalid}
 
--- the atom chosen, or that no atom is a candidate; a refusal of the text 00, the query
+-- the atom chosen, or that no atom is a candidate; a refusal with its text, 00 the query, 02 the table
 abbrev pub packedRound : Answer → ℕ
 packedRound (Chosen i) = packedChoice true i
 packedRound Ended = packedChoice false 0
-packedRound (Invalid k l) = packedRefusal k 0 l
+packedRound (Invalid k t l) = packedRefusal k t l

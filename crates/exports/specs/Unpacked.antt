@@ -2,14 +2,12 @@
 -- answers by such a number. Assumes nothing.
 use Prim.Native.Nat.{ℕ, _<_}
 use mathlib.Core.Path.{_≡_, refl}
+use mathlib.Core.Option.{Option}
 use mathlib.Core.List.{List}
 use native.Mathlib.Omega.{arith}
 use borrow.Author.Tests.{ne-eqb}
 use Rattle.packing.specs.Unpacked.{TellsRefusal, TellsCounts, TellsWritten, TellsPlain}
 use Rattle.packing.proofs.UnpackedLaws.{refusal-told, counts-told, written-told, plain-told}
-use Rattle.frame_tests.specs.Faults.{textNumber}
-use Rattle.frame_tests.specs.declared.tests.Text.{Text}
-use Rattle.frame_tests.specs.declared.tests.Text.the-variants.{Query, Plan, Table}
 use Rattle.fitting.specs.Planner.{Answer, plan}
 use Rattle.round_costs.specs.Costs.{Answer as RoundAnswer, Chosen, Ended, Invalid, roundCosts}
 use Rattle.planner.proofs.AnswerBounds.{Within, plan-within}
@@ -32,43 +30,38 @@ TellsPlan a n = TellsCounts (a .bytes) (a .steps) (a .tallied) (a .rejected) n
 
 -- the number n tells that an answer is a refusal, with its number, text and line
 abbrev pub TellsBack : Answer → ℕ → Type 0
-TellsBack a n = TellsRefusal (a .number) (textNumber (a .text)) (a .line) n
+TellsBack a n = TellsRefusal (a .number) (a .text) (a .line) n
 
 -- The answer of every query that is planned is told whole.
-pub planned-told : (x o : List ℕ) → plan x o .answer .number ≡ 0 → TellsPlan (plan x o .answer) (packedAnswer (plan x o .answer))
-planned-told x o z = by (plan x o .answer) (plan-within x o) z
+pub planned-told : (x : List ℕ) (t : Option (List ℕ)) (o : List ℕ) → plan x t o .answer .number ≡ 0 → TellsPlan (plan x t o .answer) (packedAnswer (plan x t o .answer))
+planned-told x t o z = by (plan x t o .answer) (plan-within x t o) z
   where
     by : (a : Answer) → Within a → a .number ≡ 0 → TellsPlan a (packedAnswer a)
     by a w z = rw z (counts-told (a .bytes) (a .steps) (a .tallied) (a .rejected) (omega (arith, w .bytes)) (omega (arith, w .steps)) (omega (arith, w .tallied)) (omega (arith, w .rejected)))
 
--- Every refusal of a query is told whole.
-pub refused-told : (x o : List ℕ) → (plan x o .answer .number ≡ 0 → ⊥) → TellsBack (plan x o .answer) (packedAnswer (plan x o .answer))
-refused-told x o z = by (plan x o .answer) (plan-within x o) z
+-- Every refusal of a query, or of a table beside it, is told whole.
+pub refused-told : (x : List ℕ) (t : Option (List ℕ)) (o : List ℕ) → (plan x t o .answer .number ≡ 0 → ⊥) → TellsBack (plan x t o .answer) (packedAnswer (plan x t o .answer))
+refused-told x t o z = by (plan x t o .answer) (plan-within x t o) z
   where
-    few-texts : (t : Text) → textNumber t < 0x100
-    few-texts Query = omega arith
-    few-texts Plan = omega arith
-    few-texts Table = omega arith
-
     by : (a : Answer) → Within a → (a .number ≡ 0 → ⊥) → TellsBack a (packedAnswer a)
-    by a w z = rw (ne-eqb (a .number) 0 z) (refusal-told (a .number) (textNumber (a .text)) (a .line) (omega (arith, w .number)) (few-texts (a .text)) (omega (arith, w .line)))
+    by a w z = rw (ne-eqb (a .number) 0 z) (refusal-told (a .number) (a .text) (a .line) (omega (arith, w .number)) (omega (arith, w .text)) (omega (arith, w .line)))
 
 -- ---- `rimdovek_round_costs`
 
--- the number n tells the atom chosen, which is below 64; 0x100 where the rounds have ended; or a refusal of the text 0, the query
+-- the number n tells the atom chosen, which is below 64; 0x100 where the rounds have ended; or a refusal
 abbrev pub TellsRound : RoundAnswer → ℕ → Type 0
 TellsRound (Chosen i) n = TellsPlain i n × (i < 64)
 TellsRound Ended n = TellsPlain 0x100 n
-TellsRound (Invalid k l) n = TellsRefusal k 0 l n
+TellsRound (Invalid k t l) n = TellsRefusal k t l n
 
 -- The answer of every round of every text is told whole.
-pub round-told : (x : List ℕ) (round : ℕ) (o : List ℕ) → TellsRound (roundCosts x round o .answer) (packedRound (roundCosts x round o .answer))
-round-told x round o = by (roundCosts x round o .answer) (round-within x round o)
+pub round-told : (x : List ℕ) (t : Option (List ℕ)) (round : ℕ) (o : List ℕ) → TellsRound (roundCosts x t round o .answer) (packedRound (roundCosts x t round o .answer))
+round-told x t round o = by (roundCosts x t round o .answer) (round-within x t round o)
   where
     by : (a : RoundAnswer) → RoundWithin a → TellsRound a (packedRound a)
     by (Chosen i) w = (plain-told i (omega arith), w)
     by Ended w = plain-told 0x100 (omega arith)
-    by (Invalid k l) w = refusal-told k 0 l (omega arith) (omega arith) (omega arith)
+    by (Invalid k t l) w = refusal-told k t l (omega (arith, w .0)) (omega (arith, w .1 .0)) (omega (arith, w .1 .1))
 
 -- ---- `rimdovek_run`
 

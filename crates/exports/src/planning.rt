@@ -1,8 +1,10 @@
 // The planner for programs outside the prover: one call from query text to plan text.
 ghost use mathlib.Core.Path.{_≡_};
 ghost use Rattle.fitting.specs.Planner.{plan as planned};
+ghost use Rattle.gathering.specs.Handed.{handedIf};
 ghost use Rattle.exports.specs.Plans.{packedAnswer, packedPlanned};
 use fitting::fit::Planned;
+use gathering::beside::beside_if;
 use packing::counts;
 use packing::refusal;
 use planner::entry::plan;
@@ -18,15 +20,15 @@ fn packed(p: Planned) -> u64
             tallied,
             rejected,
         ),
-        Planned::Refused(number, line) => refusal(number, 0, line),
+        Planned::Refused(number, text, line) => refusal(number, text, line),
     }
 }
 
-// Plans a query text into a lent output.
+// Plans a query text into a lent output, with a table text beside it where one is handed in.
 #[no_mangle]
-pub extern "C" fn rimdovek_plan(query: &[u8], out: &mut [u8]) -> u64
-    ensures answer { λ r. ⌜ r ≡ packedAnswer (planned (now (query .entry)) (now (out .entry)) .answer) ⌝ }
-    ensures output { λ r. ⌜ now (out .exit) ≡ planned (now (query .entry)) (now (out .entry)) .output ⌝ }
+pub extern "C" fn rimdovek_plan(query: &[u8], handed: bool, table: &[u8], out: &mut [u8]) -> u64
+    ensures answer { λ r. ⌜ r ≡ packedAnswer (planned (now (query .entry)) (handedIf handed (now (table .entry))) (now (out .entry)) .answer) ⌝ }
+    ensures output { λ r. ⌜ now (out .exit) ≡ planned (now (query .entry)) (handedIf handed (now (table .entry))) (now (out .entry)) .output ⌝ }
 {
-    packed(plan(query, out))
+    packed(plan(query, beside_if(handed), table, out))
 }

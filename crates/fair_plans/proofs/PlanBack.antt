@@ -2,6 +2,7 @@
 -- one by a fair choice. Proved from what is said of the plan as written.
 use Prim.Native.Nat.{ℕ, _+_, _*_, _/_, _%_, _<_}
 use mathlib.Core.Path.{_≡_, refl, ap, _∙_}
+use mathlib.Core.Option.{Option}
 use mathlib.Core.List.{List, map}
 use native.Mathlib.Omega.{arith}
 use lib.ListN.{length, getD}
@@ -20,7 +21,7 @@ use Rattle.plan_facts.specs.QueryPlans.{atomsOf, countAt, ReadBack}
 use Rattle.plan_facts.proofs.QueryPlansLaws.{plan-read-back}
 use Rattle.cost.specs.Choice.{Memory, fresh, choose, planned}
 use Rattle.cost.proofs.ChoiceLaws.{choose-fair}
-use Rattle.fitting.specs.Planner.{stepsOf, talliedOf, rejectedOf, planOf}
+use Rattle.fitting.specs.Planner.{given, stepsOf, talliedOf, rejectedOf, planOf}
 use Rattle.ordering.proofs.Accepted.{few-keys}
 use Rattle.running.specs.Tables.{countsIn, lineCounts, planSteps, stepsIn}
 use Rattle.fair_plans.specs.Terms.{planFor, FairPlan, fairSteps, lineOf}
@@ -40,18 +41,18 @@ module _ (v g l t r : ℕ) (ss : List Step) where
   literals-back h = rw (text-first (headerOf v g l (length ss) t r) (map frameOf ss)) (byte-back l h)
 
 module _ (x : List ℕ) (n c : ℕ) (ok : reading Query x ≡ Accepted n c) where
-  -- the planner's plan is by a fair choice
-  pub planner-fair : FairPlan x (planFor x)
+  -- the planner's plan is by a fair choice, whatever table is handed in
+  pub planner-fair : (h : Option (List ℕ)) → FairPlan x (planFor x h)
   unfolding planOf stepsOf planned
-  planner-fair =
-      let k = few-keys x n c ok in
+  planner-fair h =
+      let k = few-keys x n c ok (given x h) in
       record {
         Memory = Memory;
-        choose = choose (framesOf x) (atomsOf x);
+        choose = choose (given x h) (atomsOf x);
         start = fresh;
-        fair = choose-fair (framesOf x) (atomsOf x);
-        tallied = talliedOf x;
-        rejected = rejectedOf x;
+        fair = choose-fair (given x h) (atomsOf x);
+        tallied = talliedOf x h;
+        rejected = rejectedOf x h;
         tallied-few = omega (arith, k .tallied-few);
         rejected-few = omega (arith, k .rejected-few);
         text = refl;

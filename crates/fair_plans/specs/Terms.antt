@@ -4,6 +4,7 @@ use Prim.Native.Nat.{ℕ, _<_, _≤_}
 use mathlib.Core.Path.{_≡_}
 use mathlib.Core.Logic.{_≢_}
 use mathlib.Core.Bool.{true}
+use mathlib.Core.Option.{Option}
 use mathlib.Core.List.{List, [], _∷_, _++_, map, flatMap, List·Memᴰ}
 use lib.ListN.{length, drop}
 use Rattle.kinds.specs.Kinds.{table}
@@ -24,9 +25,9 @@ use Rattle.running.specs.Tables.{tableOf}
 use Rattle.running.specs.Validation.{Verdict, andThen, ofReading, shapesFrom, globalOf, allGiven}
 use Rattle.running.specs.Run.{events, matchLine, lineText, Ran, Result}
 
--- the plan of the query text x
-abbrev pub planFor : List ℕ → List ℕ
-planFor x = planOf x .text
+-- the plan of the query text x with the table text h handed in beside it, or none
+abbrev pub planFor : List ℕ → Option (List ℕ) → List ℕ
+planFor x h = planOf x h .text
 
 -- A plan text for the query text x, by whatever fair choice: document 01's rules, with any costs, any samples and any memory of them. The planner's is one
 -- (`planner-fair` of PlanBack).

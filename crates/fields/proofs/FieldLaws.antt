@@ -1,4 +1,4 @@
--- Laws of the fields: at which of them a test does not look, and what a field's code says. Assumes nothing.
+-- Laws of the fields: what test 5 does not ask for, at which of them a test does not look, and what a field's code says. Assumes nothing.
 use Prim.Native.Nat.{ℕ, _+_, _-_, _/_, _%_, _<_, _≤_}
 use mathlib.Core.Path.{_≡_, refl, sym, _∙_}
 use mathlib.Core.List.{List, [], _∷_, map}
@@ -16,6 +16,28 @@ use Rattle.fields.specs.Fields.{width, fieldFits, fieldIn, fieldReal, fi
 use Rattle.fields.specs.Unread.{tests, looks}
 use Rattle.fields.specs.Codes.{named, decode}
 use Rattle.fields.proofs.MatchLaws.{Others, listed, unlisted, covers, others}
+
+-- ---- test 5 does not ask for a table
+
+pub in-same : (v g l a r : ℕ) (b d : Bool) (x : Field) (f : List ℕ) (i : ℕ) → fieldIn (record { variables = v; globals = g; literals = l; atoms = a; rows = r; table = b }) x f i ≡ fieldIn (record { variables = v; globals = g; literals = l; atoms = a; rows = r; table = d }) x f i
+unfolding fieldIn
+in-same v g l a r b d (Free m) f i = refl
+in-same v g l a r b d (Most m) f i = refl
+in-same v g l a r b d Variable f i = refl
+in-same v g l a r b d Global f i = refl
+in-same v g l a r b d Literal f i = refl
+in-same v g l a r b d Atom f i = refl
+in-same v g l a r b d Bootstrap f i = refl
+in-same v g l a r b d Real f i = refl
+in-same v g l a r b d Class f i = refl
+in-same v g l a r b d Operand f i = refl
+in-same v g l a r b d Element f i = refl
+in-same v g l a r b d KeySite f i = refl
+in-same v g l a r b d ProbePath f i = refl
+in-same v g l a r b d Ends f i = refl
+in-same v g l a r b d Rest f i = refl
+in-same v g l a r b d Lookup f i = refl
+in-same v g l a r b d Row f i = refl
 
 -- ---- a field at which a test does not look
 

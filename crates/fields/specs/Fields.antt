@@ -116,4 +116,4 @@ fieldPasses Reals n x f i = fieldReal x f i
 
 -- the limits go by no counts
 abbrev pub noCounts : Counts
-noCounts = record { variables = 0; globals = 0; literals = 0; atoms = 0; rows = 0 }
+noCounts = record { variables = 0; globals = 0; literals = 0; atoms = 0; rows = 0; table = true }

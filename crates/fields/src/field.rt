@@ -76,13 +76,14 @@ const LOOKUP: u8 = 29;
 
 const ROW: u8 = 30;
 
-// How many variables, globals, literals, atoms and rows there are to name.
+// How many variables, globals, literals, atoms and rows there are to name, and whether there is a table to take samples from.
 pub struct Counts {
     pub variables: u8,
     pub globals: u8,
     pub literals: u8,
     pub atoms: usize,
     pub rows: usize,
+    pub table: bool,
 }
 
 // Small numbers as lengths and places, and back.

@@ -9,7 +9,6 @@ use lib.ListN.{length, getD, take, drop}
 use lib.Seq.{sets-eq, getD-take, length-take-le}
 use borrow.Author.Tests.{lt-ltb, le-ltb, leb-true, leb-false, le-leb, not-true, not-false}
 use Rattle.frames.specs.Sheet.{framesIn}
-use Rattle.first_reading.specs.First.{Sheet}
 use Rattle.frame_tests.specs.declared.tests.Text.the-variants.{Query}
 use Rattle.first_reading.specs.declared.first.Reading.the-variants.{Accepted}
 use Rattle.second_reading.specs.Second.{countsIn, reading}
@@ -29,22 +28,20 @@ use Rattle.scheduling.specs.declared.schedule.Scheduled.{Scheduled}
 use Rattle.writing.specs.Steps.{stepsAlong, countAlong, Ordered}
 use Rattle.writing.proofs.CountLaws.{lowered-steps, lowered-count}
 use Rattle.output.specs.Written.{written, PutsFrames}
-use Rattle.fitting.specs.Planner.{Plan, stepsOf, planOf, fitted}
-use Rattle.fitting.specs.Promised.{read-back}
+use Rattle.fitting.specs.Planner.{Plan, planWith, fitted}
+use Rattle.fitting.specs.Promised.{with-read-back}
 use Rattle.fitting.specs.Entry.{planOn, plannedResult}
 use Rattle.ordering.specs.Accepts.{Accepts}
-use Rattle.ordering.proofs.OrderLaws.{sheet-items, sheet-keys, places-located}
+use Rattle.ordering.proofs.OrderLaws.{sheet-atoms, sheet-items, sheet-keys, places-located}
 use Rattle.fitting.specs.declared.fit.Planned.the-variants.{Written as Wrote, Refused as Refuses}
 
--- its plan is that of the text
-pub plan-on : (x s : List ℕ) → Sheet x s → planOn s ≡ planOf x
-unfolding planOf stepsOf
-plan-on x s h = rw (h .header, h .frames)
+-- the plan of a sheet is that of its query by all its frames
+pub plan-on : (s : List ℕ) (a : Accepts s) → planOn s ≡ planWith (framesIn s) (a .text)
+plan-on s a = rw (a .header, sheet-atoms s a)
 
 -- the longest plan has room
-fits-text : (x : List ℕ) (n c : ℕ) → reading Query x ≡ Accepted n c → (room : ℕ) → planMost ≤ room → true ≡ leb (length (planOf x .text)) room
-unfolding planOf
-fits-text x n c ok room l = sym (le-leb (length (planOf x .text)) room (let b = read-back x n c ok .short in omega arith))
+fits-text : (fs : List (List ℕ)) (x : List ℕ) (n c : ℕ) → reading Query x ≡ Accepted n c → (room : ℕ) → planMost ≤ room → true ≡ leb (length (planWith fs x .text)) room
+fits-text fs x n c ok room l = sym (le-leb (length (planWith fs x .text)) room (let b = with-read-back fs x n c ok .short in omega arith))
 
 module _ (x from : List ℕ) (n : ℕ) (s : Scheduled) (a : Accepts x) (y : Places x from n) (h : Scheduling x s) where
   abbrev O : List ℕ
@@ -93,12 +90,12 @@ module _ (x from : List ℕ) (n : ℕ) (s : Scheduled) (a : Accepts x) (y : Plac
   text-is = refl
 
   pub fits-always : (room : ℕ) → planMost ≤ room → true ≡ leb (length (planOn x .text)) room
-  fits-always room l = subst (λ (p : Plan). true ≡ leb (length (p .text)) room) (sym (plan-on (a .text) x (a .sheet))) (fits-text (a .text) (a .lines) (a .atoms) (a .is) room l)
+  fits-always room l = subst (λ (p : Plan). true ≡ leb (length (p .text)) room) (sym (plan-on x a)) (fits-text (framesIn x) (a .text) (a .lines) (a .atoms) (a .is) room l)
 
   pub fits-measured : (room r : ℕ) → r ≡ 21 + textLength (map frameOf (stepsAlong (atomOf (sheetAtoms x)) blank (take (s .count) (s .order)))) → leb r room ≡ leb (length (planOn x .text)) room
   fits-measured room r e = rw (text-is, text-size, e)
 
-  pub not-fitting : (t : Bool) (o : List ℕ) → t ≡ leb (length (planOn x .text)) (length o) → not t ≡ true → plannedResult (Refuses 8 0) o ≡ fitted (planOn x) o
+  pub not-fitting : (t : Bool) (o : List ℕ) → t ≡ leb (length (planOn x .text)) (length o) → not t ≡ true → plannedResult (Refuses 8 0 0) o ≡ fitted (planOn x) o
   not-fitting t o e l =
       let k : length o < length text = leb-false (length text) (length o) (sym e ∙ not-true t l) in
       rw (lt-ltb (length o) (length text) k)

@@ -8,10 +8,10 @@ use Rattle.fitting.specs.Planner.{Plan, planBy, Answer, writes, refusal,
 use Rattle.fitting.specs.declared.fit.Planned.{Planned}
 use Rattle.fitting.specs.declared.fit.Planned.the-variants.{Written as Wrote, Refused}
 
--- bytes written, steps, tallied, rejected; or number and line
+-- bytes written, steps, tallied, rejected; or number, text and line
 abbrev pub plannedAnswer : Planned → Answer
 plannedAnswer (Wrote b s t r) = writes b s t r
-plannedAnswer (Refused k l) = refusal k l
+plannedAnswer (Refused k t l) = refusal k t l
 
 -- the answer r with the output o is what the definition gives
 abbrev pub plannedResult : Planned → List ℕ → Result

@@ -15,8 +15,8 @@ use writing::steps::count_steps;
 pub enum Planned {
     // bytes written, steps, tallied, rejected
     Written(usize, usize, usize, usize),
-    // number and line; the text is the query
-    Refused(u8, usize),
+    // number, text (0 query, 2 table) and line
+    Refused(u8, u8, usize),
 }
 
 // The bytes of the longest plan.
@@ -44,7 +44,7 @@ pub fn plan_in_order(sheet: &[u8], from: &[u16], n: usize, s: Scheduled, out: &m
     ensures { λ r. ⌜ plannedResult r (now (out .exit)) ≡ fitted (planOn (now (sheet .entry))) (now (out .entry)) ⌝ }
 {
     if !fits(sheet, from, n, s, out.len()) {
-        return Planned::Refused(8, 0);
+        return Planned::Refused(8, 0, 0);
     }
     let order = s.order;
     let steps = count_steps(sheet, from, n, &order, s.count);

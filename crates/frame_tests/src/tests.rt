@@ -60,7 +60,7 @@ fn belongs(t: Text, first: bool, kind: u8, text: u8) -> bool
     false
 }
 
-fn is_atom(kind: u8) -> bool
+pub fn is_atom(kind: u8) -> bool
     ensures { λ r. ⌜ r ≡ isAtom kind ⌝ }
 {
     if 1 <= kind { kind <= 0x0e } else { false }

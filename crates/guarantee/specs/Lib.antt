@@ -1,9 +1,11 @@
--- Demand 3, Note 1's guarantee over new rows and Note 2, over the words of `fair_plans`
+-- Demand 3, Note 1's guarantee over new rows, Note 2, and Note 3's guarantee whatever the samples, over the words of `fair_plans`
 pub mod Demand3
 pub mod NewRows
 pub mod Idempotent
 pub mod SecondEntry
--- Its premises met, and each of them needed; the marked examples
+pub mod TableSamples
+-- Its premises met, and each of them needed; a plan that goes by the table; the marked examples
 pub mod Worked
 pub mod Needed
+pub mod TableOrder
 pub mod Marked

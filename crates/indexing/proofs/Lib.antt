@@ -1,3 +1,4 @@
 pub mod SlotLaws
 pub mod SearchLaws
 pub mod NoteLaws
+pub mod BehindLaws

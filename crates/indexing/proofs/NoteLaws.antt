@@ -5,14 +5,14 @@ use mathlib.Core.Bool.{Bool, true, false}
 use mathlib.Core.List.{List, [], _∷_, _++_}
 use native.Mathlib.Numerals.{add-one}
 use native.Mathlib.Omega.{arith}
-use lib.ListN.{length, getD, take, set, length-set}
+use lib.ListN.{length, getD, take, drop, set, length-set}
 use lib.Seq.{getD-set-same, getD-set-other}
-use lib.Dec.{eqb}
-use borrow.Author.Tests.{eq-eqb, ne-eqb, eqb-true, eqb-false}
+use lib.Dec.{leb, eqb}
+use borrow.Author.Tests.{eq-eqb, ne-eqb, eqb-true, eqb-false, leb-true, leb-false}
 use Rattle.base.specs.Choose.{pick}
 use Rattle.frames.specs.Sheet.{frameAt}
 use Rattle.kinds.specs.Kinds.{kindAt}
-use Rattle.frames.specs.Frames.{kindOf}
+use Rattle.frames.specs.Frames.{kindOf, frameLength}
 use Rattle.frame_keys.specs.Keys.{begins, find, isFound, keyOf, keyGiven}
 use Rattle.indexing.specs.Index.{slotsFor, hashed, hashOf, slotOf, Slotted, Proper, placeOf, olderOf, latest, searched, found, Falling, givenBy, entered, noted, entriesWith, Indexes}
 use Rattle.indexing.proofs.SlotLaws.{slot-below, slotted-some, proper-slotted, begins-first, begins-hash, begins-part, key-slotted}
@@ -88,6 +88,13 @@ module _ (slots : ℕ) (some : 0 < slots) (x i j f : List ℕ) (fs : List (List 
       go true p = rw (eqb-true s (slotOf slots f) p, t .here) (omega arith)
       go false p = let l = q .few s h in rw (t .elsewhere s h (eqb-false s (slotOf slots f) p)) (omega arith)
 
+  inside-still : at + frameLength (drop at x) ≤ length x → (e : ℕ) → 0 < e → e ≤ suc m → placeOf slots j e + frameLength (drop (placeOf slots j e) x) ≤ length x
+  inside-still w e h l = go (leb e m) refl
+    where
+      go : (b : Bool) → leb e m ≡ b → placeOf slots j e + frameLength (drop (placeOf slots j e) x) ≤ length x
+      go true p = let o = leb-true e m p in rw (t .places e o) (q .inside e h o)
+      go false p = let z : e ≡ suc m = omega (arith, leb-false e m p) in rw (z, t .place) w
+
   same-slot : (k : List ℕ) → slotOf slots k ≡ slotOf slots f → found slots x j k ≡ pick (begins k f) f (found slots x i k)
   unfolding searched found
   same-slot k e =
@@ -111,7 +118,7 @@ module _ (slots : ℕ) (some : 0 < slots) (x i j f : List ℕ) (fs : List (List 
 
 -- ---- what is to be found with one more frame
 
-find-more : (b : ℕ) (k : List ℕ) (fs : List (List ℕ)) (f : List ℕ) → find (b ∷ k) (fs ++ f ∷ []) ≡ pick (isFound (find (b ∷ k) fs)) (find (b ∷ k) fs) (pick (begins (b ∷ k) f) f [])
+pub find-more : (b : ℕ) (k : List ℕ) (fs : List (List ℕ)) (f : List ℕ) → find (b ∷ k) (fs ++ f ∷ []) ≡ pick (isFound (find (b ∷ k) fs)) (find (b ∷ k) fs) (pick (begins (b ∷ k) f) f [])
 unfolding find begins
 find-more b k [] f = refl
 find-more b k ([] ∷ fs) f = find-more b k fs f
@@ -175,10 +182,11 @@ none-given k f fs w g p =
 
 -- ---- an index with one more line
 
-keyed-line : (slots : ℕ) → 0 < slots → (x i j f : List ℕ) (fs : List (List ℕ)) (at m : ℕ) → Entry slots i j (slotOf slots f) at m → Indexes slots x i fs m → frameAt x at ≡ f → keyGiven fs f ≡ false → Indexes slots x j (fs ++ f ∷ []) (suc m)
-keyed-line slots some x i j f fs at m t q l g = record {
+keyed-line : (slots : ℕ) → 0 < slots → (x i j f : List ℕ) (fs : List (List ℕ)) (at m : ℕ) → Entry slots i j (slotOf slots f) at m → Indexes slots x i fs m → frameAt x at ≡ f → at + frameLength (drop at x) ≤ length x → keyGiven fs f ≡ false → Indexes slots x j (fs ++ f ∷ []) (suc m)
+keyed-line slots some x i j f fs at m t q l w g = record {
   falling = falls-still slots some x i j f fs at m t q l;
   few = few-still slots some x i j f fs at m t q l;
+  inside = inside-still slots some x i j f fs at m t q l w;
   given = λ k s. rw (found-with slots some x i j f fs at m t q l k s, find-with k s fs f) (given-with (found slots x i k) (find k fs) f (begins k f) (q .given k s) (found-some k f s));
   is = λ k p. rw (found-with slots some x i j f fs at m t q l k (proper-slotted k p), find-with k (proper-slotted k p) fs f, q .is k p) (found-first (find k fs) f (begins k f) (none-given k f fs p g));
 }
@@ -188,6 +196,7 @@ unkeyed-line : (slots : ℕ) (x i f : List ℕ) (fs : List (List ℕ)) (m : ℕ)
 unkeyed-line slots x i f fs m q z = record {
   falling = q .falling;
   few = q .few;
+  inside = q .inside;
   given = λ k s. rw (find-with k s fs f, never k s) (given-with (found slots x i k) (find k fs) f false (q .given k s) (λ e. absurd (no-truth e)));
   is = λ k p. rw (find-with k (proper-slotted k p) fs f, never k (proper-slotted k p), q .is k p) (found-first (find k fs) f false (λ e. absurd (no-truth e)));
 }
@@ -198,12 +207,12 @@ unkeyed-line slots x i f fs m q z = record {
     never : (k : List ℕ) → Slotted k → begins k f ≡ false
     never k s = not-begun k f (λ p. let a : 0 < kindOf f .key = rw (begins-first k f s p) at (s .keyed) in omega arith)
 
-pub noted-line : (slots : ℕ) → 0 < slots → (x i f : List ℕ) (fs : List (List ℕ)) (at m : ℕ) → Indexes slots x i fs m → slots + 2 * (m + 1) + 2 ≤ length i → frameAt x at ≡ f → keyGiven fs f ≡ false → Indexes slots x (noted slots i f at m) (fs ++ f ∷ []) (entriesWith f m)
-noted-line slots some x i f fs at m q r l g = go (eqb (kindOf f .key) 0) refl
+pub noted-line : (slots : ℕ) → 0 < slots → (x i f : List ℕ) (fs : List (List ℕ)) (at m : ℕ) → Indexes slots x i fs m → slots + 2 * (m + 1) + 2 ≤ length i → frameAt x at ≡ f → at + frameLength (drop at x) ≤ length x → keyGiven fs f ≡ false → Indexes slots x (noted slots i f at m) (fs ++ f ∷ []) (entriesWith f m)
+noted-line slots some x i f fs at m q r l w g = go (eqb (kindOf f .key) 0) refl
   where
     go : (b : Bool) → eqb (kindOf f .key) 0 ≡ b → Indexes slots x (pick b i (entered slots i (slotOf slots f) at (m + 1))) (fs ++ f ∷ []) (pick b m (m + 1))
     go true p = unkeyed-line slots x i f fs m q (eqb-true _ _ p)
-    go false p = rw (add-one m) (keyed-line slots some x i (entered slots i (slotOf slots f) at (suc m)) f fs at m (entry-made slots i (slotOf slots f) at m (slot-below slots some f) r) q l g)
+    go false p = rw (add-one m) (keyed-line slots some x i (entered slots i (slotOf slots f) at (suc m)) f fs at m (entry-made slots i (slotOf slots f) at m (slot-below slots some f) r) q l w g)
 
 pub noted-length : (slots : ℕ) (i f : List ℕ) (at m : ℕ) → length (noted slots i f at m) ≡ length i
 noted-length slots i f at m = go (eqb (kindOf f .key) 0)
@@ -227,6 +236,7 @@ unfolding found searched find
 blank-indexes slots x i z = record {
   falling = record { falls = λ e h. rw (z (slots + 2 * e + 1)) h };
   few = λ s h. rw (z s) (omega arith);
+  inside = λ e h l. absurd (omega arith);
   given = λ k s. rw (z (slotOf slots k));
   is = λ k p. rw (z (slotOf slots k));
 }

@@ -1,7 +1,7 @@
 -- The hash of a key: by its bytes in turn, and the same for a frame that begins with the key; its slot. Assumes nothing.
 use Prim.Native.Nat.{ℕ, zero, suc, _+_, _*_, _%_, _<_, _≤_}
 use mathlib.Core.Path.{_≡_, refl, sym, _∙_}
-use mathlib.Core.Bool.{Bool, true, false, _&&_}
+use mathlib.Core.Bool.{Bool, true, false}
 use mathlib.Core.List.{List, [], _∷_}
 use native.Mathlib.Numerals.{add-one}
 use native.Mathlib.Nat.{mod-lt}
@@ -13,10 +13,10 @@ use borrow.Author.Tests.{lt-ltb, le-ltb, eq-eqb, ne-eqb, le-leb, lt-leb, eqb-tru
 use Rattle.base.specs.Choose.{pick}
 use Rattle.base.proofs.ChooseLaws.{pick-elim}
 use Rattle.base.specs.Table.{all}
-use Rattle.base.proofs.TableLaws.{both-left, both-right}
 use Rattle.kinds.specs.Kinds.{Kind, kinds, kindAt, fixedLength}
 use Rattle.frames.specs.Frames.{kindOf, frameLength}
-use Rattle.kinds.proofs.KindLaws.{held}
+use Rattle.fields.proofs.MatchLaws.{covers}
+use Rattle.kinds.proofs.KindLaws.{held, no-arm}
 use Rattle.frame_keys.specs.Keys.{begins, keyOf}
 use Rattle.indexing.specs.Index.{fewSlots, manySlots, largeIndex, slotsFor, hashes, hashed, mixed, hashOf, slotOf, Slotted, Proper}
 
@@ -153,23 +153,28 @@ counting-least n = go (leb n 6) refl
     go true q = omega arith
     go false q = omega (arith, leb-false n 6 q)
 
--- a kind with a key has three bytes or more, and those that count
+-- a kind with a key has those that count
 long-kind : Kind → Bool
-long-kind r = pick (eqb (r .key) 0) true (leb 3 (fixedLength r) && leb (counting (r .key)) (fixedLength r))
+long-kind r = pick (eqb (r .key) 0) true (leb (counting (r .key)) (fixedLength r))
 
-pub record LongKeyed (f : List ℕ) : Type 0 where
-  pub three : 3 ≤ length f
-  pub counts : hashed (getD f 0 0) ≤ length f
-
-pub keyed-long : (f : List ℕ) → length f ≡ frameLength f → (kindOf f .key ≡ 0 → ⊥) → LongKeyed f
+pub keyed-counts : (f : List ℕ) → length f ≡ frameLength f → (kindOf f .key ≡ 0 → ⊥) → hashed (getD f 0 0) ≤ length f
 unfolding kindAt kinds all long-kind counting
-keyed-long f l n =
-    let n3 = leb 3 (fixedLength (kindOf f)) in
-    let nh = leb (hashed (getD f 0 0)) (fixedLength (kindOf f)) in
-    let t : T (n3 && nh) = rw (ne-eqb (kindOf f .key) 0 n) at (held long-kind kinds (getD f 0 0) tt tt) in
-    let u = leb→le 3 (fixedLength (kindOf f)) (both-left n3 nh t) in
-    let v = leb→le (hashed (getD f 0 0)) (fixedLength (kindOf f)) (both-right n3 nh t) in
-    record { three = omega arith; counts = omega arith }
+keyed-counts f l n =
+    let t : T (leb (hashed (getD f 0 0)) (fixedLength (kindOf f))) = rw (ne-eqb (kindOf f .key) 0 n) at (held long-kind kinds (getD f 0 0) tt tt) in
+    let v = leb→le (hashed (getD f 0 0)) (fixedLength (kindOf f)) t in
+    omega arith
+
+-- and three bytes or more, but for 24, which is one
+short-kind : Kind → ℕ
+short-kind r = pick (eqb (r .key) 0) 0 (pick (leb 3 (fixedLength r)) 0 1)
+
+pub keyed-three : (f : List ℕ) → length f ≡ frameLength f → (kindOf f .key ≡ 0 → ⊥) → eqb (getD f 0 0) 0x24 ≡ false → 3 ≤ length f
+unfolding kinds covers short-kind
+keyed-three f l n e = go (leb 3 (fixedLength (kindOf f))) refl (rw (ne-eqb (kindOf f .key) 0 n) at (no-arm short-kind (λ (b : ℕ). eqb b 0x24) tt (getD f 0 0) e))
+  where
+    go : (t : Bool) → leb 3 (fixedLength (kindOf f)) ≡ t → 0 ≡ pick {A = ℕ} t 0 1 → 3 ≤ length f
+    go true p q = omega (arith, l, leb-true 3 (fixedLength (kindOf f)) p)
+    go false p q = absurd (omega arith)
 
 pub key-slotted : (f : List ℕ) → (kindOf f .key ≡ 0 → ⊥) → hashed (getD f 0 0) ≤ length f → Slotted (keyOf f)
 unfolding counting

@@ -5,12 +5,12 @@ use Prim.Native.Nat.{ℕ, zero, suc, _+_, _*_, _%_, _<_, _≤_}
 use mathlib.Core.Path.{_≡_}
 use mathlib.Core.Bool.{Bool, false}
 use mathlib.Core.List.{List, [], _∷_}
-use lib.ListN.{length, getD, take, set}
+use lib.ListN.{length, getD, take, drop, set}
 use lib.Dec.{leb, ltb, eqb}
 use Rattle.base.specs.Choose.{pick}
 use Rattle.frames.specs.Sheet.{frameAt, framesIn}
 use Rattle.kinds.specs.Kinds.{kindAt}
-use Rattle.frames.specs.Frames.{kindOf}
+use Rattle.frames.specs.Frames.{kindOf, frameLength}
 use Rattle.frame_keys.specs.Keys.{begins, find, isFound, keyOf}
 
 -- few slots or many, and the numbers of the shortest index that has many
@@ -120,6 +120,8 @@ module _ (slots : ℕ) where
   pub record Indexes (x i : List ℕ) (fs : List (List ℕ)) (m : ℕ) : Type 0 where
     pub falling : Falling i
     pub few : (s : ℕ) → s < slots → latest i s ≤ m
+    -- an entered frame ends on the sheet
+    pub inside : (e : ℕ) → 0 < e → e ≤ m → placeOf i e + frameLength (drop (placeOf i e) x) ≤ length x
     pub given : (k : List ℕ) → Slotted k → isFound (found x i k) ≡ isFound (find k fs)
     pub is : (k : List ℕ) → Proper k → found x i k ≡ find k fs
 
@@ -127,3 +129,8 @@ module _ (slots : ℕ) where
 pub record Indexed (x i : List ℕ) : Type 0 where
   pub entries : ℕ
   pub are : Indexes (slotsFor (length i)) x i (framesIn x) entries
+
+-- the frame with the key k of the sheet x is found by the index i
+pub record Finds (x i k : List ℕ) : Type 0 where
+  pub falling : Falling (slotsFor (length i)) i
+  pub is : found (slotsFor (length i)) x i k ≡ find k (framesIn x)

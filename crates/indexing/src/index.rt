@@ -7,7 +7,7 @@ ghost use Rattle.base.specs.Choose.{pick};
 ghost use Rattle.frames.specs.Sheet.{framesIn};
 ghost use Rattle.frames.specs.Frames.{kindOf};
 ghost use Rattle.frame_keys.specs.Keys.{find as findOf};
-ghost use Rattle.indexing.specs.Index.{slotsFor, hashed as hashedOf, hashOf, found, givenBy, noted, entriesWith, Falling, Proper, Indexed, Noting};
+ghost use Rattle.indexing.specs.Index.{slotsFor, hashed as hashedOf, hashOf, found, givenBy, noted, entriesWith, Falling, Proper, Indexed, Finds, Noting};
 use fields::field::wide;
 use frame_keys::keys::begins_at;
 use frames::frame::frame_at;
@@ -123,13 +123,21 @@ fn search<'a, 'b, 'c>(sheet: &'a [u8], index: &'b [u16], key: &'c [u8], hash: us
     &sheet[0..0]
 }
 
+// The frame with that key, where the index finds it.
+pub fn find_where<'a, 'b, 'c>(sheet: &'a [u8], index: &'b [u16], key: &'c [u8]) -> &'a [u8]
+    requires { ⌜ Finds (now sheet) (now index) (now key) ⌝ }
+    ensures { λ r. ⌜ now r ≡ findOf (now (key .entry)) (framesIn (now (sheet .entry))) ⌝ }
+{
+    search(sheet, index, key, hash_of(key))
+}
+
 // The frame with that key, by the sheet's index.
 pub fn find_by<'a, 'b, 'c>(sheet: &'a [u8], index: &'b [u16], key: &'c [u8]) -> &'a [u8]
     requires { ⌜ Proper (now key) ⌝ }
     requires { ⌜ Indexed (now sheet) (now index) ⌝ }
     ensures { λ r. ⌜ now r ≡ findOf (now (key .entry)) (framesIn (now (sheet .entry))) ⌝ }
 {
-    search(sheet, index, key, hash_of(key))
+    find_where(sheet, index, key)
 }
 
 // Whether an entered frame has the key of this one, which is its first k bytes and has that hash.

@@ -4,7 +4,7 @@ ghost use mathlib.Core.List.{map};
 ghost use Prim.Native.Nat.{_+_, _*_, _<_, _≤_};
 ghost use lib.ListN.{length};
 ghost use Rattle.frames.specs.Sheet.{framesIn};
-ghost use Rattle.indexing.specs.Index.{Indexed};
+ghost use Rattle.given.specs.Given.{Given};
 ghost use Rattle.measure.specs.Selectivity.{pathSelectivity};
 ghost use Rattle.query.specs.Statistics.{denominator as denominatorOf};
 ghost use Rattle.cost.specs.Emitters.{decode};
@@ -47,7 +47,7 @@ fn item_probe(x: Item) -> Probe
 
 // The selectivity of an item: by its sample, else as its row has it.
 fn item_selectivity(sheet: &[u8], index: &[u16], row: &[f64], x: Item, drawn: FanOut) -> f64
-    requires { ⌜ Indexed (now sheet) (now index) ⌝ }
+    requires { ⌜ Given (now sheet) (now index) ⌝ }
     requires { ⌜ ItemPriced (framesIn (now sheet)) x (now row) ⌝ }
     ensures { λ r. ⌜ r ≡ pathSelectivity (orFan drawn (itemFan (framesIn (now (sheet .entry))) (x .op) (x .element) (x .position))) (denominatorOf (framesIn (now (sheet .entry))) (x .op)) ⌝ }
 {
@@ -73,7 +73,7 @@ pub fn item_cost(
     requires { ⌜ Samples (framesIn (now sheet)) (c .tallies .how) ⌝ }
     requires { ⌜ Remembers (framesIn (now sheet)) (c .tallies .how) (now keys) (now values) (c .tallies) ⌝ }
     requires { ⌜ length (costBehind (framesIn (now sheet)) (map decode (now em)) (now frame) x (costAt (now keys) c) .tally .memo) ≤ length (now keys) ⌝ }
-    requires { ⌜ Indexed (now sheet) (now index) ⌝ }
+    requires { ⌜ Given (now sheet) (now index) ⌝ }
     requires { ⌜ ItemPriced (framesIn (now sheet)) x (now row) ⌝ }
     ensures { λ r. ⌜ Stands (framesIn (now (sheet .entry))) (c .tallies .how) (now (keys .exit)) (now (values .exit)) r (costBehind (framesIn (now (sheet .entry))) (map decode (now (em .entry))) (now (frame .entry)) x (costAt (now (keys .entry)) c)) ⌝ }
 {

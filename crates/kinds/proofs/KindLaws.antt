@@ -124,28 +124,28 @@ item-known b =
 abbrev pub queryKinds : List ℕ
 queryKinds =
     0x00 ∷ 0x01 ∷ 0x02 ∷ 0x03 ∷ 0x04 ∷ 0x05 ∷ 0x06 ∷ 0x07 ∷ 0x08 ∷ 0x09 ∷ 0x0a ∷ 0x0b ∷ 0x0c ∷ 0x0d ∷ 0x0e
-    ∷ 0x10 ∷ 0x11 ∷ 0x12 ∷ 0x13 ∷ 0x14 ∷ 0x20 ∷ 0x21 ∷ 0x22 ∷ 0x23 ∷ []
+    ∷ 0x10 ∷ 0x11 ∷ 0x12 ∷ 0x13 ∷ 0x14 ∷ 0x20 ∷ 0x21 ∷ 0x22 ∷ 0x23 ∷ 0x24 ∷ []
 
 abbrev pub laterKinds : List ℕ
 laterKinds =
     0x30 ∷ 0x31 ∷ 0x32 ∷ 0x33 ∷ 0x3f ∷ 0x40 ∷ 0x41 ∷ 0x42 ∷ 0x43 ∷ 0x44 ∷ 0x45 ∷ 0x46 ∷ 0x47 ∷ 0x48 ∷ 0x49 ∷ 0x4a ∷ 0x4b ∷ 0x4c ∷ []
 
 abbrev pub keyedKinds : List ℕ
-keyedKinds = 0x10 ∷ 0x11 ∷ 0x12 ∷ 0x13 ∷ 0x14 ∷ 0x20 ∷ 0x21 ∷ 0x22 ∷ 0x23 ∷ 0x30 ∷ 0x31 ∷ 0x32 ∷ 0x33 ∷ []
+keyedKinds = 0x10 ∷ 0x11 ∷ 0x12 ∷ 0x13 ∷ 0x14 ∷ 0x20 ∷ 0x21 ∷ 0x22 ∷ 0x23 ∷ 0x24 ∷ 0x30 ∷ 0x31 ∷ 0x32 ∷ 0x33 ∷ []
 
 -- a kind without an arm has what no kind has
 module _ (g : Kind → ℕ) (named : ℕ → Bool) (all : T (covers named (g noKind) 0 (map g kinds))) where
-  no-arm : (b : ℕ) → named b ≡ false → g noKind ≡ g (kindAt b)
+  pub no-arm : (b : ℕ) → named b ≡ false → g noKind ≡ g (kindAt b)
   unfolding kindAt
   no-arm b e = sym (others named (map g kinds) (g noKind) 0 b all (rw (zero-add b) e)) ∙ List·getD-map g kinds b noKind
 
-pub query-other : (b : ℕ) → b < 0x24 → Others (Unit {0}) queryKinds b → 0x03 ≡ rowOf (kindAt b)
+pub query-other : (b : ℕ) → b < 0x25 → Others (Unit {0}) queryKinds b → 0x03 ≡ rowOf (kindAt b)
 unfolding kinds listed covers
-query-other b h o = no-arm rowOf (λ (k : ℕ). pick (ltb k 0x24) (listed queryKinds k) true) tt b (rw (lt-ltb b 0x24 h) (unlisted queryKinds b o))
+query-other b h o = no-arm rowOf (λ (k : ℕ). pick (ltb k 0x25) (listed queryKinds k) true) tt b (rw (lt-ltb b 0x25 h) (unlisted queryKinds b o))
 
-pub later-other : (b : ℕ) → 0x24 ≤ b → Others (Unit {0}) laterKinds b → 0x03 ≡ rowOf (kindAt b)
+pub later-other : (b : ℕ) → 0x25 ≤ b → Others (Unit {0}) laterKinds b → 0x03 ≡ rowOf (kindAt b)
 unfolding kinds listed covers
-later-other b h o = no-arm rowOf (λ (k : ℕ). pick (ltb k 0x24) true (listed laterKinds k)) tt b (rw (le-ltb b 0x24 h) (unlisted laterKinds b o))
+later-other b h o = no-arm rowOf (λ (k : ℕ). pick (ltb k 0x25) true (listed laterKinds k)) tt b (rw (le-ltb b 0x25 h) (unlisted laterKinds b o))
 
 pub keyless : (b : ℕ) → Others (Unit {0}) keyedKinds b → 0 ≡ kindAt b .key
 unfolding kinds listed covers

@@ -152,6 +152,8 @@ from20 =
     ∷ counted query 5 (short ∷ KeySite ∷ classes ∷ []) Class
     -- 23 class(2) path position op length(4)
     ∷ fixed query 6 (Class ∷ ProbePath ∷ byte ∷ word ∷ [])
+    -- 24 "without fields", "one key" (Note 3)
+    ∷ fixed query 1 []
     ∷ []
 
 -- the table
@@ -205,7 +207,7 @@ gap n = replicate n noKind
 
 -- by number
 unfoldable pub kinds : List Kind
-kinds = from00 ++ gap 1 ++ from10 ++ gap 11 ++ from20 ++ gap 12 ++ from30 ++ gap 11 ++ from3f
+kinds = from00 ++ gap 1 ++ from10 ++ gap 11 ++ from20 ++ gap 11 ++ from30 ++ gap 11 ++ from3f
 
 -- the row of a byte, where it is a kind
 unfoldable pub kindAt : ℕ → Kind

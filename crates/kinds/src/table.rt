@@ -54,7 +54,7 @@ pub fn item_width(kind: u8) -> usize
 // The rest of a kind's row as one number. Its lowest byte: the kind's text, and the tests that look at a field or an item of it (4 for test 4, 8 for
 // test 5, 16 for test 6). Then the codes of its item and its fields.
 fn query_row(kind: u8) -> u64
-    requires { ⌜ kind < 0x24 ⌝ }
+    requires { ⌜ kind < 0x25 ⌝ }
     ensures { λ r. ⌜ r ≡ rowOf (kindAt kind) ⌝ }
 {
     match kind {
@@ -82,12 +82,13 @@ fn query_row(kind: u8) -> u64
         0x21 => 0x00_00_00_00_c0_13_02_0c,
         0x22 => 0x00_00_00_a0_19_02_16_04,
         0x23 => 0x00_00_04_01_1a_16_00_04,
+        0x24 => 0x00_00_00_00_00_00_00_00,
         _ => 0x03,
     }
 }
 
 fn later_row(kind: u8) -> u64
-    requires { ⌜ 0x24 ≤ kind ⌝ }
+    requires { ⌜ 0x25 ≤ kind ⌝ }
     ensures { λ r. ⌜ r ≡ rowOf (kindAt kind) ⌝ }
 {
     match kind {
@@ -113,11 +114,11 @@ fn later_row(kind: u8) -> u64
     }
 }
 
-// Texts other than a query have the kinds from 24 on.
+// Texts other than a query have the kinds from 25 on.
 fn row(kind: u8) -> u64
     ensures { λ r. ⌜ r ≡ rowOf (kindAt kind) ⌝ }
 {
-    if kind < 0x24 {
+    if kind < 0x25 {
         return query_row(kind);
     }
     later_row(kind)
@@ -150,6 +151,7 @@ pub fn key_length(kind: u8) -> u8
         0x21 => 2,
         0x22 => 5,
         0x23 => 6,
+        0x24 => 1,
         0x30 => 255,
         0x31 => 255,
         0x32 => 2,

@@ -129,17 +129,17 @@ module _ (x : List ℕ) (n c : ℕ) (ok : reading Query x ≡ Accepted n c) wher
   pub atom-operands : Each FewOperands (atomsOf x)
   atom-operands = each-few _ (atomsOf x) (query-fits x n c ok 0 0 (omega arith) (omega arith) .atoms)
 
-  -- so the memo has a key for each item of each atom at most
-  pub rounds-memo : (f : ℕ) → length (rounds (framesOf x) (atomsOf x) f .memory .tally .memo) ≤ itemsMost * length (atomsOf x)
-  rounds-memo f = rounds-items (framesOf x) (atomsOf x) f atom-operands
+  -- so the memo has a key for each item of each atom at most, whatever is given beside the atoms
+  pub rounds-memo : (fs : List (List ℕ)) (f : ℕ) → length (rounds fs (atomsOf x) f .memory .tally .memo) ≤ itemsMost * length (atomsOf x)
+  rounds-memo fs f = rounds-items fs (atomsOf x) f atom-operands
 
   -- and the memo and the tallies stay small, whatever the costs, after any number of rounds
-  pub rounds-keys : (f : ℕ) → FewKeys (rounds (framesOf x) (atomsOf x) f .memory .tally)
-  rounds-keys f = rounds-few (framesOf x) (atomsOf x) f (rw (atoms-number x n c ok) (query-within x n c ok .atoms)) atom-operands
+  pub rounds-keys : (fs : List (List ℕ)) (f : ℕ) → FewKeys (rounds fs (atomsOf x) f .memory .tally)
+  rounds-keys fs f = rounds-few fs (atomsOf x) f (rw (atoms-number x n c ok) (query-within x n c ok .atoms)) atom-operands
 
-  pub few-keys : FewKeys (remembered (framesOf x) (atomsOf x) .tally)
+  pub few-keys : (fs : List (List ℕ)) → FewKeys (remembered fs (atomsOf x) .tally)
   unfolding remembered
-  few-keys = rounds-keys (suc (unlowered blank (numbers (atomsOf x))))
+  few-keys fs = rounds-keys fs (suc (unlowered blank (numbers (atomsOf x))))
 
   pub small-settings : (cfg : SamplerConfig) → settings (framesOf x) ≡ On cfg → Small cfg
   unfolding settings

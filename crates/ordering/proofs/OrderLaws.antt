@@ -1,25 +1,28 @@
 -- What an accepted query gives the order: its atoms' frames and places, few items and few keys, small settings. Proved from the reading.
 use Prim.Native.Nat.{ℕ, _*_, _<_, _≤_}
-use mathlib.Core.Path.{_≡_, sym, _∙_}
-use mathlib.Core.List.{List, []}
+use mathlib.Core.Path.{_≡_, refl, sym, _∙_, ap}
+use mathlib.Core.List.{List, [], _∷_, append-nil}
 use native.Mathlib.Omega.{arith}
 use lib.ListN.{length, getD}
 use Rattle.frames.specs.Sheet.{framesIn}
-use Rattle.first_reading.specs.First.{Sheet}
+use Rattle.first_reading.specs.First.{framesOf, Sheet}
 use Rattle.frame_tests.specs.declared.tests.Text.the-variants.{Query}
 use Rattle.first_reading.specs.declared.first.Reading.{Reading}
 use Rattle.first_reading.specs.declared.first.Reading.the-variants.{Accepted}
 use Rattle.fields.specs.Limits.{itemsMost}
-use Rattle.kinds.specs.Kinds.{itemsOf}
+use Rattle.kinds.specs.Kinds.{kindAt, itemsOf}
 use Rattle.frames.specs.Frames.{kindOf}
 use Rattle.second_reading.specs.Second.{reading}
 use Rattle.measure.specs.declared.SamplerConfig.{SamplerConfig}
-use Rattle.query.specs.Statistics.{settings}
+use Rattle.query.specs.Statistics.{sampledOf, settings}
 use Rattle.query.specs.declared.statistics.Sampled.the-variants.{On, Off}
 use Rattle.model.specs.Bound.{boundMost}
 use Rattle.cost.specs.QueryAtoms.{atomFrames}
 use Rattle.cost.specs.Choice.{rounds, remembered}
 use Rattle.cost.specs.Memo.{keysMost}
+use Rattle.given.proofs.KeyLaws.{proper}
+use Rattle.behind.proofs.BehindLaws.{find-behind, frames-of-atoms, atoms-behind}
+use Rattle.plan_facts.specs.QueryPlans.{atomsOf}
 use Rattle.plan_facts.proofs.Remembered.{FewKeys, never, nothing-sampled}
 use Rattle.lowering.specs.AtomLines.{AtomLine}
 use Rattle.passes.specs.Eager.{Located, sheetAtoms}
@@ -33,35 +36,55 @@ use Rattle.ordering.proofs.Accepted.{Small, frames-few, atom-lines, ato
 -- ---- by what the reading says
 
 pub accepts : (x : List ℕ) (v : Reading) → v ≡ reading Query x → (n c : ℕ) → v ≡ Accepted n c → (s : List ℕ) → Sheet x s → Accepts s
-accepts x v is n c e s h = record { text = x; lines = n; atoms = c; is = sym is ∙ e; sheet = h }
+accepts x v is n c e s h = record {
+  text = x;
+  lines = n;
+  atoms = c;
+  is = sym is ∙ e;
+  behind = [];
+  frames = h .frames ∙ sym (append-nil (framesOf x));
+  of-table = tt;
+  header = h .header;
+  size = omega (arith, h .size, h .most);
+}
 
 -- ---- the sheet of an accepted query
 
 module _ (s : List ℕ) (a : Accepts s) where
+  pub sheet-frames : atomFrames (framesIn s) ≡ atomFrames (framesOf (a .text))
+  sheet-frames = rw (a .frames) (frames-of-atoms (framesOf (a .text)) (a .behind) (a .of-table))
+
+  pub sheet-atoms : sheetAtoms s ≡ atomsOf (a .text)
+  sheet-atoms = rw (a .frames) (atoms-behind (framesOf (a .text)) (a .behind) (a .of-table))
+
   pub sheet-few : length (atomFrames (framesIn s)) ≤ boundMost
-  sheet-few = rw (a .sheet .frames) (frames-few (a .text) (a .lines) (a .atoms) (a .is))
+  sheet-few = rw sheet-frames (frames-few (a .text) (a .lines) (a .atoms) (a .is))
 
   -- its places fit two bytes
   pub sheet-short : length s < 65536
-  sheet-short = omega (arith, a .sheet .size, a .sheet .most)
+  sheet-short = a .size
 
   pub sheet-lines : (k : ℕ) → k < length (atomFrames (framesIn s)) → AtomLine (getD (atomFrames (framesIn s)) k [])
-  sheet-lines = rw (a .sheet .frames) (atom-lines (a .text) (a .lines) (a .atoms) (a .is))
+  sheet-lines = rw sheet-frames (atom-lines (a .text) (a .lines) (a .atoms) (a .is))
 
   pub sheet-items : (k : ℕ) → k < length (atomFrames (framesIn s)) → itemsOf (kindOf (getD (atomFrames (framesIn s)) k [])) (getD (atomFrames (framesIn s)) k []) ≤ itemsMost
-  sheet-items = rw (a .sheet .frames) (atom-items (a .text) (a .lines) (a .atoms) (a .is))
+  sheet-items = rw sheet-frames (atom-items (a .text) (a .lines) (a .atoms) (a .is))
 
   pub sheet-memo : (f : ℕ) → length (rounds (framesIn s) (sheetAtoms s) f .memory .tally .memo) ≤ itemsMost * length (sheetAtoms s)
-  sheet-memo = rw (a .sheet .frames) (rounds-memo (a .text) (a .lines) (a .atoms) (a .is))
+  sheet-memo f = rw sheet-atoms (rounds-memo (a .text) (a .lines) (a .atoms) (a .is) (framesIn s) f)
 
   pub sheet-rounds : (f : ℕ) → FewKeys (rounds (framesIn s) (sheetAtoms s) f .memory .tally)
-  sheet-rounds = rw (a .sheet .frames) (rounds-keys (a .text) (a .lines) (a .atoms) (a .is))
+  sheet-rounds f = rw sheet-atoms (rounds-keys (a .text) (a .lines) (a .atoms) (a .is) (framesIn s) f)
 
   pub sheet-keys : FewKeys (remembered (framesIn s) (sheetAtoms s) .tally)
-  sheet-keys = rw (a .sheet .frames) (few-keys (a .text) (a .lines) (a .atoms) (a .is))
+  sheet-keys = rw sheet-atoms (few-keys (a .text) (a .lines) (a .atoms) (a .is) (framesIn s))
+
+  same-settings : settings (framesIn s) ≡ settings (framesOf (a .text))
+  unfolding settings kindAt
+  same-settings = rw (a .frames) (ap sampledOf (find-behind (0x20 ∷ []) (framesOf (a .text)) (a .behind) (proper _ _ refl refl refl) (a .of-table)))
 
   pub sheet-settings : (cfg : SamplerConfig) → settings (framesIn s) ≡ On cfg → Small cfg
-  sheet-settings = rw (a .sheet .frames) (small-settings (a .text) (a .lines) (a .atoms) (a .is))
+  sheet-settings = rw same-settings (small-settings (a .text) (a .lines) (a .atoms) (a .is))
 
 -- ---- the order
 

@@ -3,7 +3,7 @@ ghost use mathlib.Core.Path.{_≡_};
 ghost use Prim.Native.Nat.{suc, _*_, _≤_};
 ghost use lib.ListN.{length};
 ghost use Rattle.frames.specs.Sheet.{framesIn};
-ghost use Rattle.indexing.specs.Index.{Indexed};
+ghost use Rattle.given.specs.Given.{Given};
 ghost use Rattle.cost.specs.Choice.{rounds};
 ghost use Rattle.cost.specs.Memo.{keysMost};
 ghost use Rattle.passes.specs.Eager.{sheetAtoms};
@@ -37,7 +37,7 @@ fn order_by(
     requires { ⌜ Accepts (now sheet) ⌝ }
     requires { ⌜ Places (now sheet) (now from) n ⌝ }
     requires { ⌜ rowSize * n ≤ length (now prices) ⌝ }
-    requires { ⌜ Indexed (now sheet) (now index) ⌝ }
+    requires { ⌜ Given (now sheet) (now index) ⌝ }
     requires { ⌜ Samples (framesIn (now sheet)) how ⌝ }
     requires { ⌜ (length (now values) ≡ length (now keys)) × (length (now keys) ≤ keysMost) ⌝ }
     requires { ⌜ length (rounds (framesIn (now sheet)) (sheetAtoms (now sheet)) (suc last) .memory .tally .memo) ≤ length (now keys) ⌝ }
@@ -85,7 +85,7 @@ fn order_few(
 ) -> Scheduled
     requires { ⌜ Accepts (now sheet) ⌝ }
     requires { ⌜ Places (now sheet) (now from) n ⌝ }
-    requires { ⌜ Indexed (now sheet) (now index) ⌝ }
+    requires { ⌜ Given (now sheet) (now index) ⌝ }
     requires { ⌜ Samples (framesIn (now sheet)) how ⌝ }
     requires { ⌜ (length (now values) ≡ length (now keys)) × (length (now keys) ≤ keysMost) ⌝ }
     requires { ⌜ length (rounds (framesIn (now sheet)) (sheetAtoms (now sheet)) (suc last) .memory .tally .memo) ≤ length (now keys) ⌝ }
@@ -136,7 +136,7 @@ fn order_in(
 ) -> Scheduled
     requires { ⌜ Accepts (now sheet) ⌝ }
     requires { ⌜ Places (now sheet) (now from) n ⌝ }
-    requires { ⌜ Indexed (now sheet) (now index) ⌝ }
+    requires { ⌜ Given (now sheet) (now index) ⌝ }
     requires { ⌜ Samples (framesIn (now sheet)) how ⌝ }
     requires { ⌜ (length (now values) ≡ length (now keys)) × (length (now keys) ≤ keysMost) ⌝ }
     requires { ⌜ length (rounds (framesIn (now sheet)) (sheetAtoms (now sheet)) (suc last) .memory .tally .memo) ≤ length (now keys) ⌝ }
@@ -192,7 +192,7 @@ fn order_sampled(
 ) -> Scheduled
     requires { ⌜ Accepts (now sheet) ⌝ }
     requires { ⌜ Places (now sheet) (now from) n ⌝ }
-    requires { ⌜ Indexed (now sheet) (now index) ⌝ }
+    requires { ⌜ Given (now sheet) (now index) ⌝ }
     requires { ⌜ Samples (framesIn (now sheet)) how ⌝ }
     ensures { λ r. ⌜ Rounded (now (sheet .entry)) last (now (costs .exit)) r ⌝ }
 {
@@ -237,7 +237,7 @@ pub fn find_order(
 ) -> Scheduled
     requires { ⌜ Accepts (now sheet) ⌝ }
     requires { ⌜ Places (now sheet) (now from) n ⌝ }
-    requires { ⌜ Indexed (now sheet) (now index) ⌝ }
+    requires { ⌜ Given (now sheet) (now index) ⌝ }
     ensures { λ r. ⌜ Rounded (now (sheet .entry)) last (now (costs .exit)) r ⌝ }
 {
     let how = settings(sheet, index);
@@ -263,7 +263,7 @@ pub fn find_order(
 pub fn plan_order(sheet: &[u8], index: &[u16], from: &[u16], n: usize) -> Scheduled
     requires { ⌜ Accepts (now sheet) ⌝ }
     requires { ⌜ Places (now sheet) (now from) n ⌝ }
-    requires { ⌜ Indexed (now sheet) (now index) ⌝ }
+    requires { ⌜ Given (now sheet) (now index) ⌝ }
     ensures { λ r. ⌜ Scheduling (now (sheet .entry)) r ⌝ }
 {
     let mut costs = [0u64; 1];

@@ -12,8 +12,9 @@ use Rattle.base.proofs.ChooseLaws.{both-hold}
 use Rattle.frame_tests.specs.Faults.{isAtom}
 use Rattle.first_reading.specs.declared.first.Reading.{Reading}
 use Rattle.first_reading.specs.declared.first.Reading.the-variants.{Accepted}
-use Rattle.reading.proofs.Formed.{or-passes}
+use Rattle.first_reading.proofs.ReadingLaws.{or-passes}
 use Rattle.frame_keys.specs.Keys.{keyGiven}
+use Rattle.second_reading.specs.FromTable.{takesTable}
 use Rattle.second_reading.specs.Second.{secondFault, secondFrom}
 use Rattle.fields.specs.Fields.{width, fieldIn, fieldPasses, operandIn}
 use Rattle.kinds.specs.Kinds.{kinds, kindAt}
@@ -85,7 +86,7 @@ module _ (n : Counts) where
   unfolding secondFault
   passes-range earlier f h = by (framePasses (fieldPasses Range n) f) h
     where
-      by : (t : Bool) → _≡_ {A = ℕ} (pick t (pick (framePasses (fieldPasses Reals n) f) (pick (keyGiven earlier f) 7 0) 6) 5) 0 → t ≡ true
+      by : (t : Bool) → _≡_ {A = ℕ} (pick t (pick (framePasses (fieldPasses Reals n) f) (pick (keyGiven earlier f) 7 (pick (takesTable f) (pick (n .table) 0 13) 0)) 6) 5) 0 → t ≡ true
       by true h = refl
       by false h = absurd (omega arith)
 

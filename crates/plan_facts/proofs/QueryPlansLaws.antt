@@ -53,7 +53,7 @@ atoms-count (f ∷ fs) c = go (isAtom (getD f 0 0)) (atoms-count fs)
     go true r = r (c + 1) ∙ omega arith
     go false r = r c
 
-each-more : (n : Counts) (m : ℕ) → n .atoms ≤ m → (qs : List Atom) → Each (AtomFits n) qs → Each (AtomFits (record { variables = n .variables; globals = n .globals; literals = n .literals; atoms = m; rows = n .rows })) qs
+each-more : (n : Counts) (m : ℕ) → n .atoms ≤ m → (qs : List Atom) → Each (AtomFits n) qs → Each (AtomFits (record { variables = n .variables; globals = n .globals; literals = n .literals; atoms = m; rows = n .rows; table = n .table })) qs
 each-more n m k [] h = tt
 each-more n m k (a ∷ qs) h = (atom-more n m k a (h .0), each-more n m k qs (h .1))
 

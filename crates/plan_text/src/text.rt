@@ -54,7 +54,7 @@ pub fn write_plan(
     requires { ⌜ rejected < 65536 ⌝ }
     ensures { λ r. ⌜ PutsFrames (now (out .entry)) 0 (headerOf (countsIn Query (now (sheet .entry)) 0 .variables) (countsIn Query (now (sheet .entry)) 0 .globals) (countsIn Query (now (sheet .entry)) 0 .literals) steps tallied rejected ∷ map frameOf (stepsAlong (atomOf (sheetAtoms (now (sheet .entry)))) blank (take count (now (order .entry))))) (now (out .exit)) r ⌝ }
 {
-    let counts = counts_of(Text::Query, sheet, 0);
+    let counts = counts_of(true, Text::Query, sheet, 0);
     let at = header(
         out,
         0,

@@ -3,6 +3,7 @@
 -- 2.25, by their bits.
 use Prim.Native.Nat.{ℕ}
 use mathlib.Core.Path.{_≡_, refl}
+use mathlib.Core.Option.{none}
 use mathlib.Core.List.{List, [], _∷_, map, _++_, flatMap}
 use lib.ListN.{replicate}
 use lib.Count.{leadingZeros}
@@ -12,11 +13,11 @@ use Rattle.measure.specs.Selectivity.{pathSelectivity}
 use Rattle.measure.specs.declared.FanOut.the-variants.{Measured}
 use Rattle.hex_lines.specs.Lines.{split}
 use Rattle.fields.specs.Fields.{fieldPasses}
-use Rattle.kinds.specs.Kinds.{kindAt}
+use Rattle.kinds.specs.Kinds.{kindAt, query as queryText}
 use Rattle.frames.specs.Frames.{passAll}
 use Rattle.first_reading.specs.First.{framesOf}
 use Rattle.frame_keys.specs.Keys.{begins, find}
-use Rattle.second_reading.specs.Second.{reading}
+use Rattle.second_reading.specs.Second.{queryReading}
 use Rattle.reading_facts.specs.Ascii.{ascii}
 use Rattle.model.specs.Bound.{put, hasAll, blank}
 use Rattle.model.specs.Tabulate.{tabulate}
@@ -32,7 +33,7 @@ use Rattle.plans.specs.StepFrames.{frameOf}
 use Rattle.plans.specs.PlanText.{textOf, planText}
 use Rattle.fitting.specs.Planner.{Answer, writes, refusal, Result, stepsOf, planOf, plan}
 
--- a query, a lent output, the answer, and the output then
+-- a query without a table beside it, a lent output, the answer, and the output then
 pub record PlanCase : Type 0 where
   pub query : List ℕ
   pub lent : List ℕ
@@ -44,7 +45,7 @@ room n = replicate n 0
 
 -- a query that is refused leaves the output as it was
 abbrev refused : List ℕ → ℕ → ℕ → PlanCase
-refused x k l = record { query = x; lent = room 30; says = refusal k l; leaves = room 30 }
+refused x k l = record { query = x; lent = room 30; says = refusal k queryText l; leaves = room 30 }
 
 unfoldable pub table : List PlanCase
 table =
@@ -55,8 +56,10 @@ table =
     ∷ refused (ascii "00010000\n040001\n") 5 2
     ∷ refused (ascii "00000000\n12bff000000000000000000004\n") 6 2
     ∷ refused (ascii "00000000\n10010000000a\n10010000000a\n") 7 3
+    -- Note 3: frame 24 "without a table"
+    ∷ refused (ascii "00000000\n24\n") 13 2
     -- "`00000000`, output of 20 bytes (21 fit)"
-    ∷ record { query = ascii "00000000\n"; lent = room 20; says = refusal 8 0; leaves = room 20 }
+    ∷ record { query = ascii "00000000\n"; lent = room 20; says = refusal 8 queryText 0; leaves = room 20 }
     ∷ record { query = ascii "00000000\n"; lent = room 21; says = writes 21 0 0 0; leaves = ascii "3f000000000000000000\n" }
     -- the worked plan, with two bytes behind it
     ∷ record {
@@ -75,7 +78,7 @@ table =
     ∷ []
 
 abbrev pub answered : PlanCase → Result
-answered r = plan (r .query) (r .lent)
+answered r = plan (r .query) none (r .lent)
 
 -- numbers that are computed, and what they are
 pub record Mark : Type 0 where
@@ -96,5 +99,5 @@ numbers =
     ∷ []
 
 pub right : (map answered table ≡ map (λ (r : PlanCase). record { answer = r .says; output = r .leaves }) table) × (map (λ (m : Mark). m .bits) numbers ≡ map (λ (m : Mark). m .is) numbers)
-unfolding table plan planOf stepsOf reading framesOf split kindAt passAll fieldPasses planned remembered atomsIn atomOfFrame operandsFrom bytesFrom put hasAll blank tabulate markAll emitReadChildren childLookups lower unlowered eagerPass passesUpTo roundsUpTo atomOf scan cheapest begins find opCard atomCard baseCard denominator byChildPos settings setChildren recordAtom recordEmitters childCosts estimateCost ofInt ofBits lt mul div planText textOf frameOf flatMap numbers wholeRoot leadingZeros toBits
+unfolding table plan planOf stepsOf queryReading framesOf split kindAt passAll fieldPasses planned remembered atomsIn atomOfFrame operandsFrom bytesFrom put hasAll blank tabulate markAll emitReadChildren childLookups lower unlowered eagerPass passesUpTo roundsUpTo atomOf scan cheapest begins find opCard atomCard baseCard denominator byChildPos settings setChildren recordAtom recordEmitters childCosts estimateCost ofInt ofBits lt mul div planText textOf frameOf flatMap numbers wholeRoot leadingZeros toBits
 right = (refl, refl)

@@ -22,7 +22,7 @@ use Rattle.plans.specs.StepFrames.{Byte, OperandFits, LookupFits, FormFi
 
 -- counts with room for more atoms: a plan's are 64
 abbrev pub withAtoms : Counts → ℕ → Counts
-withAtoms n m = record { variables = n .variables; globals = n .globals; literals = n .literals; atoms = m; rows = n .rows }
+withAtoms n m = record { variables = n .variables; globals = n .globals; literals = n .literals; atoms = m; rows = n .rows; table = n .table }
 
 operands-more : (n : Counts) (m : ℕ) (cs : List Operand) → Each (OperandFits n) cs → Each (OperandFits (withAtoms n m)) cs
 operands-more n m [] h = tt

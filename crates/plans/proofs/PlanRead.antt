@@ -1,14 +1,14 @@
 -- The text of a plan whose steps fit is accepted by the reading of plans, and its frames give the steps back: `plan-accepted`, `plan-steps`.
 -- Proved by induction over the steps, each passing both readings.
 use Prim.Native.Nat.{ℕ, suc, _+_, _/_, _%_, _<_, _≤_}
-use mathlib.Core.Path.{_≡_, refl, _∙_}
-use mathlib.Core.Bool.{true, false}
+use mathlib.Core.Path.{_≡_, refl, sym, _∙_}
+use mathlib.Core.Bool.{Bool, true, false, true≢false}
 use mathlib.Core.List.{List, [], _∷_, _++_, map}
 use native.Mathlib.Omega.{arith}
 use native.Mathlib.Nat.{add-zero}
-use lib.ListN.{length, drop, length-map}
+use lib.ListN.{length, getD, drop, length-map}
 use lib.Pow.{areBytes}
-use borrow.Author.Tests.{lt-ltb, le-ltb, le-leb, eq-eqb, ne-eqb}
+use borrow.Author.Tests.{lt-ltb, le-ltb, le-leb, eq-eqb, ne-eqb, eqb-true}
 use Rattle.hex.specs.Digits.{bytesOf, digitsOf}
 use Rattle.fields.specs.Limits.{textMost, variablesMost, globalsMost, literalsMost}
 use Rattle.fields.specs.Fields.{fieldPasses, fieldFits, fieldIn, fieldReal, noCounts}
@@ -21,6 +21,7 @@ use Rattle.frame_tests.specs.declared.tests.Text.the-variants.{Plan}
 use Rattle.first_reading.specs.declared.first.Reading.{Reading}
 use Rattle.first_reading.specs.declared.first.Reading.the-variants.{Accepted}
 use Rattle.frame_keys.specs.Keys.{keyGiven}
+use Rattle.second_reading.specs.FromTable.{takesTable}
 use Rattle.second_reading.specs.Second.{countsOf, secondFault, secondFrom, reading}
 use Rattle.model.specs.Atoms.{Step}
 use Rattle.records.specs.Items.{Each}
@@ -50,9 +51,17 @@ step-line : (n : Counts) → CountsFit n → (s : Step) → StepFits n s → (c 
 unfolding lineFault
 step-line n fit s h c = rw (digits-hex (frameOf s) (omega (arith, step-length s)) (step-bytes n fit s h), line-read (frameOf s) (step-bytes n fit s h)) (step-fault n s h c)
 
+step-takes : (s : Step) → takesTable (frameOf s) ≡ false
+unfolding kindAt kinds
+step-takes s = go (takesTable (frameOf s)) refl
+  where
+    go : (b : Bool) → takesTable (frameOf s) ≡ b → b ≡ false
+    go true p = let e : getD (frameOf s) 0 0 ≡ 0x24 = eqb-true _ _ p in absurd (true≢false (sym (rw e at (step-belongs s))))
+    go false p = refl
+
 step-second : (n : Counts) (s : Step) → StepFits n s → (earlier : List (List ℕ)) → secondFault n earlier (frameOf s) ≡ 0
 unfolding secondFault
-step-second n s h earlier = rw (step-range n s h, step-reals n s, step-keyless earlier s)
+step-second n s h earlier = rw (step-range n s h, step-reals n s, step-keyless earlier s, step-takes s)
 
 -- ---- so do the steps' lines, k lines being passed
 

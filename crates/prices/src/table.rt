@@ -5,7 +5,7 @@ ghost use lib.ListN.{length, take, drop};
 ghost use Rattle.frames.specs.Sheet.{framesIn};
 ghost use Rattle.kinds.specs.Kinds.{itemsOf};
 ghost use Rattle.frames.specs.Frames.{kindOf};
-ghost use Rattle.indexing.specs.Index.{Indexed};
+ghost use Rattle.given.specs.Given.{Given};
 ghost use Rattle.passes.specs.Eager.{Located};
 ghost use Rattle.prices.specs.Items.{itemFan, reprSelectivity};
 ghost use Rattle.prices.specs.Prices.{rowSize, ItemsPriced, AtomPrices, FewItems, Priced};
@@ -39,7 +39,7 @@ pub fn row_of(prices: &[f64], k: usize) -> &[f64]
 
 // The measured fan-out of an item at a position.
 fn item_fan(sheet: &[u8], index: &[u16], g: Items, position: u8) -> FanOut
-    requires { ⌜ Indexed (now sheet) (now index) ⌝ }
+    requires { ⌜ Given (now sheet) (now index) ⌝ }
     ensures { λ r. ⌜ r ≡ itemFan (framesIn (now (sheet .entry))) (g .op) (g .elements) position ⌝ }
 {
     if g.elements {
@@ -52,7 +52,7 @@ fn item_fan(sheet: &[u8], index: &[u16], g: Items, position: u8) -> FanOut
 fn fill_items(sheet: &[u8], index: &[u16], g: Items, row: &mut [f64])
     requires { ⌜ g .count < 256 ⌝ }
     requires { ⌜ g .count + 2 ≤ length (now row) ⌝ }
-    requires { ⌜ Indexed (now sheet) (now index) ⌝ }
+    requires { ⌜ Given (now sheet) (now index) ⌝ }
     ensures { λ _. ⌜ ItemsPriced (framesIn (now (sheet .entry))) g (g .count) (now (row .entry)) (now (row .exit)) ⌝ }
 {
     let denom = denominator(sheet, index, g.op);
@@ -69,7 +69,7 @@ fn fill_items(sheet: &[u8], index: &[u16], g: Items, row: &mut [f64])
 fn fill_row(sheet: &[u8], index: &[u16], frame: &[u8], k: u8, repr: f64, row: &mut [f64])
     requires { ⌜ repr ≡ reprSelectivity (framesIn (now sheet)) ⌝ }
     requires { ⌜ itemsOf (kindOf (now frame)) (now frame) + 2 ≤ length (now row) ⌝ }
-    requires { ⌜ Indexed (now sheet) (now index) ⌝ }
+    requires { ⌜ Given (now sheet) (now index) ⌝ }
     ensures { λ _. ⌜ AtomPrices (framesIn (now (sheet .entry))) (now (frame .entry)) k (now (row .exit)) ⌝ }
 {
     let g = items_at(frame);
@@ -84,7 +84,7 @@ pub fn fill_prices(sheet: &[u8], index: &[u16], from: &[u16], n: usize, prices: 
     requires { ⌜ Located (now sheet) (now from) n ⌝ }
     requires { ⌜ FewItems (now sheet) (now from) n ⌝ }
     requires { ⌜ rowSize * n ≤ length (now prices) ⌝ }
-    requires { ⌜ Indexed (now sheet) (now index) ⌝ }
+    requires { ⌜ Given (now sheet) (now index) ⌝ }
     ensures { λ _. ⌜ Priced (now (sheet .entry)) (now (from .entry)) n (now (prices .exit)) ⌝ }
 {
     let repr = path_selectivity(FanOut::Measured(by_repr(sheet, index)), nodes(sheet, index));

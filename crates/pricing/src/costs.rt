@@ -4,7 +4,7 @@ ghost use mathlib.Core.List.{map};
 ghost use Prim.Native.Nat.{_≤_};
 ghost use lib.ListN.{length};
 ghost use Rattle.frames.specs.Sheet.{framesIn};
-ghost use Rattle.indexing.specs.Index.{Indexed};
+ghost use Rattle.given.specs.Given.{Given};
 ghost use Rattle.cost.specs.Costs.{estimateCost};
 ghost use Rattle.cost.specs.Emitters.{decode};
 ghost use Rattle.cost.specs.Memo.{tallyAt};
@@ -48,7 +48,7 @@ pub fn estimate_cost(
     requires { ⌜ Samples (framesIn (now sheet)) (s .how) ⌝ }
     requires { ⌜ Remembers (framesIn (now sheet)) (s .how) (now keys) (now values) s ⌝ }
     requires { ⌜ length (estimateCost (framesIn (now sheet)) (map decode (now em)) (now bound) k (atomOfFrame (now frame)) (tallyAt (now keys) s) .tally .memo) ≤ length (now keys) ⌝ }
-    requires { ⌜ Indexed (now sheet) (now index) ⌝ }
+    requires { ⌜ Given (now sheet) (now index) ⌝ }
     requires { ⌜ AtomPrices (framesIn (now sheet)) (now frame) k (now row) ⌝ }
     ensures { λ r. ⌜ Stands (framesIn (now (sheet .entry))) (s .how) (now (keys .exit)) (now (values .exit)) r (estimateCost (framesIn (now (sheet .entry))) (map decode (now (em .entry))) (now (bound .entry)) k (atomOfFrame (now (frame .entry))) (tallyAt (now (keys .entry)) s)) ⌝ }
 {

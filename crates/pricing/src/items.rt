@@ -3,7 +3,7 @@ ghost use mathlib.Core.List.{map};
 ghost use Prim.Native.Nat.{_+_, _<_, _≤_};
 ghost use lib.ListN.{length};
 ghost use Rattle.frames.specs.Sheet.{framesIn};
-ghost use Rattle.indexing.specs.Index.{Indexed};
+ghost use Rattle.given.specs.Given.{Given};
 ghost use Rattle.cost.specs.Emitters.{decode};
 ghost use Rattle.samples.specs.Remembering.{Samples, Remembers};
 ghost use Rattle.prices.specs.Prices.{RowItems};
@@ -28,7 +28,7 @@ pub fn item_costs(
     requires { ⌜ Samples (framesIn (now sheet)) (start .tallies .how) ⌝ }
     requires { ⌜ Remembers (framesIn (now sheet)) (start .tallies .how) (now keys) (now values) (start .tallies) ⌝ }
     requires { ⌜ length (frameCosts (framesIn (now sheet)) (map decode (now em)) (now bound) (now frame) (costAt (now keys) start) .tally .memo) ≤ length (now keys) ⌝ }
-    requires { ⌜ Indexed (now sheet) (now index) ⌝ }
+    requires { ⌜ Given (now sheet) (now index) ⌝ }
     requires { ⌜ RowItems (framesIn (now sheet)) (now frame) (now row) ⌝ }
     ensures { λ r. ⌜ Stands (framesIn (now (sheet .entry))) (start .tallies .how) (now (keys .exit)) (now (values .exit)) r (frameCosts (framesIn (now (sheet .entry))) (map decode (now (em .entry))) (now (bound .entry)) (now (frame .entry)) (costAt (now (keys .entry)) start)) ⌝ }
 {

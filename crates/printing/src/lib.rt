@@ -9,7 +9,7 @@ use fitting::fit::Planned;
 // Room for a text: one byte more than it may have, so that a longer text is seen to be too long.
 pub const TEXT_ROOM: usize = 65537;
 
-// A refused query: the line ff number line(2).
+// A refused query, or table beside it: the line ff number line(2).
 pub fn print_refusal(number: u8, line: usize) {
     let out = refusal_line(number, line);
     io::write_all(1, &out);
@@ -25,7 +25,7 @@ pub fn print_written(out: &[u8], n: usize) {
 pub fn print_planned(answer: Planned, out: &[u8]) {
     match answer {
         Planned::Written(size, _, _, _) => print_written(out, size),
-        Planned::Refused(number, line) => print_refusal(number, line),
+        Planned::Refused(number, _, line) => print_refusal(number, line),
     }
 }
 

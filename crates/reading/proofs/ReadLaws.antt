@@ -5,13 +5,12 @@ use mathlib.Core.List.{List}
 use lib.ListN.{length, take}
 use lib.Seq.{length-take-le}
 use Rattle.first_reading.specs.First.{sheetSize, Sheet}
-use Rattle.frame_tests.specs.declared.tests.Text.{Text}
 use Rattle.first_reading.specs.declared.first.Reading.{Reading}
 use Rattle.first_reading.specs.declared.first.Reading.the-variants.{Accepted}
 use Rattle.indexing.specs.Index.{Indexed}
 use Rattle.reading.specs.IndexedReading.{ReadIndexed}
 
-module _ (t : Text) (x s i : List ℕ) (r : Reading) (p : ReadIndexed t x s i r) (n c : ℕ) (e : r ≡ Accepted n c) (z : ℕ) (u : z ≡ sheetSize (length x) n) where
+module _ (w : Reading) (x s i : List ℕ) (r : Reading) (p : ReadIndexed w x s i r) (n c : ℕ) (e : r ≡ Accepted n c) (z : ℕ) (u : z ≡ sheetSize (length x) n) where
   pub read-within : z ≤ length s
   read-within = rw u (p .fits n c e)
 

@@ -22,6 +22,7 @@ use Rattle.frame_tests.specs.declared.tests.Text.the-variants.{Query, Plan, Tab
 use Rattle.first_reading.specs.declared.first.Reading.{Reading}
 use Rattle.first_reading.specs.declared.first.Reading.the-variants.{Accepted}
 use Rattle.frame_keys.specs.Keys.{begins, find, isFound, keyOf, keyGiven}
+use Rattle.second_reading.specs.FromTable.{takesTable}
 use Rattle.second_reading.specs.Second.{countsOf, secondFrom, reading}
 use Rattle.reading_facts.proofs.Whole.{Formed, Named, countFrom, Whole, frames-length}
 
@@ -75,13 +76,18 @@ key-fresh es g h = go (eqb (kindOf g .key) 0) refl
     go true q = refl
     go false q = rw (find-none (keyOf g) es (h (eqb-false (kindOf g .key) 0 q)))
 
-second-accepted : (n : Counts) (es : List (List ℕ)) (k : ℕ) (fs : List (List ℕ)) (a : Reading) → ((i : ℕ) → i < length fs → Named n (getD fs i [])) → ((i : ℕ) → i < length fs → keyGiven (es ++ take i fs) (getD fs i []) ≡ false) → secondFrom n es k fs a ≡ a
+-- with a table to take samples from, test 13 passes
+any-passes : (a b : Bool) → b ≡ true → pick {A = ℕ} a (pick b 0 13) 0 ≡ 0
+any-passes true b t = rw t
+any-passes false b t = refl
+
+second-accepted : (n : Counts) → n .table ≡ true → (es : List (List ℕ)) (k : ℕ) (fs : List (List ℕ)) (a : Reading) → ((i : ℕ) → i < length fs → Named n (getD fs i [])) → ((i : ℕ) → i < length fs → keyGiven (es ++ take i fs) (getD fs i []) ≡ false) → secondFrom n es k fs a ≡ a
 unfolding secondFrom
-second-accepted n es k [] a h f = refl
-second-accepted n es k (g ∷ fs) a h f =
+second-accepted n t es k [] a h f = refl
+second-accepted n t es k (g ∷ fs) a h f =
     let b : keyGiven es g ≡ false = rw (append-nil es) at (f zero (omega arith)) in
-    rw (h zero (omega arith) .range, h zero (omega arith) .reals, b)
-    (second-accepted n (es ++ g ∷ []) (suc k) fs a (λ i q. h (suc i) (omega arith)) (λ i q. rw (append-assoc es (g ∷ []) (take i fs)) (f (suc i) (omega arith))))
+    rw (h zero (omega arith) .range, h zero (omega arith) .reals, b, any-passes (takesTable g) (n .table) t)
+    (second-accepted n t (es ++ g ∷ []) (suc k) fs a (λ i q. h (suc i) (omega arith)) (λ i q. rw (append-assoc es (g ∷ []) (take i fs)) (f (suc i) (omega arith))))
 
 -- ---- the whole
 
@@ -111,8 +117,13 @@ pub whole-accepted : (t : Text) (x : List ℕ) (n c : ℕ) → Whole t x n c →
 unfolding reading
 whole-accepted t x n c w =
     rw (short t x n c w)
-    (second-accepted (countsOf t x c) [] 0 (framesOf x) (Accepted n c) (λ i q. w .named i (omega (arith, w .lines))) fresh)
+    (second-accepted (countsOf t x c) (counts-table t) [] 0 (framesOf x) (Accepted n c) (λ i q. w .named i (omega (arith, w .lines))) fresh)
   where
+    counts-table : (t : Text) → countsOf t x c .table ≡ true
+    counts-table Query = refl
+    counts-table Plan = refl
+    counts-table Table = refl
+
     fresh : (i : ℕ) → i < length (framesOf x) → keyGiven (take i (framesOf x)) (getD (framesOf x) i []) ≡ false
     fresh i q = key-fresh (take i (framesOf x)) (getD (framesOf x) i []) before
       where

@@ -18,7 +18,8 @@ use Rattle.frame_tests.specs.declared.tests.Text.{Text}
 use Rattle.frame_tests.specs.declared.tests.Text.the-variants.{Query, Plan, Table}
 use Rattle.first_reading.specs.declared.first.Reading.{Reading}
 use Rattle.first_reading.specs.declared.first.Reading.the-variants.{Accepted, Refused}
-use Rattle.second_reading.specs.Second.{countsOf, secondFault, secondFrom, second, reading}
+use Rattle.second_reading.specs.FromTable.{tableFor}
+use Rattle.second_reading.specs.Second.{countsBy, secondFault, secondFrom, second, readingBy, reading, queryReading}
 use Rattle.reading_facts.proofs.AnswersLaws.{too-long, empty-query, empty-plan, empty-table}
 use Rattle.reading_facts.proofs.Whole.{accepted}
 
@@ -76,41 +77,49 @@ module _ (w m : ℕ) where
   second-low n es k [] a i h = h
   second-low n es k (f ∷ fs) a i h = or-low w m (secondFault n es f) k _ (omega arith) (λ _. second-low n _ (suc k) fs a (omega arith) h)
 
-  both-low : (t : Text) (x : List ℕ) (a : Reading) → m ≡ length (framesOf x) → Low w m a → Low w m (second t x a)
+  both-low : (b : Bool) (t : Text) (x : List ℕ) (a : Reading) → m ≡ length (framesOf x) → Low w m a → Low w m (second b t x a)
   unfolding Low
-  both-low t x (Accepted n c) e h = second-low (countsOf t x c) [] 0 (framesOf x) (Accepted n c) (omega arith) h
-  both-low t x (Refused k l) e h = h
+  both-low b t x (Accepted n c) e h = second-low (countsBy b t x c) [] 0 (framesOf x) (Accepted n c) (omega arith) h
+  both-low b t x (Refused k l) e h = h
 
-reading-low : (t : Text) (x : List ℕ) → 1 ≤ length x → length x ≤ textMost → Low (length x) (length (framesOf x)) (reading t x)
-unfolding reading framesOf
-reading-low t x h i =
+reading-low : (b : Bool) (t : Text) (x : List ℕ) → 1 ≤ length x → length x ≤ textMost → Low (length x) (length (framesOf x)) (readingBy b t x)
+unfolding readingBy framesOf
+reading-low b t x h i =
     let w = length x in
     let m = length (framesOf x) in
     let e : m ≡ 0 + length (split x .ended) = omega (arith, length-map (split x .ended) bytesOf) in
     rw (le-ltb textMost (length x) i, ne-eqb (length x) 0 (λ z. omega arith))
-    (both-low w m t x (stepsRight t x (firstFrom t 0 0 x)) refl (steps-low w m t x (firstFrom t 0 0 x) (first-low w m t 0 0 (split x .ended) (split x .rest) (omega (arith, split-weight x)) e)))
+    (both-low w m b t x (stepsRight t x (firstFrom t 0 0 x)) refl (steps-low w m t x (firstFrom t 0 0 x) (first-low w m t 0 0 (split x .ended) (split x .rest) (omega (arith, split-weight x)) e)))
 
-pub few-lines : (t : Text) (x : List ℕ) (k l : ℕ) → reading t x ≡ Refused k l → l ≤ 32769
+few-by : (b : Bool) (t : Text) (x : List ℕ) (k l : ℕ) → readingBy b t x ≡ Refused k l → l ≤ 32769
 unfolding Low
-few-lines t x k l p = go (ltb textMost (length x)) refl
+few-by b t x k l p = go (ltb textMost (length x)) refl
   where
-    long : (t : Text) (y : List ℕ) → 1 ≤ length y → length y ≤ textMost → reading t y ≡ Refused k l → l ≤ 32769
-    long t y g h q = let z : Low (length y) (length (framesOf y)) (Refused k l) = rw q at (reading-low t y g h) in omega (arith, z)
+    long : (t : Text) (y : List ℕ) → 1 ≤ length y → length y ≤ textMost → readingBy b t y ≡ Refused k l → l ≤ 32769
+    long t y g h q = let z : Low (length y) (length (framesOf y)) (Refused k l) = rw q at (reading-low b t y g h) in omega (arith, z)
 
-    short : (t : Text) (y : List ℕ) → length y ≤ textMost → reading t y ≡ Refused k l → l ≤ 32769
-    short Query [] h q = let z : 0 ≡ l = cc empty-query in omega arith
-    short Plan [] h q = let z : 0 ≡ l = cc empty-plan in omega arith
-    short Table [] h q = let z : _≡_ {A = ℕ} 0 1 = cc empty-table in absurd (omega arith)
-    short t (b ∷ y) h q = long t (b ∷ y) (omega arith) h q
+    short : (t : Text) (y : List ℕ) → length y ≤ textMost → readingBy b t y ≡ Refused k l → l ≤ 32769
+    short Query [] h q = let z : 0 ≡ l = cc (empty-query b) in omega arith
+    short Plan [] h q = let z : 0 ≡ l = cc (empty-plan b) in omega arith
+    short Table [] h q = let z : _≡_ {A = ℕ} 0 1 = cc (empty-table b) in absurd (omega arith)
+    short t (d ∷ y) h q = long t (d ∷ y) (omega arith) h q
 
     go : (a : Bool) → ltb textMost (length x) ≡ a → l ≤ 32769
-    go true q = let z : 0 ≡ l = cc (too-long t x (ltb-true textMost (length x) q)) in omega arith
+    go true q = let z : 0 ≡ l = cc (too-long b t x (ltb-true textMost (length x) q)) in omega arith
     go false q = short t x (ltb-false textMost (length x) q) p
 
+pub few-lines : (t : Text) (x : List ℕ) (k l : ℕ) → reading t x ≡ Refused k l → l ≤ 32769
+unfolding reading
+few-lines t x k l p = few-by true t x k l p
+
+pub query-few-lines : (h : Bool) (x : List ℕ) (k l : ℕ) → queryReading h x ≡ Refused k l → l ≤ 32769
+unfolding queryReading
+query-few-lines h x k l p = few-by (tableFor h (framesOf x)) Query x k l p
+
 pub few-frames : (t : Text) (x : List ℕ) (n c : ℕ) → reading t x ≡ Accepted n c → length (framesOf x) ≤ 32768
-unfolding Low framesOf split
+unfolding reading Low framesOf split
 few-frames t x n c p = by x (accepted t x n c p .size) p
   where
     by : (y : List ℕ) → length y ≤ textMost → reading t y ≡ Accepted n c → length (framesOf y) ≤ 32768
     by [] h q = omega arith
-    by (b ∷ y) h q = let z : Low (length (b ∷ y)) (length (framesOf (b ∷ y))) (Accepted n c) = rw q at (reading-low t (b ∷ y) (omega arith) h) in omega (arith, z)
+    by (b ∷ y) h q = let z : Low (length (b ∷ y)) (length (framesOf (b ∷ y))) (Accepted n c) = rw q at (reading-low true t (b ∷ y) (omega arith) h) in omega (arith, z)

@@ -1,7 +1,7 @@
 -- "Either letter case is read": a text in lower case gets the same answer. Assumes nothing.
 use Prim.Native.Nat.{ℕ, zero, suc}
 use mathlib.Core.Path.{_≡_, refl, ap}
-use mathlib.Core.Bool.{Bool}
+use mathlib.Core.Bool.{Bool, true}
 use mathlib.Core.List.{List, [], _∷_, map}
 use lib.ListN.{getD, take}
 use lib.Dec.{eqb}
@@ -14,7 +14,8 @@ use Rattle.frame_tests.specs.declared.tests.Text.{Text}
 use Rattle.frame_tests.specs.declared.tests.Text.the-variants.{Query, Plan, Table}
 use Rattle.first_reading.specs.declared.first.Reading.{Reading}
 use Rattle.first_reading.specs.declared.first.Reading.the-variants.{Accepted, Refused}
-use Rattle.second_reading.specs.Second.{countsOf, second, reading}
+use Rattle.second_reading.specs.FromTable.{tableFor}
+use Rattle.second_reading.specs.Second.{countsBy, second, readingBy, reading, queryReading}
 
 line-lower : (t : Text) (first : Bool) (c : ℕ) (l : List ℕ) → lineFault t first c (lower l) ≡ lineFault t first c l
 unfolding lineFault
@@ -60,15 +61,24 @@ pub frames-lower : (x : List ℕ) → framesOf (lower x) ≡ framesOf x
 unfolding framesOf
 frames-lower x = rw (split-lower x) (lines-bytes-lower (split x .ended))
 
-counts-lower : (t : Text) (x : List ℕ) (c : ℕ) → countsOf t (lower x) c ≡ countsOf t x c
-counts-lower Query x c = rw (first-line-lower x)
-counts-lower Plan x c = rw (first-line-lower x)
-counts-lower Table x c = refl
+module _ (b : Bool) where
+  counts-lower : (t : Text) (x : List ℕ) (c : ℕ) → countsBy b t (lower x) c ≡ countsBy b t x c
+  counts-lower Query x c = rw (first-line-lower x)
+  counts-lower Plan x c = rw (first-line-lower x)
+  counts-lower Table x c = refl
 
-second-lower : (t : Text) (x : List ℕ) (a : Reading) → second t (lower x) a ≡ second t x a
-second-lower t x (Accepted n c) = rw (counts-lower t x c, frames-lower x)
-second-lower t x (Refused k l) = refl
+  second-lower : (t : Text) (x : List ℕ) (a : Reading) → second b t (lower x) a ≡ second b t x a
+  second-lower t x (Accepted n c) = rw (counts-lower t x c, frames-lower x)
+  second-lower t x (Refused k l) = refl
+
+  by-lower : (t : Text) (x : List ℕ) → readingBy b t (lower x) ≡ readingBy b t x
+  unfolding readingBy
+  by-lower t x = rw (first-lower t x) (second-lower t x (firstReading t x))
 
 pub reading-lower : (t : Text) (x : List ℕ) → reading t (lower x) ≡ reading t x
 unfolding reading
-reading-lower t x = rw (first-lower t x) (second-lower t x (firstReading t x))
+reading-lower t x = by-lower true t x
+
+pub query-lower : (h : Bool) (x : List ℕ) → queryReading h (lower x) ≡ queryReading h x
+unfolding queryReading
+query-lower h x = rw (frames-lower x) (by-lower (tableFor h (framesOf x)) Query x)

@@ -31,7 +31,8 @@ use Rattle.first_reading.specs.declared.first.Reading.{Reading}
 use Rattle.first_reading.specs.declared.first.Reading.the-variants.{Accepted, Refused}
 use Rattle.frame_keys.specs.Keys.{begins, find, isFound, keyOf, keyGiven}
 pub use Rattle.reading.proofs.Formed.{Formed, countFrom}
-use Rattle.reading.proofs.Formed.{passes, or-passes, Passed, lines-pass, lines-hex, First, first-accepted}
+use Rattle.first_reading.proofs.ReadingLaws.{or-passes}
+use Rattle.reading.proofs.Formed.{passes, Passed, lines-pass, lines-hex, First, first-accepted}
 use Rattle.second_reading.specs.Second.{countsOf, secondFault, secondFrom, second, reading}
 
 -- ---- what is said of an accepted text
@@ -76,7 +77,7 @@ unfolding secondFault
 no-second n es f p =
     let a = passes (framePasses (fieldPasses Range n) f) _ 4 p in
     let b = passes (framePasses (fieldPasses Reals n) f) _ 5 (a .1) in
-    let d = spares (keyGiven es f) 0 6 (b .1) in
+    let d = spares (keyGiven es f) _ 6 (b .1) in
     record { named = record { range = a .0; reals = b .0 }; fresh = d .0 }
 
 tested-more : (n : Counts) (es : List (List ℕ)) (f : List ℕ) (fs : List (List ℕ)) (a : Reading) (m c : ℕ) → Fresh n es f → Tested n (es ++ f ∷ []) fs a m c → Tested n es (f ∷ fs) a m c
@@ -198,7 +199,7 @@ accepted t x n c p = go (firstReading t x) refl p
         let g : Tested (countsOf t x c) [] (framesOf x) (Accepted n c) n c = rw (y, z) at s in
         both t x n c f (lines-pass t 0 0 (split x .ended) (split x .rest) n c (f .lines)) g
 
-    go : (a : Reading) → firstReading t x ≡ a → second t x a ≡ Accepted n c → Whole t x n c
+    go : (a : Reading) → firstReading t x ≡ a → second true t x a ≡ Accepted n c → Whole t x n c
     go (Accepted m e) q r = made m e q (second-passes (countsOf t x e) [] 0 (framesOf x) (Accepted m e) n c r)
     go (Refused k l) q r = let z : _≡_ {A = ℕ} 0 1 = cc in absurd (omega arith)
 

@@ -2,6 +2,7 @@
 -- Each is computed. Assumes nothing.
 use Prim.Native.Nat.{ℕ}
 use mathlib.Core.Path.{_≡_, refl}
+use mathlib.Core.Bool.{Bool, true, false}
 use mathlib.Core.List.{List, [], _∷_, _++_, map}
 use Rattle.hex_lines.specs.Lines.{split}
 use Rattle.fields.specs.Fields.{fieldPasses}
@@ -11,7 +12,8 @@ use Rattle.frame_tests.specs.declared.tests.Text.{Text}
 use Rattle.frame_tests.specs.declared.tests.Text.the-variants.{Query, Plan, Table}
 use Rattle.first_reading.specs.declared.first.Reading.{Reading}
 use Rattle.first_reading.specs.declared.first.Reading.the-variants.{Accepted, Refused}
-use Rattle.second_reading.specs.Second.{reading}
+use Rattle.second_reading.specs.FromTable.{hasSheets}
+use Rattle.second_reading.specs.Second.{reading, queryReading}
 use Rattle.reading_facts.specs.Answers.{numberOf}
 use Rattle.reading_facts.specs.Ascii.{ascii, times}
 
@@ -119,6 +121,9 @@ points =
     ∷ record { of = Table; bytes = ascii "3000010a00\n3000010b00\n3000010A00\n"; says = Refused 7 3 }
     ∷ record { of = Table; bytes = ascii "3000010200\n30000202010001\n"; says = Accepted 2 2 }
     ∷ record { of = Table; bytes = ascii "30ffff0200\n"; says = Refused 4 1 }
+    -- Note 3: frame 24 is a query's
+    ∷ record { of = Plan; bytes = ascii "3f000000000100000000\n24\n"; says = Refused 2 2 }
+    ∷ record { of = Table; bytes = ascii "24\n"; says = Refused 2 1 }
     ∷ []
 
 pub examples : map (λ (r : ReadingCase). reading (r .of) (r .bytes)) (refusals ++ points) ≡ map (λ (r : ReadingCase). r .says) (refusals ++ points)
@@ -129,3 +134,39 @@ examples = refl
 pub each-occurs : map (λ (r : ReadingCase). numberOf Query (reading Query (r .bytes))) refusals ≡ 1 ∷ 2 ∷ 3 ∷ 4 ∷ 5 ∷ 6 ∷ 7 ∷ []
 unfolding refusals reading split kindAt passAll fieldPasses
 each-occurs = refl
+
+-- ---- Note 3: a query, whether a table is handed in beside it, and the answer
+
+pub record QueryCase : Type 0 where
+  pub bytes : List ℕ
+  pub handed : Bool
+  pub says : Reading
+
+unfoldable pub tables : List QueryCase
+tables =
+    -- frame 24 with a table and without one; without frame 24 none is asked for
+    record { bytes = ascii "00000000\n24\n"; handed = true; says = Accepted 2 0 }
+    ∷ record { bytes = ascii "00000000\n24\n"; handed = false; says = Refused 13 2 }
+    ∷ record { bytes = ascii "00000000\n"; handed = false; says = Accepted 1 0 }
+    -- beside a sample sheet, at frame 24 wherever the sheet stands
+    ∷ record { bytes = ascii "00010000\n01000100\n24\n2100010005\n"; handed = true; says = Refused 13 3 }
+    ∷ record { bytes = ascii "00010000\n01000100\n2100010005\n24\n"; handed = true; says = Refused 13 4 }
+    ∷ record { bytes = ascii "00000000\n220000000000\n24\n"; handed = true; says = Refused 13 3 }
+    ∷ record { bytes = ascii "00000000\n24\n23fffe00000100000000\n"; handed = true; says = Refused 13 2 }
+    -- the settings of frame 20 are no sheet
+    ∷ record { bytes = ascii "00000000\n200000008000000000000000\n24\n"; handed = true; says = Accepted 3 0 }
+    -- twice: 13 at the first, or 7 at the second
+    ∷ record { bytes = ascii "00000000\n24\n24\n"; handed = false; says = Refused 13 2 }
+    ∷ record { bytes = ascii "00000000\n24\n24\n"; handed = true; says = Refused 7 3 }
+    -- line by line with 5, 6, 7
+    ∷ record { bytes = ascii "00000000\n24\n040000\n"; handed = false; says = Refused 13 2 }
+    ∷ record { bytes = ascii "00000000\n24\n040000\n"; handed = true; says = Refused 5 3 }
+    ∷ record { bytes = ascii "00000000\n040000\n24\n"; handed = false; says = Refused 5 2 }
+    -- it has no fields, and does not come first
+    ∷ record { bytes = ascii "00000000\n2400\n"; handed = true; says = Refused 3 2 }
+    ∷ record { bytes = ascii "24\n"; handed = true; says = Refused 2 1 }
+    ∷ []
+
+pub table-examples : map (λ (r : QueryCase). queryReading (r .handed) (r .bytes)) tables ≡ map (λ (r : QueryCase). r .says) tables
+unfolding tables queryReading hasSheets split kindAt passAll fieldPasses
+table-examples = refl

@@ -1,1 +1,3 @@
 pub mod ItemsLaws
+pub mod CopyLaws
+pub mod RowLaws

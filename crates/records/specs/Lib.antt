@@ -1,4 +1,5 @@
 pub mod Items
+pub mod Shorts
 pub mod Rows
 pub mod Lookups
 pub mod Examples

@@ -1,1 +1,3 @@
-// How frames of a table and of a plan are read, rows and lookups: definitions in specs/, on which plans and runs both stand, and their laws in proofs/.
+// How frames of a table and of a plan are read, rows and lookups: definitions in specs/, on which plans and runs both stand, their laws in proofs/,
+// and the copy of a frame's numbers into an array.
+pub mod shorts;

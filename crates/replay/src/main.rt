@@ -1,7 +1,8 @@
 // Replays cases. A case is a line of standard input: two digits say what it is, and two more stand for each byte of its text. 00 a query, 01 a
 // plan, 02 a table to be read: the answer is `accepted` with lines and those counted, or `refused` with number and line. 03 a query to be
 // planned: the answer is the plan, or the line ff number line(2). 04 a run: allowance(8) room(4) length(4), a plan of that length and a table; 05 a
-// run that names an atom: allowance(8) atom(8), the rest as before. The answer is what the program `run` prints, how many bytes behind the match
+// run that names an atom: allowance(8) atom(8), the rest as before; 06 a query with a table beside it: length(4), a query of that length and a
+// table, answered as 03 is. The answer of a run is what the program `run` prints, how many bytes behind the match
 // lines kept their value, and what the second entry answers as one number, with the line of its match.
 ghost use mathlib.Core.Path.{_≡_};
 ghost use Prim.Native.Nat.{_+_, _≤_};
@@ -12,6 +13,7 @@ use exports::some::rimdovek_some_match;
 use first_reading::first::Reading;
 use fitting::fit::PLAN_MOST;
 use frame_tests::tests::Text;
+use gathering::beside::Beside;
 use planner::entry::plan;
 use printing::print_planned;
 use printing::print_run;
@@ -58,10 +60,26 @@ fn decode(line: &[u8], text: &mut [u8]) -> usize
     i
 }
 
-fn plan_case(text: &[u8]) {
+fn plan_case(text: &[u8], beside: Beside, table: &[u8]) {
     let mut out = [0u8; PLAN_MOST];
-    let answer = plan(text, &mut out);
+    let answer = plan(text, beside, table, &mut out);
     print_planned(answer, &out);
+}
+
+// A query with a table beside it: length(4), the query of that length, and the table.
+fn plan_beside(case: &[u8], text: &mut [u8], other: &mut [u8]) {
+    let mut number = [0u8; 4];
+    let _ = decode(case, &mut number);
+    let cut = 8 + 2 * (hex::word_at(&number, 0) as usize);
+    if case.len() < cut {
+        return;
+    }
+    if cut < 8 {
+        return;
+    }
+    let n = decode(&case[8..cut], text);
+    let m = decode(&case[cut..], other);
+    plan_case(&text[..n], Beside::Table, &other[..m]);
 }
 
 // Room that no line writes: each byte is aa.
@@ -151,6 +169,14 @@ fn run_numbers(kind: u8, case: &[u8], text: &mut [u8], other: &mut [u8]) {
     run_rest(&case[32..], allowance, long_of(rest), text, other);
 }
 
+fn two_texts(kind: u8, case: &[u8], text: &mut [u8], other: &mut [u8]) {
+    if kind == 6 {
+        plan_beside(case, text, other);
+        return;
+    }
+    run_numbers(kind, case, text, other);
+}
+
 fn run_case(line: &[u8], text: &mut [u8]) {
     if line.len() < 2 {
         return;
@@ -158,12 +184,12 @@ fn run_case(line: &[u8], text: &mut [u8]) {
     let kind = hex::line::byte_at(line, 0);
     if 4 <= kind {
         let mut other = text_room();
-        run_numbers(kind, &line[2..], text, &mut other);
+        two_texts(kind, &line[2..], text, &mut other);
         return;
     }
     let n = decode(&line[2..], text);
     if kind == 3 {
-        plan_case(&text[..n]);
+        plan_case(&text[..n], Beside::Nothing, b"");
         return;
     }
     print_answer(read_text(text_of(kind), &text[..n]));

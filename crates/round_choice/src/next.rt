@@ -1,6 +1,6 @@
 // An eager round, and the cheapest of the atoms that are left behind it.
 ghost use Rattle.frames.specs.Sheet.{framesIn};
-ghost use Rattle.indexing.specs.Index.{Indexed};
+ghost use Rattle.given.specs.Given.{Given};
 ghost use Rattle.passes.specs.Eager.{Located};
 ghost use Rattle.prices.specs.Prices.{Priced};
 ghost use Rattle.samples.specs.Remembering.{Samples, Remembers};
@@ -36,7 +36,7 @@ pub fn choose_next(
     requires { ⌜ Samples (framesIn (now sheet)) (s .how) ⌝ }
     requires { ⌜ Remembers (framesIn (now sheet)) (s .how) (now keys) (now values) s ⌝ }
     requires { ⌜ RoundRoom (now sheet) d (now keys) s ⌝ }
-    requires { ⌜ Indexed (now sheet) (now index) ⌝ }
+    requires { ⌜ Given (now sheet) (now index) ⌝ }
     requires { ⌜ Priced (now sheet) (now from) n (now prices) ⌝ }
     ensures { λ r. ⌜ Chooses (now (sheet .entry)) (s .how) d (now (keys .entry)) s (now (keys .exit)) (now (values .exit)) (now (costs .exit)) r ⌝ }
 {

@@ -10,9 +10,10 @@ use Rattle.first_reading.specs.First.{framesOf}
 use Rattle.frame_tests.specs.declared.tests.Text.the-variants.{Query}
 use Rattle.first_reading.specs.declared.first.Reading.{Reading}
 use Rattle.first_reading.specs.declared.first.Reading.the-variants.{Accepted, Refused}
-use Rattle.second_reading.specs.Second.{reading}
-use Rattle.reading_facts.proofs.AnswersLaws.{refused-number}
-use Rattle.reading_facts.proofs.FewLines.{few-lines}
+use Rattle.second_reading.specs.Second.{reading, queryReading}
+use Rattle.second_reading.proofs.QueryLaws.{query-accepted}
+use Rattle.reading_facts.proofs.AnswersLaws.{query-number}
+use Rattle.reading_facts.proofs.FewLines.{query-few-lines}
 use Rattle.reading_facts.proofs.Whole.{query-within}
 use Rattle.model.specs.Atoms.{Atom}
 use Rattle.model.proofs.TabulateLaws.{tabulate-mem}
@@ -21,7 +22,9 @@ use Rattle.cost.specs.QueryAtoms.{atomsIn}
 use Rattle.cost.specs.Choice.{Memory, fresh, recorded, emittedBy, byCost, choose, roundsFrom}
 use Rattle.cost.proofs.ChoiceLaws.{choose-fair}
 use Rattle.plan_facts.proofs.QueryPlansLaws.{atoms-number}
-use Rattle.round_costs.specs.Costs.{Answer as RoundAnswer, Chosen, Ended, Invalid, toldBy, roundOf, roundCosts}
+use Rattle.fitting.specs.Planner.{isHanded, given, tableReading}
+use Rattle.fitting.proofs.TableBounds.{table-refused}
+use Rattle.round_costs.specs.Costs.{Answer as RoundAnswer, Chosen, Ended, Invalid, toldBy, roundOf, afterTable, afterReading, roundCosts}
 
 -- the atom, where one is chosen, is one of n
 Among : ℕ → Option ℕ → Type 0
@@ -54,24 +57,30 @@ module _ (fs : List (List ℕ)) (qs : List Atom) (n : ℕ) (few : length qs ≤ 
       on none x k h = h
       on (some i) x k h = k x (emitAt (atomOf qs) (numbers qs) i s) h
 
--- the atom that is chosen is below 64, as a query has at most 64; a refusal has its number and line within these bounds
+-- the atom that is chosen is below 64, as a query has at most 64; a refusal has its number, text and line within these bounds
 abbrev pub RoundWithin : RoundAnswer → Type 0
 RoundWithin (Chosen i) = i < 64
 RoundWithin Ended = Unit {0}
-RoundWithin (Invalid k l) = (k ≤ 7) × (l ≤ 32769)
+RoundWithin (Invalid k t l) = (k ≤ 13) × ((t ≤ 2) × (l ≤ 32769))
 
 told-within : (c : Option ℕ) (cs : List (Option Float)) (o : List ℕ) → Among 64 c → RoundWithin (toldBy c cs o .answer)
 unfolding Among
 told-within none cs o h = tt
 told-within (some i) cs o h = h
 
-pub round-within : (x : List ℕ) (round : ℕ) (o : List ℕ) → RoundWithin (roundCosts x round o .answer)
-unfolding roundCosts Among
-round-within x round o = go (reading Query x) refl
-  where
-    go : (a : Reading) → reading Query x ≡ a → RoundWithin (roundCosts x round o .answer)
-    go (Refused k l) e = let z = refused-number Query x k l e in rw e (z .1, few-lines Query x k l e)
-    go (Accepted n c) e =
-        let few : length (atomsIn (framesOf x)) ≤ 64 = omega (arith, atoms-number x n c e, query-within x n c e .atoms) in
-        let m = roundOf (framesOf x) round in
-        rw e (told-within (m .chosen) (m .costs) o (rounds-among (framesOf x) (atomsIn (framesOf x)) 64 few (suc round) fresh unplanned tt))
+module _ (x : List ℕ) (t : Option (List ℕ)) (round : ℕ) (o : List ℕ) where
+  table-within : (n c : ℕ) → reading Query x ≡ Accepted n c → (v : Reading) → tableReading x t ≡ v → RoundWithin (afterTable v x t round o .answer)
+  unfolding Among
+  table-within n c ok (Refused k l) e = let r = table-refused x t k l e in (omega (arith, r .number), (omega arith, r .line))
+  table-within n c ok (Accepted a b) e =
+      let few : length (atomsIn (framesOf x)) ≤ 64 = omega (arith, atoms-number x n c ok, query-within x n c ok .atoms) in
+      let m = roundOf (given x t) (atomsIn (framesOf x)) round in
+      told-within (m .chosen) (m .costs) o (rounds-among (given x t) (atomsIn (framesOf x)) 64 few (suc round) fresh unplanned tt)
+
+  pub round-within : RoundWithin (roundCosts x t round o .answer)
+  unfolding roundCosts
+  round-within = go (queryReading (isHanded t) x) refl
+    where
+      go : (a : Reading) → queryReading (isHanded t) x ≡ a → RoundWithin (afterReading a x t round o .answer)
+      go (Refused k l) e = let z = query-number (isHanded t) x k l e in (z .1, (omega arith, query-few-lines (isHanded t) x k l e))
+      go (Accepted n c) e = table-within n c (query-accepted (isHanded t) x n c e) (tableReading x t) refl

@@ -5,12 +5,14 @@ use mathlib.Core.List.{List, [], map}
 use lib.ListN.{length}
 use lib.Ieee.{Float}
 use Rattle.first_reading.specs.First.{framesOf}
-use Rattle.frame_tests.specs.declared.tests.Text.the-variants.{Query}
+use Rattle.kinds.specs.Kinds.{query, table}
 use Rattle.first_reading.specs.declared.first.Reading.{Reading}
 use Rattle.first_reading.specs.declared.first.Reading.the-variants.{Accepted, Refused}
-use Rattle.second_reading.specs.Second.{reading}
+use Rattle.second_reading.specs.Second.{queryReading}
+use Rattle.model.specs.Atoms.{Atom}
 use Rattle.cost.specs.QueryAtoms.{atomsIn}
 use Rattle.cost.specs.Choice.{Memory, rounds}
+use Rattle.fitting.specs.Planner.{isHanded, given, tableReading}
 use Rattle.cost_bits.specs.CostBits.{costBits}
 use Rattle.round_costs.specs.declared.rounds.RoundCosts.{RoundCosts}
 use Rattle.round_costs.specs.declared.rounds.RoundCosts.the-variants.{Chosen as Chose, Ended as Over, Refused as Refuses}
@@ -21,26 +23,26 @@ pub data Answer : Type 0 where
   Chosen : ℕ → Answer
   -- no atom is a candidate
   Ended : Answer
-  -- number, line
-  Invalid : ℕ → ℕ → Answer
+  -- number, text, line
+  Invalid : ℕ → ℕ → ℕ → Answer
 
 pub record Result : Type 0 where
   pub answer : Answer
   pub output : List ℕ
 
--- the atom chosen; no candidate; or number and line
+-- the atom chosen; no candidate; or number, text and line
 abbrev pub roundAnswer : RoundCosts → Answer
 roundAnswer (Chose i) = Chosen i
 roundAnswer Over = Ended
-roundAnswer (Refuses k l) = Invalid k l
+roundAnswer (Refuses k t l) = Invalid k t l
 
 -- "result and lent output follow from the inputs, refusals too"
 abbrev pub roundResult : RoundCosts → List ℕ → Result
 roundResult r o = record { answer = roundAnswer r; output = o }
 
--- what is remembered of round number r of a query with the frames fs, or of the last one where the rounds have ended before
-abbrev pub roundOf : List (List ℕ) → ℕ → Memory
-roundOf fs r = rounds fs (atomsIn fs) (suc r) .memory
+-- what is remembered of round number r of the atoms qs by the frames fs, or of the last one where the rounds have ended before
+abbrev pub roundOf : List (List ℕ) → List Atom → ℕ → Memory
+roundOf fs qs r = rounds fs qs (suc r) .memory
 
 -- the costs of the round, where an atom was chosen in it
 abbrev pub toldBy : Option ℕ → List (Option Float) → List ℕ → Result
@@ -51,10 +53,14 @@ abbrev pub told : Memory → List ℕ → Result
 told m out = toldBy (m .chosen) (m .costs) out
 
 -- "Nothing is written" on a refusal
-abbrev afterReading : Reading → List ℕ → ℕ → List ℕ → Result
-afterReading (Refused k l) x r out = record { answer = Invalid k l; output = out }
-afterReading (Accepted n c) x r out = told (roundOf (framesOf x) r) out
+abbrev pub afterTable : Reading → List ℕ → Option (List ℕ) → ℕ → List ℕ → Result
+afterTable (Refused k l) x t r out = record { answer = Invalid k table l; output = out }
+afterTable (Accepted n c) x t r out = told (roundOf (given x t) (atomsIn (framesOf x)) r) out
 
--- round number r, from 0, of the query text x
-unfoldable pub roundCosts : List ℕ → ℕ → List ℕ → Result
-roundCosts x r out = afterReading (reading Query x) x r out
+abbrev pub afterReading : Reading → List ℕ → Option (List ℕ) → ℕ → List ℕ → Result
+afterReading (Refused k l) x t r out = record { answer = Invalid k query l; output = out }
+afterReading (Accepted n c) x t r out = afterTable (tableReading x t) x t r out
+
+-- round number r, from 0, of the query text x, with the table text t beside it or none
+unfoldable pub roundCosts : List ℕ → Option (List ℕ) → ℕ → List ℕ → Result
+roundCosts x t r out = afterReading (queryReading (isHanded t) x) x t r out

@@ -2,14 +2,13 @@
 // numbers below 2^64: the allowance, 1,000,000 without one, and the atom that the run names as its new one, none without one. Any other arguments
 // get a line of usage. Prints the match lines, then the line 51 0000 status(1) tries(8) matches(4) with status 00 done, 01 spent, 02 full; for
 // refused texts the line ff number line(2) text, text 01 the plan, 02 the table.
-ghost use Prim.Native.Nat.{_≤_};
-ghost use lib.ListN.{length};
 use arguments::Argument;
 use arguments::decimal;
 use entries::run::run;
 use modes::mode::DeltaAtom;
 use printing::TEXT_ROOM;
 use printing::print_run;
+use table_file::read_table;
 
 fn say_usage() {
     io::write_all(
@@ -36,19 +35,6 @@ fn allowance(count: usize) -> Argument {
     number_at(1)
 }
 
-// How many bytes of the table there are.
-fn read_table(table: &mut [u8]) -> usize
-    ensures { λ r. ⌜ r ≤ length (now (table .exit)) ⌝ }
-{
-    let fd = os::open_read(b"table");
-    if fd < 0 {
-        return 0;
-    }
-    let n = io::read_full(fd, table);
-    let _ = libc::close(fd);
-    n
-}
-
 fn run_over(plan: &[u8], table: &[u8], n: usize, allowance: u64, named: DeltaAtom) {
     if table.len() < n {
         return;
@@ -62,8 +48,8 @@ fn run_with(allowance: u64, named: DeltaAtom) {
     let mut plan = [0u8; TEXT_ROOM];
     let n = io::read_full(0, &mut plan);
     let mut table = [0u8; TEXT_ROOM];
-    let m = read_table(&mut table);
-    run_over(&plan[..n], &table, m, allowance, named);
+    let file = read_table(&mut table);
+    run_over(&plan[..n], &table, file.size, allowance, named);
 }
 
 // Runs with the atom that a third word names.

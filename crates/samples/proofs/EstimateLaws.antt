@@ -11,7 +11,7 @@ use lib.Ieee.{Float}
 use lib.ListN.{length, getD, set, length-set}
 use lib.Seq.{getD-set-same, getD-set-other}
 use borrow.Author.Tests.{lt-ltb, le-ltb, ltb-true, ltb-false}
-use Rattle.indexing.specs.Index.{Indexed}
+use Rattle.given.specs.Given.{Given}
 use Rattle.measure.specs.Selectivity.{zero64}
 use Rattle.measure.specs.declared.FanOut.{FanOut}
 use Rattle.measure.specs.declared.FanOut.the-variants.{Measured, Unmeasured}
@@ -165,5 +165,5 @@ module _ (fs : List (List ℕ)) (cfg : SamplerConfig) (x : Key) (ks : List ℕ) 
 
 -- ---- the settings
 
-pub measure-ready : (fs : List (List ℕ)) (cfg : SamplerConfig) (x i : List ℕ) → Samples fs (On cfg) → Indexed x i → (cfg .k ≤ 64) × ((cfg .bootstrap ≤ 256) × Indexed x i)
+pub measure-ready : (fs : List (List ℕ)) (cfg : SamplerConfig) (x i : List ℕ) → Samples fs (On cfg) → Given x i → (cfg .k ≤ 64) × ((cfg .bootstrap ≤ 256) × Given x i)
 measure-ready fs cfg x i z h = (z .nodes cfg refl, (z .resamples cfg refl, h))

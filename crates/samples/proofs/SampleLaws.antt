@@ -7,7 +7,7 @@ use native.Mathlib.Omega.{arith}
 use lib.Ieee.{Float}
 use lib.ListN.{length, getD, List·getD-map}
 use borrow.Author.Tests.{eq-eqb, ne-eqb}
-use Rattle.indexing.specs.Index.{Indexed}
+use Rattle.given.specs.Given.{Given}
 use Rattle.measure.specs.declared.FanOut.the-variants.{Unmeasured}
 use Rattle.measure.specs.declared.SamplerConfig.{SamplerConfig}
 use Rattle.query.specs.Statistics.{settings}
@@ -58,7 +58,7 @@ module _ (fs : List (List ℕ)) (em f : List ℕ) (j o path place : ℕ) (how : 
         sampled-on : sampled fs (map decode em) (operandAt f j) o path place (tallyAt ks s) ≡ estimate fs (On cfg) x (tallyAt ks s)
         sampled-on = probe-by (tallyAt ks s) ∙ rw (w, hx)
 
-        pub estimate-ready : (y i : List ℕ) → Indexed y i → length (sampled fs (map decode em) (operandAt f j) o path place (tallyAt ks s) .tally .memo) ≤ length ks → Samples fs (On cfg) × (Remembers fs (On cfg) ks xs s × ((length (afterEstimate fs cfg x (tallyAt ks s) .memo) ≤ length ks) × Indexed y i))
+        pub estimate-ready : (y i : List ℕ) → Given y i → length (sampled fs (map decode em) (operandAt f j) o path place (tallyAt ks s) .tally .memo) ≤ length ks → Samples fs (On cfg) × (Remembers fs (On cfg) ks xs s × ((length (afterEstimate fs cfg x (tallyAt ks s) .memo) ≤ length ks) × Given y i))
         estimate-ready y i n l = (rw w at z, (rw w at m, (rw sampled-on at l, n)))
 
         pub sampled-gives : (ks′ : List ℕ) (xs′ : List Float) (r : Sample) → Gives fs (On cfg) ks′ xs′ r (estimate fs (On cfg) x (tallyAt ks s)) → Gives fs how ks′ xs′ r (sampled fs (map decode em) (operandAt f j) o path place (tallyAt ks s))

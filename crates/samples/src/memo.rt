@@ -2,7 +2,7 @@
 ghost use Prim.Native.Nat.{_<_, _≤_};
 ghost use lib.ListN.{length};
 ghost use Rattle.frames.specs.Sheet.{framesIn};
-ghost use Rattle.indexing.specs.Index.{Indexed};
+ghost use Rattle.given.specs.Given.{Given};
 ghost use Rattle.query.specs.declared.statistics.Sampled.the-variants.{On};
 ghost use Rattle.cost.specs.Sampling.{afterEstimate};
 ghost use Rattle.cost.specs.Memo.{tallyAt};
@@ -40,7 +40,7 @@ pub fn estimate(
     requires { ⌜ Samples (framesIn (now sheet)) (On cfg) ⌝ }
     requires { ⌜ Remembers (framesIn (now sheet)) (On cfg) (now keys) (now values) s ⌝ }
     requires { ⌜ length (afterEstimate (framesIn (now sheet)) cfg x (tallyAt (now keys) s) .memo) ≤ length (now keys) ⌝ }
-    requires { ⌜ Indexed (now sheet) (now index) ⌝ }
+    requires { ⌜ Given (now sheet) (now index) ⌝ }
     ensures { λ r. ⌜ Gives (framesIn (now (sheet .entry))) (On cfg) (now (keys .exit)) (now (values .exit)) r (estimateOf (framesIn (now (sheet .entry))) (On cfg) x (tallyAt (now (keys .entry)) s)) ⌝ }
 {
     let key = pack_key(x);

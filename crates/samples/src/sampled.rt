@@ -4,7 +4,7 @@ ghost use mathlib.Core.List.{map};
 ghost use Prim.Native.Nat.{_<_, _≤_};
 ghost use lib.ListN.{length, getD};
 ghost use Rattle.frames.specs.Sheet.{framesIn};
-ghost use Rattle.indexing.specs.Index.{Indexed};
+ghost use Rattle.given.specs.Given.{Given};
 ghost use Rattle.measure.specs.declared.FanOut.the-variants.{Unmeasured};
 ghost use Rattle.cost.specs.Costs.{sampled as sampledOf};
 ghost use Rattle.cost.specs.Emitters.{decode};
@@ -86,7 +86,7 @@ pub fn sampled(
     requires { ⌜ Samples (framesIn (now sheet)) (s .how) ⌝ }
     requires { ⌜ Remembers (framesIn (now sheet)) (s .how) (now keys) (now values) s ⌝ }
     requires { ⌜ length (sampledOf (framesIn (now sheet)) (map decode (now em)) (operandAt (now frame) j) (q .op) (q .path) (q .place) (tallyAt (now keys) s) .tally .memo) ≤ length (now keys) ⌝ }
-    requires { ⌜ Indexed (now sheet) (now index) ⌝ }
+    requires { ⌜ Given (now sheet) (now index) ⌝ }
     ensures { λ r. ⌜ Gives (framesIn (now (sheet .entry))) (s .how) (now (keys .exit)) (now (values .exit)) r (sampledOf (framesIn (now (sheet .entry))) (map decode (now (em .entry))) (operandAt (now (frame .entry)) j) (q .op) (q .path) (q .place) (tallyAt (now (keys .entry)) s)) ⌝ }
 {
     if byte_at(frame, j) != 0 {

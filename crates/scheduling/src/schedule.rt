@@ -4,7 +4,7 @@ ghost use mathlib.Core.Bool.{false};
 ghost use Prim.Native.Nat.{suc, _≤_};
 ghost use lib.ListN.{length};
 ghost use Rattle.frames.specs.Sheet.{framesIn};
-ghost use Rattle.indexing.specs.Index.{Indexed};
+ghost use Rattle.given.specs.Given.{Given};
 ghost use Rattle.cost.specs.Choice.{rounds};
 ghost use Rattle.cost.specs.Memo.{keysMost};
 ghost use Rattle.passes.specs.Eager.{Located, sheetAtoms};
@@ -61,7 +61,7 @@ pub fn schedule(
     requires { ⌜ Samples (framesIn (now sheet)) how ⌝ }
     requires { ⌜ (length (now values) ≡ length (now keys)) × (length (now keys) ≤ keysMost) ⌝ }
     requires { ⌜ length (rounds (framesIn (now sheet)) (sheetAtoms (now sheet)) (suc last) .memory .tally .memo) ≤ length (now keys) ⌝ }
-    requires { ⌜ Indexed (now sheet) (now index) ⌝ }
+    requires { ⌜ Given (now sheet) (now index) ⌝ }
     requires { ⌜ Priced (now sheet) (now from) n (now prices) ⌝ }
     ensures { λ r. ⌜ Rounded (now (sheet .entry)) last (now (costs .exit)) r ⌝ }
 {

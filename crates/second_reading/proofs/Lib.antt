@@ -1,1 +1,4 @@
+pub mod EntryLaws
+pub mod FromTableLaws
 pub mod SecondLaws
+pub mod QueryLaws

@@ -1,13 +1,12 @@
 -- The second reading, a test and a frame at a time. Assumes nothing.
 use Prim.Native.Nat.{ℕ, suc, _+_, _-_, _*_, _<_, _≤_}
 use mathlib.Core.Path.{_≡_, refl, sym, _∙_, ap}
-use mathlib.Core.Bool.{Bool, true, false, not}
+use mathlib.Core.Bool.{Bool, true, false, not, true≢false}
 use mathlib.Core.List.{List, [], _∷_, _++_, append-nil, append-assoc}
 use native.Mathlib.Numerals.{add-one}
 use native.Mathlib.Omega.{arith}
 use lib.ListN.{length, getD, drop}
-use lib.Dec.{eqb}
-use borrow.Author.Tests.{eqb-false, not-true, not-false}
+use borrow.Author.Tests.{eq-eqb, ne-eqb, not-true, not-false}
 use Rattle.base.specs.Choose.{pick}
 use Rattle.fields.specs.Limits.{atomsMost}
 use Rattle.fields.specs.Fields.{fieldPasses}
@@ -15,26 +14,28 @@ use Rattle.kinds.specs.Kinds.{kindAt}
 use Rattle.frames.specs.Frames.{kindOf, framePasses}
 use Rattle.frames.specs.Sheet.{frameAt, framesIn, Whole}
 use Rattle.first_reading.specs.First.{orElse}
-use Rattle.first_reading.proofs.ReadingLaws.{or-stops}
+use Rattle.first_reading.proofs.ReadingLaws.{or-stops, or-passes}
 use Rattle.fields.specs.declared.field.Counts.{Counts}
 use Rattle.fields.specs.declared.field.Test.the-variants.{Range, Reals}
 use Rattle.frame_tests.specs.declared.tests.Text.{Text}
 use Rattle.frame_tests.specs.declared.tests.Text.the-variants.{Query, Plan}
 use Rattle.first_reading.specs.declared.first.Reading.{Reading}
 use Rattle.first_reading.specs.declared.first.Reading.the-variants.{Accepted, Refused}
-use Rattle.frames.proofs.SheetLaws.{frames-end, frame-some, frame-within, frames-step}
+use Rattle.frames.proofs.SheetLaws.{frames-end, frame-some, frame-within, frame-inside, frames-step}
 use Rattle.frame_keys.specs.Keys.{keyGiven}
-use Rattle.second_reading.specs.Second.{headerCounts, countsIn, faultOf, secondFault, secondFrom}
+use Rattle.second_reading.specs.FromTable.{takesTable}
+use Rattle.second_reading.specs.Second.{headerCounts, countsInBy, faultOf, secondFault, secondFrom}
 use Rattle.indexing.specs.Index.{slotsFor, givenBy, noted, entriesWith, Noting, Indexes}
 use Rattle.second_reading.specs.Rereading.{indexSize, BlankFor, Rereads}
-use Rattle.indexing.proofs.SlotLaws.{slots-some, keyed-long}
+use Rattle.indexing.proofs.SlotLaws.{slots-some, keyed-counts}
 use Rattle.indexing.proofs.NoteLaws.{noted-line, noted-length, given-is, blank-indexes}
+use Rattle.second_reading.proofs.EntryLaws.{lacking, lacking-most, entered-still}
 
-module _ (t : Text) (s h : List ℕ) (c : ℕ) (r : Counts) (p : h ≡ frameAt s 0) where
-  pub query-counts : t ≡ Query → r ≡ headerCounts h c → r ≡ countsIn t s c
+module _ (b : Bool) (t : Text) (s h : List ℕ) (c : ℕ) (r : Counts) (p : h ≡ frameAt s 0) where
+  pub query-counts : t ≡ Query → r ≡ headerCounts b h c → r ≡ countsInBy b t s c
   query-counts q g = g ∙ rw (q, p)
 
-  pub plan-counts : t ≡ Plan → r ≡ headerCounts h atomsMost → r ≡ countsIn t s c
+  pub plan-counts : t ≡ Plan → r ≡ headerCounts b h atomsMost → r ≡ countsInBy b t s c
   plan-counts q g = g ∙ rw (q, p)
 
 -- the key's length, by the frame's first byte
@@ -53,28 +54,44 @@ module _ (n : Counts) (f : List ℕ) (g a : Bool) (p : a ≡ framePasses (fieldP
       pub fault-7 : c ≡ true → 7 ≡ faultOf n f g
       fault-7 z = rw (← p, not-false a h, ← q, not-false b e, ← r, z)
 
-      pub fault-none : c ≡ false → 0 ≡ faultOf n f g
-      fault-none z = rw (← p, not-false a h, ← q, not-false b e, ← r, z)
+      module _ (z : c ≡ false) (k : ℕ) (d : k ≡ getD f 0 0) where
+        pub fault-none : (k ≡ 0x24 → ⊥) → 0 ≡ faultOf n f g
+        fault-none o = rw (← p, not-false a h, ← q, not-false b e, ← r, z, ← d, ne-eqb k 0x24 o)
+
+        module _ (o : k ≡ 0x24) where
+          pub fault-table : n .table ≡ true → 0 ≡ faultOf n f g
+          fault-table u = rw (← p, not-false a h, ← q, not-false b e, ← r, z, ← d, eq-eqb k 0x24 o, u)
+
+          pub fault-13 : n .table ≡ false → 13 ≡ faultOf n f g
+          fault-13 u = rw (← p, not-false a h, ← q, not-false b e, ← r, z, ← d, eq-eqb k 0x24 o, u)
 
 -- a line without a fault has a new key
 fresh-key : (n : Counts) (f : List ℕ) (g : Bool) → faultOf n f g ≡ 0 → g ≡ false
-fresh-key n f g p = go (framePasses (fieldPasses Range n) f) (framePasses (fieldPasses Reals n) f) g p
+fresh-key n f g p = go (framePasses (fieldPasses Range n) f) (framePasses (fieldPasses Reals n) f) g (pick (takesTable f) (pick (n .table) 0 13) 0) p
   where
-    go : (a b g : Bool) → pick {A = ℕ} a (pick b (pick g 7 0) 6) 5 ≡ 0 → g ≡ false
-    go true true true q = absurd (omega arith)
-    go true true false q = refl
-    go true false g q = absurd (omega arith)
-    go false b g q = absurd (omega arith)
+    go : (a b g : Bool) (v : ℕ) → pick {A = ℕ} a (pick b (pick g 7 v) 6) 5 ≡ 0 → g ≡ false
+    go true true true v q = absurd (omega arith)
+    go true true false v q = refl
+    go true false g v q = absurd (omega arith)
+    go false b g v q = absurd (omega arith)
+
+-- and one that takes samples from a table has one
+pub table-there : (n : Counts) (f : List ℕ) (g : Bool) → faultOf n f g ≡ 0 → takesTable f ≡ true → n .table ≡ true
+table-there n f g p = go (framePasses (fieldPasses Range n) f) (framePasses (fieldPasses Reals n) f) g (takesTable f) (n .table) p
+  where
+    go : (a b g t d : Bool) → pick {A = ℕ} a (pick b (pick g 7 (pick t (pick d 0 13) 0)) 6) 5 ≡ 0 → t ≡ true → d ≡ true
+    go true true true t d q e = absurd (omega arith)
+    go true true false true true q e = refl
+    go true true false true false q e = absurd (omega arith)
+    go true true false false d q e = absurd (true≢false (sym e))
+    go true false g t d q e = absurd (omega arith)
+    go false b g t d q e = absurd (omega arith)
 
 -- a second reading that accepts says what the first one said
-or-accepts : (v k m c n′ c′ : ℕ) (b : Reading) → orElse v k b ≡ Accepted n′ c′ → b ≡ Accepted n′ c′
-or-accepts ℕ.zero k m c n′ c′ b h = h
-or-accepts (suc v) k m c n′ c′ b h = let z : _≡_ {A = ℕ} 0 1 = cc in absurd (omega arith)
-
 pub accepts : (n : Counts) (e : List (List ℕ)) (k : ℕ) (fs : List (List ℕ)) (m c n′ c′ : ℕ) → secondFrom n e k fs (Accepted m c) ≡ Accepted n′ c′ → n′ ≡ m
 unfolding secondFrom
 accepts n e k [] m c n′ c′ h = let z : m ≡ n′ = cc in sym z
-accepts n e k (f ∷ fs) m c n′ c′ h = accepts n (e ++ f ∷ []) (suc k) fs m c n′ c′ (or-accepts (secondFault n e f) k m c n′ c′ _ h)
+accepts n e k (f ∷ fs) m c n′ c′ h = accepts n (e ++ f ∷ []) (suc k) fs m c n′ c′ (or-passes (secondFault n e f) k _ n′ c′ h .1)
 
 -- k frames, the earlier ones, are passed, m of them entered in i, and those from `at` on say the rest
 pub record Rereading (n : Counts) (s : List ℕ) (a : Reading) (i₀ i : List ℕ) (at k m : ℕ) : Type 0 where
@@ -84,7 +101,7 @@ pub record Rereading (n : Counts) (s : List ℕ) (a : Reading) (i₀ i : List �
   pub all : earlier ++ framesIn (drop at s) ≡ framesIn s
   pub is : secondFrom n [] 0 (framesIn s) a ≡ secondFrom n earlier k (framesIn (drop at s)) a
   pub index : Indexes (slotsFor (length i)) s i earlier m
-  pub entries : m * 3 ≤ at
+  pub entries : m * 3 ≤ at + lacking earlier
   pub whole : Whole (framesIn (drop at s))
   pub size : length s ≤ 32768
   pub room : indexSize (slotsFor (length i)) (length s) ≤ length i
@@ -114,7 +131,7 @@ module _ (n : Counts) (s : List ℕ) (a : Reading) (i₀ i : List ℕ) (at k m :
       record { is = sym (q .is ∙ rw z); indexed = λ b c p. record { entries = m; are = rw e at (q .index) } }
 
   pub noting : at < length s → Noting (slotsFor (length i)) i at m
-  noting h = record { room = omega (arith, q .room, q .entries); place = omega (arith, q .size); few = omega (arith, q .size, q .entries) }
+  noting h = let l = lacking-most (q .earlier) in record { room = omega (arith, q .room, q .entries); place = omega (arith, q .size); few = omega (arith, q .size, q .entries) }
 
   -- the frame f at `at`
   module _ (h : at < length s) (f : List ℕ) (taken : f ≡ frameAt s at) where
@@ -135,7 +152,7 @@ module _ (n : Counts) (s : List ℕ) (a : Reading) (i₀ i : List ℕ) (at k m :
 
     module _ (v : ℕ) (g : v ≡ faultOf n f (givenBy (slotsFor (length i)) s i f)) where
       given-here : givenBy (slotsFor (length i)) s i f ≡ keyGiven (q .earlier) f
-      given-here = given-is (slotsFor (length i)) s i f (q .earlier) m (q .index) (λ z. keyed-long f (wholes .0) z .counts)
+      given-here = given-is (slotsFor (length i)) s i f (q .earlier) m (q .index) (keyed-counts f (wholes .0))
 
       fault-here : v ≡ secondFault n (q .earlier) f
       unfolding secondFault
@@ -151,13 +168,6 @@ module _ (n : Counts) (s : List ℕ) (a : Reading) (i₀ i : List ℕ) (at k m :
         indexed = λ b c p. let y : _≡_ {A = ℕ} 0 1 = cc in absurd (omega arith);
       }
 
-      entries-still : entriesWith f m * 3 ≤ at + length f
-      entries-still = go (eqb (kindOf f .key) 0) refl
-        where
-          go : (b : Bool) → eqb (kindOf f .key) 0 ≡ b → pick b m (m + 1) * 3 ≤ at + length f
-          go true e = omega (arith, q .entries)
-          go false e = let w = keyed-long f (wholes .0) (eqb-false (kindOf f .key) 0 e) .three in omega (arith, q .entries)
-
       pub frame-entered : v ≡ 0 → (j : List ℕ) (m′ : ℕ) → j ≡ noted (slotsFor (length i)) i f at m → m′ ≡ entriesWith f m → Rereading n s a i₀ j (at + length f) (k + 1) m′
       frame-entered z j m′ u w =
           let new : keyGiven (q .earlier) f ≡ false = sym given-here ∙ fresh-key n f (givenBy (slotsFor (length i)) s i f) (sym g ∙ z) in
@@ -168,8 +178,8 @@ module _ (n : Counts) (s : List ℕ) (a : Reading) (i₀ i : List ℕ) (at k m :
             earlier = q .earlier ++ f ∷ [];
             all = append-assoc (q .earlier) (f ∷ []) (framesIn (drop (at + length f) s)) ∙ ap (λ (fs : List (List ℕ)). q .earlier ++ fs) (sym step) ∙ q .all;
             is = says ∙ rw (z, add-one k);
-            index = rw (o, u, w) (noted-line (slotsFor (length i)) (slots-some (length i)) s i f (q .earlier) at m (q .index) (noting h .room) (sym taken) new);
-            entries = rw w entries-still;
+            index = rw (o, u, w) (noted-line (slotsFor (length i)) (slots-some (length i)) s i f (q .earlier) at m (q .index) (noting h .room) (sym taken) (frame-inside s at h f taken (wholes .0)) new);
+            entries = rw w (entered-still (q .earlier) f at m (wholes .0) new (q .entries));
             whole = wholes .1;
             size = q .size;
             room = rw o (q .room);

@@ -1,2 +1,3 @@
+pub mod FromTable
 pub mod Second
 pub mod Rereading

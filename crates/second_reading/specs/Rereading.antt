@@ -11,9 +11,9 @@ use Rattle.indexing.specs.Index.{slotsFor, Indexed}
 use Rattle.second_reading.specs.Second.{secondFrom}
 
 -- how many numbers the index of a sheet of n bytes has, with so many slots: a keyed frame has three bytes or more, and two numbers; there
--- are two entries more, that numbered 0 and one beyond the last
+-- are three entries more, that of a frame 24, which has one byte and is entered once, that numbered 0 and one beyond the last
 abbrev pub indexSize : ℕ → ℕ → ℕ
-indexSize slots n = slots + 2 * (n / 3 + 2)
+indexSize slots n = slots + 2 * (n / 3 + 3)
 
 -- the same for the sheet s, whose frames have their lengths
 pub record BlankFor (s i : List ℕ) : Type 0 where

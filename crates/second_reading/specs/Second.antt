@@ -1,6 +1,7 @@
 -- "then a second reading tests 5, 6, 7 the same way": each line in turn; then the whole reading of a query, a plan or a table.
+-- Note 3: 13 "in the second reading after 7".
 use Prim.Native.Nat.{ℕ, suc}
-use mathlib.Core.Bool.{Bool}
+use mathlib.Core.Bool.{Bool, true}
 use mathlib.Core.List.{List, [], _∷_, _++_}
 use lib.ListN.{getD}
 use Rattle.base.specs.Choose.{pick}
@@ -17,36 +18,51 @@ use Rattle.frame_tests.specs.declared.tests.Text.the-variants.{Query, Plan, Tab
 use Rattle.first_reading.specs.declared.first.Reading.{Reading}
 use Rattle.first_reading.specs.declared.first.Reading.the-variants.{Accepted, Refused}
 use Rattle.frame_keys.specs.Keys.{keyGiven}
+use Rattle.second_reading.specs.FromTable.{takesTable, tableFor}
 
 -- ---- what there is to name
 
 -- a query's and a plan's header says how many variables, globals and literals there are
-abbrev pub headerCounts : List ℕ → ℕ → Counts
-headerCounts h a = record { variables = getD h 1 0; globals = getD h 2 0; literals = getD h 3 0; atoms = a; rows = 0 }
+abbrev pub headerCounts : Bool → List ℕ → ℕ → Counts
+headerCounts b h a = record { variables = getD h 1 0; globals = getD h 2 0; literals = getD h 3 0; atoms = a; rows = 0; table = b }
+
+-- a table's counts
+abbrev pub tableCounts : Bool → ℕ → Counts
+tableCounts b c = record { variables = 0; globals = globalsMost; literals = 0; atoms = 0; rows = c; table = b }
 
 -- "variable, global, literal or atom not below its count (64 for a plan's atom, 16 for a table's global)"; Note 1: "above the row count"; c is the
--- number of atoms or of rows
+-- number of atoms or of rows, and b says whether there is a table to take samples from
+abbrev pub countsBy : Bool → Text → List ℕ → ℕ → Counts
+countsBy b Query x c = headerCounts b (bytesOf (firstLine x)) c
+countsBy b Plan x c = headerCounts b (bytesOf (firstLine x)) atomsMost
+countsBy b Table x c = tableCounts b c
+
 abbrev pub countsOf : Text → List ℕ → ℕ → Counts
-countsOf Query x c = headerCounts (bytesOf (firstLine x)) c
-countsOf Plan x c = headerCounts (bytesOf (firstLine x)) atomsMost
-countsOf Table x c = record { variables = 0; globals = globalsMost; literals = 0; atoms = 0; rows = c }
+countsOf t x c = countsBy true t x c
 
 -- the same from the text's sheet s
+abbrev pub countsInBy : Bool → Text → List ℕ → ℕ → Counts
+countsInBy b Query s c = headerCounts b (frameAt s 0) c
+countsInBy b Plan s c = headerCounts b (frameAt s 0) atomsMost
+countsInBy b Table s c = tableCounts b c
+
 abbrev pub countsIn : Text → List ℕ → ℕ → Counts
-countsIn Query s c = headerCounts (frameAt s 0) c
-countsIn Plan s c = headerCounts (frameAt s 0) atomsMost
-countsIn Table s c = record { variables = 0; globals = globalsMost; literals = 0; atoms = 0; rows = c }
+countsIn t s c = countsInBy true t s c
 
 -- ---- one line: the number of the first test that it fails, 0 where it passes
 
--- 7: whether its key was given
+-- 7: whether its key was given; 13: "at frame 24" without a table to take samples from
 abbrev pub faultOf : Counts → List ℕ → Bool → ℕ
 faultOf n f given =
     pick (framePasses (fieldPasses Range n) f)
     (pick (framePasses (fieldPasses Reals n) f)
     (pick given
     7
-    0)
+    (pick (takesTable f)
+    (pick (n .table)
+    0
+    13)
+    0))
     6)
     5
 
@@ -63,10 +79,20 @@ secondFrom n earlier k (f ∷ fs) a = orElse (secondFault n earlier f) k (second
 
 -- ---- the whole: where the first reading accepts, the second one decides
 
-abbrev pub second : Text → List ℕ → Reading → Reading
-second t x (Refused k l) = Refused k l
-second t x (Accepted n c) = secondFrom (countsOf t x c) [] 0 (framesOf x) (Accepted n c)
+abbrev pub second : Bool → Text → List ℕ → Reading → Reading
+second b t x (Refused k l) = Refused k l
+second b t x (Accepted n c) = secondFrom (countsBy b t x c) [] 0 (framesOf x) (Accepted n c)
 
-unfoldable pub reading : Text → List ℕ → Reading
+unfoldable pub readingBy : Bool → Text → List ℕ → Reading
 unfolding firstReading secondFrom framesOf
-reading t x = second t x (firstReading t x)
+readingBy b t x = second b t x (firstReading t x)
+
+-- the tests 1 to 7 alone: all that a plan or a table is put to
+unfoldable pub reading : Text → List ℕ → Reading
+unfolding readingBy
+reading t x = readingBy true t x
+
+-- a query, where a table is handed in beside it or not
+unfoldable pub queryReading : Bool → List ℕ → Reading
+unfolding readingBy
+queryReading handed x = readingBy (tableFor handed (framesOf x)) Query x

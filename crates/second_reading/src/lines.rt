@@ -1,9 +1,9 @@
-// The second reading: each frame is tested 5, 6, 7 in turn.
+// The second reading: each frame is tested 5, 6, 7 and 13 in turn.
 ghost use mathlib.Core.Path.{_≡_};
 ghost use lib.ListN.{length};
 ghost use Rattle.first_reading.specs.declared.first.Reading.the-variants.{Accepted};
 ghost use Rattle.frames.specs.Frames.{kindOf};
-ghost use Rattle.second_reading.specs.Second.{headerCounts, countsIn, faultOf};
+ghost use Rattle.second_reading.specs.Second.{headerCounts, countsInBy, faultOf};
 ghost use Rattle.indexing.specs.Index.{slotsFor, hashOf, Falling, givenBy};
 ghost use Rattle.second_reading.specs.Rereading.{BlankFor, Rereads};
 use fields::field::Counts;
@@ -19,9 +19,9 @@ use indexing::index::note;
 use kinds::table::key_length;
 use kinds::table::tests_of;
 
-// What a header says, with that many atoms.
-fn header_counts(header: &[u8], atoms: usize) -> Counts
-    ensures { λ r. ⌜ r ≡ headerCounts (now (header .entry)) atoms ⌝ }
+// What a header says, with that many atoms, and with a table to take samples from or none.
+fn header_counts(table: bool, header: &[u8], atoms: usize) -> Counts
+    ensures { λ r. ⌜ r ≡ headerCounts table (now (header .entry)) atoms ⌝ }
 {
     let variables = byte_at(header, 1);
     let globals = byte_at(header, 2);
@@ -32,34 +32,37 @@ fn header_counts(header: &[u8], atoms: usize) -> Counts
         literals,
         atoms,
         rows: 0,
+        table,
     }
 }
 
 // What there is to name in a text, c of its frames being atoms or rows.
-pub fn counts_of(t: Text, sheet: &[u8], c: usize) -> Counts
-    ensures { λ r. ⌜ r ≡ countsIn t (now (sheet .entry)) c ⌝ }
+pub fn counts_of(table: bool, t: Text, sheet: &[u8], c: usize) -> Counts
+    ensures { λ r. ⌜ r ≡ countsInBy table t (now (sheet .entry)) c ⌝ }
 {
     match t {
-        Text::Query => header_counts(frame_at(sheet, 0), c),
-        Text::Plan => header_counts(frame_at(sheet, 0), 64),
+        Text::Query => header_counts(table, frame_at(sheet, 0), c),
+        Text::Plan => header_counts(table, frame_at(sheet, 0), 64),
         Text::Table => Counts {
             variables: 0,
             globals: 16,
             literals: 0,
             atoms: 0,
             rows: c,
+            table,
         },
     }
 }
 
-// The tests 5, 6 and 7 of a frame, by the index of those before it: the first that it fails, or 0.
+// The tests 5, 6, 7 and 13 of a frame, by the index of those before it: the first that it fails, or 0.
 fn second_fault(n: Counts, sheet: &[u8], index: &[u16], frame: &[u8], hash: usize, k: u8) -> u8
     requires { ⌜ k ≡ kindOf (now frame) .key ⌝ }
     requires { ⌜ hash ≡ hashOf (now frame) ⌝ }
     requires { ⌜ Falling (slotsFor (length (now index))) (now index) ⌝ }
     ensures { λ r. ⌜ r ≡ faultOf n (now (frame .entry)) (givenBy (slotsFor (length (now (index .entry)))) (now (sheet .entry)) (now (index .entry)) (now (frame .entry))) ⌝ }
 {
-    let tests = tests_of(byte_at(frame, 0));
+    let kind = byte_at(frame, 0);
+    let tests = tests_of(kind);
     if !range_passes(n, tests, frame) {
         return 5;
     }
@@ -67,10 +70,12 @@ fn second_fault(n: Counts, sheet: &[u8], index: &[u16], frame: &[u8], hash: usiz
         return 6;
     }
     if key_given(sheet, index, frame, hash, k) {
-        7
-    } else {
-        0
+        return 7;
     }
+    if kind != 0x24 {
+        return 0;
+    }
+    if n.table { 0 } else { 13 }
 }
 
 // The frames in turn, after a first reading that found that many lines and counted so many of them. Each that passes is entered.

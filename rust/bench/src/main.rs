@@ -1,11 +1,12 @@
 //! Times planning: the Rust's alone, from a query in its own types to its steps; the Rust's from text to text, with the plain reader and writer of
-//! `oracle`, which tests no limits; and, with the feature `ours`, the proved planner's from text to text, on the same queries. Then running, in
-//! `running`.
+//! `oracle`, which tests no limits; and, with the feature `ours`, the proved planner's from text to text, on the same queries. Where samples come
+//! from a table, the Rust alone has its index already; both others begin at the table's text, and the Rust's index is made in every plan. Then
+//! running, in `running`.
 mod interpreter;
 mod running;
 
-use oracle::generate::{largest, sampled, typical};
-use oracle::{Prepared, Query, parse, plan_text, to_text};
+use oracle::generate::{chain, largest, sampled, typical};
+use oracle::{Prepared, Query, Table, parse, plan_text, to_text};
 use std::hint::black_box;
 use std::time::{Duration, Instant};
 
@@ -28,7 +29,7 @@ fn number(word: &str) -> usize {
     word.parse().expect("a number")
 }
 
-const NAMES: [&str; 11] = [
+const NAMES: [&str; 12] = [
     "worked example",
     "typical rule, 3 atoms",
     "typical rule, 4 atoms",
@@ -40,17 +41,60 @@ const NAMES: [&str; 11] = [
     "typical rule, 8 atoms, sampling on",
     "largest query",
     "largest query, sampling on",
+    "chain of 8 atoms, samples from a table of 1,000 rows",
 ];
 
-/// The queries of a line.
-fn queries(line: usize) -> Vec<Query> {
-    match line {
-        0 => vec![parse(WORKED).expect("the document's example")],
-        1..=6 => (0..32).map(|seed| typical(seed, line + 2)).collect(),
-        7 => (0..32).map(|seed| sampled(seed, 3)).collect(),
-        8 => (0..32).map(|seed| sampled(seed, 8)).collect(),
-        _ => (0..8).map(|seed| largest(seed, line == 10)).collect(),
+/// A query, and the table that it takes its samples from.
+struct Case {
+    query: Query,
+    table: Option<Table>,
+}
+
+struct Texts {
+    query: String,
+    table: Option<String>,
+}
+
+impl Case {
+    fn prepared(&self) -> Prepared<'_> {
+        Prepared::new(&self.query, self.table.as_ref())
     }
+
+    fn texts(&self) -> Texts {
+        Texts {
+            query: to_text(&self.query),
+            table: self.table.as_ref().map(Table::to_text),
+        }
+    }
+}
+
+impl Texts {
+    fn table(&self) -> Option<&[u8]> {
+        self.table.as_deref().map(str::as_bytes)
+    }
+
+    fn size(&self) -> usize {
+        self.query.len() + self.table.as_ref().map_or(0, String::len)
+    }
+}
+
+/// The cases of a line.
+fn cases(line: usize) -> Vec<Case> {
+    let alone = |query| Case { query, table: None };
+    match line {
+        0 => vec![alone(parse(WORKED).expect("the document's example"))],
+        1..=6 => (0..32).map(|seed| alone(typical(seed, line + 2))).collect(),
+        7 => (0..32).map(|seed| alone(sampled(seed, 3))).collect(),
+        8 => (0..32).map(|seed| alone(sampled(seed, 8))).collect(),
+        11 => (0..8).map(sampled_table).collect(),
+        _ => (0..8).map(|seed| alone(largest(seed, line == 10))).collect(),
+    }
+}
+
+fn sampled_table(seed: u64) -> Case {
+    let (query, table) = chain(seed, 8, 1_000);
+    let table = Some(table);
+    Case { query, table }
 }
 
 fn times() {
@@ -62,28 +106,28 @@ fn times() {
     running::lines();
 }
 
-/// So many passes over a line's queries on one side, for a count of instructions: prints how many plans and how many bytes of text a pass has.
+/// So many passes over a line's cases on one side, for a count of instructions: prints how many plans and how many bytes of text a pass has.
 fn pass(side: &str, line: usize, passes: usize) {
-    let queries = queries(line);
-    let texts: Vec<String> = queries.iter().map(to_text).collect();
-    println!("{} {}", texts.len(), texts.iter().map(String::len).sum::<usize>());
-    let prepared: Vec<Prepared> = queries.iter().map(Prepared::new).collect();
+    let cases = cases(line);
+    let texts: Vec<Texts> = cases.iter().map(Case::texts).collect();
+    println!("{} {}", texts.len(), texts.iter().map(Texts::size).sum::<usize>());
+    let prepared: Vec<Prepared> = cases.iter().map(Case::prepared).collect();
     prepared[0].switch_sampling();
     let mut out = [0; 20_600];
     for _ in 0..passes {
         match side {
             "rust" => prepared.iter().for_each(|query| drop(black_box(query.schedule()))),
             "text" => texts.iter().for_each(plan_one),
-            "ours" => texts.iter().for_each(|text| plan_ours(text, &mut out)),
+            "ours" => texts.iter().for_each(|texts| plan_ours(texts, &mut out)),
             _ => panic!("rust, text or ours"),
         }
     }
 }
 
 fn line(i: usize) {
-    let (name, queries) = (NAMES[i], queries(i));
-    let texts: Vec<String> = queries.iter().map(to_text).collect();
-    let (rust, texted) = (rust(&queries), from_text(&texts));
+    let (name, cases) = (NAMES[i], cases(i));
+    let texts: Vec<Texts> = cases.iter().map(Case::texts).collect();
+    let (rust, texted) = (rust(&cases), from_text(&texts));
     match ours(&texts) {
         Some(ours) => println!(
             "{rust:>10.0}  {texted:>10.0}  {ours:>10.0}  {:>6.2}  {:>6.2}  {name}",
@@ -95,39 +139,46 @@ fn line(i: usize) {
 }
 
 /// Nanoseconds a plan; the settings are set once for all, as every query of a line has the same.
-fn rust(queries: &[Query]) -> f64 {
-    let prepared: Vec<Prepared> = queries.iter().map(Prepared::new).collect();
+fn rust(cases: &[Case]) -> f64 {
+    let prepared: Vec<Prepared> = cases.iter().map(Case::prepared).collect();
     prepared[0].switch_sampling();
-    best(queries.len(), || {
-        prepared.iter().for_each(|query| drop(black_box(query.schedule())))
-    })
+    best(cases.len(), || prepared.iter().for_each(|query| drop(black_box(query.schedule()))))
 }
 
-/// The same from query text to plan text.
-fn from_text(texts: &[String]) -> f64 {
+/// The same from query text, and table text, to plan text.
+fn from_text(texts: &[Texts]) -> f64 {
     best(texts.len(), || texts.iter().for_each(plan_one))
 }
 
-fn plan_one(text: &String) {
-    drop(black_box(plan_text(&parse(black_box(text.as_bytes())).expect("an accepted text"))))
+fn plan_one(texts: &Texts) {
+    drop(black_box(plan_text(black_box(texts.query.as_bytes()), black_box(texts.table()))))
 }
 
 #[cfg(feature = "ours")]
-fn ours(texts: &[String]) -> Option<f64> {
+fn ours(texts: &[Texts]) -> Option<f64> {
     let mut out = [0; 20_600];
-    Some(best(texts.len(), || texts.iter().for_each(|text| plan_ours(text, &mut out))))
+    texts.iter().for_each(|texts| same(texts, &mut out));
+    Some(best(texts.len(), || texts.iter().for_each(|texts| plan_ours(texts, &mut out))))
+}
+
+/// Both plan the same.
+#[cfg(feature = "ours")]
+fn same(texts: &Texts, out: &mut [u8; 20_600]) {
+    let says = plan_text(texts.query.as_bytes(), texts.table()).expect("accepted texts");
+    let planned = rimdovek_sys::plan(texts.query.as_bytes(), texts.table(), out).expect("it is planned");
+    assert!(out[..planned.written] == *says.as_bytes(), "the plans differ");
 }
 
 #[cfg(feature = "ours")]
-fn plan_ours(text: &str, out: &mut [u8; 20_600]) {
-    _ = black_box(rimdovek_sys::plan(black_box(text.as_bytes()), out));
+fn plan_ours(texts: &Texts, out: &mut [u8; 20_600]) {
+    _ = black_box(rimdovek_sys::plan(black_box(texts.query.as_bytes()), black_box(texts.table()), out));
 }
 
 #[cfg(not(feature = "ours"))]
-fn plan_ours(_: &str, _: &mut [u8; 20_600]) {}
+fn plan_ours(_: &Texts, _: &mut [u8; 20_600]) {}
 
 #[cfg(not(feature = "ours"))]
-fn ours(_: &[String]) -> Option<f64> {
+fn ours(_: &[Texts]) -> Option<f64> {
     None
 }
 

@@ -55,7 +55,7 @@ fn line(name: &str, plan: &str, table: &str) {
     let ran = runner.run(&mut out);
     let tries = ran.tries as usize;
     let mut again = vec![0; ROOM];
-    let rust = 1_000.0 / best(tries, || drop(black_box(runner.run(black_box(&mut again)))));
+    let rust = 1_000.0 / best(tries, || _ = black_box(runner.run(black_box(&mut again))));
     match ours(plan, table, &ran, &out) {
         Some((ours, alone)) => println!(
             "{rust:>10.1}  {ours:>10.1}  {:>6.2}  {alone:>10.1}  {:>6.2}  {name}, {tries} tries, {} matches",

@@ -1,14 +1,15 @@
-//! The accepted cases of a file of cases against the Rust: one object a line, texts in base64.
-use oracle::{parse, plan_text, to_text};
+//! The accepted cases of a file of cases against the Rust: one object a line, texts in base64, the table null where none is handed in.
+use oracle::{Table, parse, plan_text, to_text};
 use std::fs;
 
 pub fn compare(file: &str) -> Result<(), String> {
     let text = fs::read_to_string(file).map_err(|e| format!("{file}: {e}"))?;
     let (mut accepted, mut refused) = (0, 0);
     for (number, line) in text.lines().enumerate() {
-        match after(line, "\"answer\":[\"ok\",\"") {
+        let line = line.replace(' ', "");
+        match after(&line, "\"answer\":[\"ok\",\"") {
             Some(plan) => {
-                case(number, line, plan)?;
+                case(number, &line, plan)?;
                 accepted += 1;
             }
             None => refused += 1,
@@ -25,8 +26,12 @@ fn case(number: usize, line: &str, plan: &str) -> Result<(), String> {
     if parse(to_text(&query).as_bytes()).as_ref() != Some(&query) {
         return Err(told("the query's own text reads otherwise"));
     }
+    let table = after(line, "\"table\":\"").and_then(decode);
+    if query.from_table && !reads_back(table.as_deref()) {
+        return Err(told("the table does not read, or its own text reads otherwise"));
+    }
     let says = decode(plan).ok_or("a case's plan is no base64")?;
-    let answer = plan_text(&query);
+    let answer = plan_text(&text, table.as_deref()).ok_or_else(|| told("the texts do not read"))?;
     if answer.as_bytes() != says {
         return Err(told(&format!(
             "the Rust plans\n{answer}and the case says\n{}for",
@@ -34,6 +39,11 @@ fn case(number: usize, line: &str, plan: &str) -> Result<(), String> {
         )));
     }
     Ok(())
+}
+
+fn reads_back(table: Option<&[u8]>) -> bool {
+    let table = table.and_then(Table::parse);
+    table.is_some_and(|table| Table::parse(table.to_text().as_bytes()) == Some(table))
 }
 
 /// The string that follows the mark, up to its quote.

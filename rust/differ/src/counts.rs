@@ -1,11 +1,13 @@
-//! What the queries and plans held, so that a reader sees what was covered.
+//! What the queries, tables and plans held, so that a reader sees what was covered.
+mod tables;
+
 use crate::never::{Reason, never_lowered};
-use oracle::generate::LONGEST;
+use oracle::generate::{Generated, LONGEST};
 use oracle::schedule::{IndexLookup, KeySample, PricedKey, Step};
 use oracle::{Atom, Query, Run};
 
 /// The table's lines, in their order; lines that stay 0 are printed too.
-const LINES: [&str; 77] = [
+const LINES: [&str; 108] = [
     "queries",
     "  without atoms",
     "  of 1 to 8 atoms",
@@ -83,6 +85,37 @@ const LINES: [&str; 77] = [
     "bytes of plan texts",
     "longest plan text",
     "most steps",
+    "tables",
+    "  without rows",
+    "  of 1 to 256 rows",
+    "  of 257 to 1,023 rows",
+    "  of 1,024 rows",
+    "  of 65,536 bytes in all",
+    "  that nothing asks for",
+    "bytes of table texts",
+    "rows of children",
+    "rows of a literal",
+    "  of an operator that the query has not",
+    "queries with frame 24",
+    "  that tally a measurement",
+    "  that reject a measurement",
+    "  that take a row's own class",
+    "  that take a child",
+    "  that take every element",
+    "  where a row lacks what is taken",
+    "  that probe a bucket of at most 256 rows",
+    "  that probe a bucket of more than 256 rows",
+    "buckets probed by position",
+    "buckets probed by containing",
+    "  of 0 rows",
+    "  of 1 to 254 rows",
+    "  of 255 rows",
+    "  of 256 rows",
+    "  of 257 rows",
+    "  of 1,000 rows",
+    "  of other numbers above 256",
+    "  whose told length is above 0",
+    "  whose told length is not the count",
 ];
 
 pub struct Counts([u64; LINES.len()]);
@@ -118,14 +151,18 @@ impl Counts {
         *place = (*place).max(n as u64);
     }
 
-    pub fn add(&mut self, query: &Query, text: &[u8], run: &Run) {
-        self.sizes(query, text, run);
+    pub fn add(&mut self, made: &Generated, run: &Run) {
+        let query = &made.query;
+        self.sizes(query, &made.text, run);
         query.atoms.iter().for_each(|atom| self.one(atom_line(atom)));
         run.trace.steps.iter().for_each(|step| self.step(step));
         run.trace.keys.iter().for_each(|key| self.one(key_line(key)));
         *self.at("keys priced") += run.trace.keys.len() as u64;
         self.rounds(query, run);
         self.never(query, run);
+        if let Some((table, text)) = &made.table {
+            self.table(query, table, text, run);
+        }
     }
 
     fn sizes(&mut self, query: &Query, text: &[u8], run: &Run) {

@@ -1,21 +1,21 @@
-//! Compares the proved planner with the Rust's, byte for byte, on generated queries, and counts what they met.
+//! Compares the proved planner with the Rust's, byte for byte, on generated queries, alone or with tables, and counts what they met.
 mod cases;
 mod counts;
 mod never;
 #[cfg(feature = "ours")]
 mod ours;
-#[cfg(feature = "ours")]
+#[cfg(any(test, feature = "ours"))]
 mod shrink;
 mod vectors;
 
 use counts::Counts;
-use oracle::Run;
-use oracle::generate::generate;
+use oracle::generate::{Generated, generate, generate_with_table};
+use oracle::{Run, Table};
 use std::env;
 use std::process::ExitCode;
 use std::time::Instant;
 
-const USAGE: &str = "usage: differ SEED COUNT | differ --vectors N DIR | differ --cases FILE";
+const USAGE: &str = "usage: differ [--tables] SEED COUNT | differ --vectors N DIR | differ --cases FILE";
 
 fn main() -> ExitCode {
     let words: Vec<String> = env::args().skip(1).collect();
@@ -23,7 +23,8 @@ fn main() -> ExitCode {
     let answer = match words[..] {
         ["--vectors", n, dir] => number(n).and_then(|n| vectors::write(n as usize, dir)),
         ["--cases", file] => cases::compare(file),
-        [seed, count] => number(seed).and_then(|seed| number(count).and_then(|count| compare(seed, count))),
+        ["--tables", seed, count] => compare(seed, count, generate_with_table),
+        [seed, count] => compare(seed, count, generate),
         _ => Err(USAGE.to_string()),
     };
     match answer {
@@ -39,11 +40,12 @@ fn number(word: &str) -> Result<u64, String> {
     word.parse().map_err(|_| USAGE.to_string())
 }
 
-fn compare(seed: u64, count: u64) -> Result<(), String> {
+fn compare(seed: &str, count: &str, make: fn(u64) -> Generated) -> Result<(), String> {
+    let (seed, count) = (number(seed)?, number(count)?);
     let start = Instant::now();
     let mut counts = Counts::default();
     for number in seed..seed + count {
-        query(number, &mut counts)?;
+        query(number, &make(number), &mut counts)?;
     }
     counts.print();
     println!("{:>13.1}  seconds", start.elapsed().as_secs_f64());
@@ -60,15 +62,27 @@ fn ending() -> &'static str {
 }
 
 /// One query on both sides.
-fn query(seed: u64, counts: &mut Counts) -> Result<(), String> {
-    let made = generate(seed);
-    let told = |message: String| format!("difference: seed {seed}: {message}\n{}", String::from_utf8_lossy(&made.text));
+fn query(seed: u64, made: &Generated, counts: &mut Counts) -> Result<(), String> {
+    let (table, table_text) = made.table.as_ref().map(|(table, text)| (table, &text[..])).unzip();
+    let told = |message: String| format!("difference: seed {seed}: {message}\n{}", texts(&made.text, table_text));
     if oracle::parse(&made.text).as_ref() != Some(&made.query) {
         return Err(told("the text reads back to another query".to_string()));
     }
-    let run = Run::new(&made.query).map_err(told)?;
+    if table_text.and_then(Table::parse).as_ref() != table {
+        return Err(told("the table's text reads back to another".to_string()));
+    }
+    let run = Run::new(&made.query, table).map_err(told)?;
     #[cfg(feature = "ours")]
-    ours::compare(seed, &made.text, &run).map_err(|message| told(message) + &ours::smaller(seed, made.query.clone()))?;
-    counts.add(&made.query, &made.text, &run);
+    ours::compare(seed, &made.text, table_text, &run).map_err(|message| told(message) + &ours::smaller(seed, &made.query, table))?;
+    counts.add(made, &run);
     Ok(())
+}
+
+/// A query's text, and its table's.
+fn texts(query: &[u8], table: Option<&[u8]>) -> String {
+    let query = String::from_utf8_lossy(query);
+    match table {
+        Some(table) => format!("{query}with the table\n{}", String::from_utf8_lossy(table)),
+        None => query.into_owned(),
+    }
 }

@@ -1,7 +1,7 @@
 //! Queries and the Rust's plans as files that the program `replay` inside the gate replays: a case a line, 03 and the text's bytes as
 //! hexadecimal; its answer is the plan.
 use oracle::generate::generate;
-use oracle::{line, parse, plan_text};
+use oracle::{line, plan_text};
 use std::fs;
 use std::path::Path;
 
@@ -26,10 +26,9 @@ pub fn write(n: usize, dir: &str) -> Result<(), String> {
         .into_iter()
         .chain((0..).map(|seed| generate(seed).text).filter(|text| text.len() <= LONGEST));
     for text in texts.take(n) {
-        let query = parse(&text).ok_or("a vector's text does not read")?;
         input += "03";
         input += &line(&text);
-        output += &plan_text(&query);
+        output += &plan_text(&text, None).ok_or("a vector's text does not read")?;
     }
     let folder = Path::new(dir);
     let put = |name: &str, text: &str| fs::write(folder.join(name), text).map_err(|e| format!("{dir}/{name}: {e}"));

@@ -1,20 +1,32 @@
-//! A query from its text. Accepted texts only are meant: the frames' form is looked at, limits and references are not.
+//! A query from its text, and the fields of frames. Accepted texts only are meant: the frames' form is looked at, limits and references are not.
 use crate::query::{Atom, Operand, Query, Settings};
 
 /// The query of an accepted text; none where a line is no frame.
 pub fn parse(text: &[u8]) -> Option<Query> {
-    let mut query = Query::default();
-    for (number, line) in text.strip_suffix(b"\n")?.split(|byte| *byte == b'\n').enumerate() {
-        let bytes = decode(line)?;
-        let (kind, rest) = bytes.split_first()?;
-        if (number == 0) != (*kind == 0) {
+    let (mut query, mut started) = (Query::default(), false);
+    each_frame(text, |kind, fields| {
+        if started == (kind == 0) {
             return None;
         }
+        started = true;
+        frame(&mut query, kind, fields)
+    })?;
+    started.then_some(query)
+}
+
+/// Reads each line's frame by its kind, and all its fields; a text may be empty.
+pub(crate) fn each_frame(text: &[u8], mut read: impl FnMut(u8, &mut Fields) -> Option<()>) -> Option<()> {
+    if text.is_empty() {
+        return Some(());
+    }
+    for line in text.strip_suffix(b"\n")?.split(|byte| *byte == b'\n') {
+        let bytes = decode(line)?;
+        let (kind, rest) = bytes.split_first()?;
         let mut fields = Fields(rest);
-        frame(&mut query, *kind, &mut fields)?;
+        read(*kind, &mut fields)?;
         fields.0.is_empty().then_some(())?;
     }
-    Some(query)
+    Some(())
 }
 
 /// The bytes that hexadecimal digits give.
@@ -24,7 +36,7 @@ pub fn decode(digits: &[u8]) -> Option<Vec<u8>> {
     digits.chunks(2).map(pair).collect()
 }
 
-struct Fields<'a>(&'a [u8]);
+pub(crate) struct Fields<'a>(&'a [u8]);
 
 impl Fields<'_> {
     fn bytes<const N: usize>(&mut self) -> Option<[u8; N]> {
@@ -32,13 +44,13 @@ impl Fields<'_> {
         self.0 = rest;
         Some(*first)
     }
-    fn byte(&mut self) -> Option<u8> {
+    pub fn byte(&mut self) -> Option<u8> {
         self.bytes().map(|[byte]| byte)
     }
-    fn word(&mut self) -> Option<u16> {
+    pub fn word(&mut self) -> Option<u16> {
         self.bytes().map(u16::from_be_bytes)
     }
-    fn long(&mut self) -> Option<u32> {
+    pub fn long(&mut self) -> Option<u32> {
         self.bytes().map(u32::from_be_bytes)
     }
     fn double(&mut self) -> Option<f64> {
@@ -51,7 +63,7 @@ impl Fields<'_> {
             _ => None,
         }
     }
-    fn list<T>(&mut self, item: fn(&mut Self) -> Option<T>) -> Option<Vec<T>> {
+    pub fn list<T>(&mut self, item: fn(&mut Self) -> Option<T>) -> Option<Vec<T>> {
         (0..self.byte()?).map(|_| item(self)).collect()
     }
     fn operands(&mut self) -> Option<Vec<Operand>> {
@@ -75,6 +87,7 @@ fn frame(query: &mut Query, kind: u8, f: &mut Fields) -> Option<()> {
         0x21 => drop(query.nodes.insert(f.byte()?, f.list(Fields::word)?)),
         0x22 => drop(query.classes.insert((f.word()?, f.byte()?, f.byte()?), f.list(Fields::word)?)),
         0x23 => drop(query.lengths.insert((f.word()?, f.byte()?, f.byte()?, f.byte()?), f.long()?)),
+        0x24 => query.from_table = true,
         _ => return None,
     }
     Some(())

@@ -1,8 +1,11 @@
 //! The Rust's plan as the document's plan text, and the costs behind it.
-use crate::prepare::{Prepared, Step};
+use crate::parse::parse;
+use crate::prepare::{Prepared, Step, Traced};
 use crate::query::{Query, count, line};
 use crate::resolve::{PatVar, RMult, RPredExpr};
 use crate::schedule::{IndexLookup, Trace};
+use crate::table::Table;
+use crate::watched::Asked;
 
 /// A plan text with the numbers of its header.
 #[derive(Clone, Debug, PartialEq, Eq)]
@@ -21,23 +24,29 @@ pub struct Cost {
     pub bits: u64,
 }
 
-/// An answer with the trace of the run that gave it.
+/// An answer with the trace of the run that gave it, and what was asked of the sampler.
 pub struct Run {
     pub answer: Answer,
     pub trace: Trace<u8, u8, u32>,
+    pub asked: Asked,
 }
 
 impl Run {
     /// Both by the unchanged entry and by the accessor; told apart if they ever part.
-    pub fn new(query: &Query) -> Result<Run, String> {
-        let prepared = Prepared::new(query);
+    pub fn new(query: &Query, table: Option<&Table>) -> Result<Run, String> {
+        let prepared = Prepared::new(query, table);
         let (plan, tallied, rejected) = prepared.tallied();
         let answer = written(query, &plan.steps, tallied, rejected);
-        let (trace, tallied, rejected) = prepared.traced();
+        let Traced {
+            trace,
+            tallied,
+            rejected,
+            asked,
+        } = prepared.traced();
         if written(query, &trace.steps, tallied, rejected) != answer {
             return Err("the accessor's plan is not the Rust's".to_string());
         }
-        Ok(Run { answer, trace })
+        Ok(Run { answer, trace, asked })
     }
 
     /// Every candidate of every round, in the order in which the Rust prices them.
@@ -54,18 +63,21 @@ impl Run {
     }
 }
 
-pub fn plan_text(query: &Query) -> String {
-    answer(query).text
+/// The plan text of accepted texts; none where one does not read, or frame 24 has no table. Without frame 24 no table is read.
+pub fn plan_text(query: &[u8], table: Option<&[u8]>) -> Option<String> {
+    let query = parse(query)?;
+    let table = if query.from_table { Some(Table::parse(table?)?) } else { None };
+    Some(answer(&query, table.as_ref()).text)
 }
 
-pub fn answer(query: &Query) -> Answer {
-    let (plan, tallied, rejected) = Prepared::new(query).tallied();
+pub fn answer(query: &Query, table: Option<&Table>) -> Answer {
+    let (plan, tallied, rejected) = Prepared::new(query, table).tallied();
     written(query, &plan.steps, tallied, rejected)
 }
 
 /// The costs behind the plan; see `Run::costs`.
-pub fn costs(query: &Query) -> Vec<Cost> {
-    Run::new(query).expect("the accessor follows the Rust").costs()
+pub fn costs(query: &Query, table: Option<&Table>) -> Vec<Cost> {
+    Run::new(query, table).expect("the accessor follows the Rust").costs()
 }
 
 /// The plan text of these steps and tallies.

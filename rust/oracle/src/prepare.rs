@@ -1,24 +1,37 @@
-//! A query in the Rust's own types, with a sampler over frames 21 to 23.
+//! A query in the Rust's own types, with its sampler.
 use crate::ast::{GlobalVarId, LitValVarId, MsetVarId, SeqVarId, SetVarId, VarId};
-use crate::index::{FanOuts, FastMap};
+use crate::index::FanOuts;
+use crate::index_sampler::IndexSampler;
 use crate::query::{Atom, Operand, Query};
 use crate::resolve::{MatchShape, PatVar, PredGuard, RAtom, RMult, RPredExpr, ResolvedQuery};
-use crate::schedule::{self, CrossSampler, IndexStats, KeySite, ProbePath, QueryPlan, SamplerConfig, Trace};
+use crate::schedule::{self, CrossSampler, IndexStats, QueryPlan, SamplerConfig, Trace};
+use crate::sheets::Sheets;
+use crate::table::Table;
+use crate::watched::{Asked, Watched};
 
 /// Operators, sorts and child positions are bytes, literal values four of them.
 pub type Plan = QueryPlan<u8, u8, u32>;
 pub type Step = schedule::Step<u8, u8, u32>;
 
 /// All that the Rust's planner is given.
-pub struct Prepared {
+pub struct Prepared<'a> {
     query: ResolvedQuery<u8, u8, u32>,
     stats: IndexStats<u8>,
-    sheets: Sheets,
+    sampler: Box<dyn CrossSampler<u8> + 'a>,
     settings: Option<SamplerConfig>,
 }
 
-impl Prepared {
-    pub fn new(query: &Query) -> Self {
+/// A traced run with its tallies, and what it asked the sampler.
+pub struct Traced {
+    pub trace: Trace<u8, u8, u32>,
+    pub tallied: u64,
+    pub rejected: u64,
+    pub asked: Asked,
+}
+
+impl<'a> Prepared<'a> {
+    /// The table is looked at where frame 24 asks for it; its index is made here.
+    pub fn new(query: &Query, table: Option<&'a Table>) -> Self {
         let mut shape = MatchShape::default();
         shape.nodes = vec![String::new(); query.variables.into()];
         let resolved = ResolvedQuery {
@@ -38,7 +51,7 @@ impl Prepared {
         Prepared {
             query: resolved,
             stats: stats(query),
-            sheets: sheets(query),
+            sampler: sampler(query, table),
             settings,
         }
     }
@@ -50,7 +63,7 @@ impl Prepared {
 
     /// The Rust's plan, under the settings of this thread.
     pub fn schedule(&self) -> Plan {
-        schedule::schedule_with_stats_sampled(&self.query, &self.stats, &self.sheets)
+        schedule::schedule_with_stats_sampled(&self.query, &self.stats, &*self.sampler)
     }
 
     /// The plan with its tallies.
@@ -62,64 +75,26 @@ impl Prepared {
         (plan, tallied, rejected)
     }
 
-    /// The traced run and its tallies.
-    pub fn traced(&self) -> (Trace<u8, u8, u32>, u64, u64) {
+    pub fn traced(&self) -> Traced {
         self.switch_sampling();
         schedule::reset_sample_tally();
-        let trace = schedule::schedule_traced(&self.query, &self.stats, &self.sheets);
+        let watched = Watched::new(&*self.sampler);
+        let trace = schedule::schedule_traced(&self.query, &self.stats, &watched);
         let (tallied, rejected) = schedule::sample_tally();
-        (trace, tallied, rejected)
-    }
-}
-
-/// Frames 21 to 23; what is absent is empty, or 0.
-struct Sheets {
-    nodes: Vec<Vec<usize>>,
-    classes: FastMap<(usize, u8, usize), Vec<usize>>,
-    lengths: FastMap<(usize, u8, usize, u8), usize>,
-}
-
-impl CrossSampler<u8> for Sheets {
-    fn driver_sample(&self, atom: usize, _op: u8, k: usize, out: &mut Vec<usize>) {
-        out.extend(self.nodes[atom].iter().take(k));
-    }
-
-    fn key_classes(&self, node: usize, site: KeySite, out: &mut Vec<usize>) {
-        let (site, pos) = match site {
-            KeySite::Node => (0, 0),
-            KeySite::Child(pos) => (1, pos),
-            KeySite::Element => (2, 0),
-        };
-        if let Some(classes) = self.classes.get(&(node, site, pos)) {
-            out.extend(classes);
+        Traced {
+            trace,
+            tallied,
+            rejected,
+            asked: watched.asked(),
         }
     }
-
-    fn probe_len(&self, class: usize, path: ProbePath, op: u8) -> usize {
-        let (path, pos) = match path {
-            ProbePath::ChildPos(pos) => (0, pos),
-            ProbePath::Contains => (1, 0),
-        };
-        self.lengths.get(&(class, path, pos, op)).copied().unwrap_or(0)
-    }
 }
 
-fn sheets(query: &Query) -> Sheets {
-    let wide = |list: &Vec<u16>| list.iter().map(|n| usize::from(*n)).collect::<Vec<_>>();
-    let of_atom = |atom: usize| query.nodes.get(&(atom as u8)).map(wide).unwrap_or_default();
-    Sheets {
-        nodes: (0..query.atoms.len()).map(of_atom).collect(),
-        classes: query
-            .classes
-            .iter()
-            .map(|((node, site, pos), list)| (((*node).into(), *site, (*pos).into()), wide(list)))
-            .collect(),
-        lengths: query
-            .lengths
-            .iter()
-            .map(|((class, path, pos, op), n)| (((*class).into(), *path, (*pos).into(), *op), *n as usize))
-            .collect(),
+fn sampler<'a>(query: &Query, table: Option<&'a Table>) -> Box<dyn CrossSampler<u8> + 'a> {
+    if query.from_table {
+        return Box::new(IndexSampler::new(table.expect("a table for frame 24")));
     }
+    Box::new(Sheets::new(query))
 }
 
 fn stats(query: &Query) -> IndexStats<u8> {

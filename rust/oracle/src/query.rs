@@ -112,9 +112,11 @@ pub struct Query {
     pub classes: BTreeMap<(u16, u8, u8), Vec<u16>>,
     /// Frame 23: the length by class, path, position and operator.
     pub lengths: BTreeMap<(u16, u8, u8, u8), u32>,
+    /// Frame 24: the samples come from a table, not from frames 21 to 23.
+    pub from_table: bool,
 }
 
-/// The query's text: header, atoms, statistics, settings, sheets.
+/// The query's text: header, atoms, statistics, settings, sheets or frame 24.
 pub fn to_text(query: &Query) -> String {
     frames(query).iter().map(|frame| line(frame)).collect()
 }
@@ -167,6 +169,7 @@ pub fn frames(query: &Query) -> Vec<Vec<u8>> {
             .iter()
             .map(|((class, path, pos, op), n)| join(&[&[0x23], &class.to_be_bytes(), &[*path, *pos, *op], &n.to_be_bytes()])),
     );
+    all.extend(query.from_table.then(|| vec![0x24]));
     all
 }
 
@@ -189,7 +192,7 @@ fn atom(atom: &Atom) -> Vec<u8> {
     }
 }
 
-fn join(parts: &[&[u8]]) -> Vec<u8> {
+pub(crate) fn join(parts: &[&[u8]]) -> Vec<u8> {
     parts.concat()
 }
 
@@ -197,7 +200,7 @@ pub(crate) fn count<T>(items: &[T]) -> u8 {
     u8::try_from(items.len()).expect("a list within the limits")
 }
 
-fn words(items: &[u16]) -> Vec<u8> {
+pub(crate) fn words(items: &[u16]) -> Vec<u8> {
     items.iter().flat_map(|item| item.to_be_bytes()).collect()
 }
 

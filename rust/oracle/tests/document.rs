@@ -3,8 +3,8 @@ use oracle::{costs, parse, plan_text, to_text};
 
 fn plan(text: &str) -> String {
     let query = parse(text.as_bytes()).expect("an accepted text");
-    assert_eq!(parse(to_text(&query).as_bytes()), Some(query.clone()));
-    plan_text(&query)
+    assert_eq!(parse(to_text(&query).as_bytes()), Some(query));
+    plan_text(text.as_bytes(), None).expect("an accepted text")
 }
 
 const WORKED: &str = "00040000\n0100010200010002\n010202010003\n10010000000a\n100200000064\n";
@@ -18,7 +18,7 @@ fn worked_example() {
 #[test]
 fn costs_of_the_worked_example() {
     let query = parse(WORKED.as_bytes()).expect("an accepted text");
-    let costs: Vec<(u16, u8, f64)> = costs(&query)
+    let costs: Vec<(u16, u8, f64)> = costs(&query, None)
         .iter()
         .map(|cost| (cost.round, cost.atom, f64::from_bits(cost.bits)))
         .collect();
@@ -43,14 +43,14 @@ fn selectivities() {
         let fan_out = f64::to_bits(fan_out);
         let text = format!("00010100\n01000101{}\n1001{full:08x}\n110000000010\n130100{fan_out:016x}\n", "0100");
         let query = parse(text.as_bytes()).expect("an accepted text");
-        assert_eq!(costs(&query)[0].bits, f64::to_bits(cost));
+        assert_eq!(costs(&query, None)[0].bits, f64::to_bits(cost));
     }
 }
 
 #[test]
 fn no_cardinality_is_two_to_the_64() {
     let query = parse(b"00010000\n01000100\n").expect("an accepted text");
-    assert_eq!(f64::from_bits(costs(&query)[0].bits), 18446744073709551616.0);
+    assert_eq!(f64::from_bits(costs(&query, None)[0].bits), 18446744073709551616.0);
 }
 
 /// Eq as atom 0 and a Plain as atom 1 in one eager round leave y without emitter, so nothing is tallied; the other way round it has one.

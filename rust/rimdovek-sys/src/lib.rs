@@ -9,10 +9,27 @@ mod c {
         pub safe fn rimdovek_splitmix64_state(state: u64) -> u64;
         pub safe fn rimdovek_splitmix64_draw(state: u64) -> u64;
         pub safe fn rimdovek_path_selectivity(measured: bool, fanout: u64, denom: u32) -> u64;
-        // A slice is a pointer and then a length.
+        // A slice is a pointer and then a length; `handed` says whether there is a table.
         pub fn rimdovek_estimate_draws(draws: *const f64, draws_len: usize, k: usize, bootstrap: usize, cv: u64, mean: *mut u64) -> u8;
-        pub fn rimdovek_plan(query: *const u8, query_len: usize, out: *mut u8, out_len: usize) -> u64;
-        pub fn rimdovek_round_costs(query: *const u8, query_len: usize, round: usize, costs: *mut u64, costs_len: usize) -> u64;
+        pub fn rimdovek_plan(
+            query: *const u8,
+            query_len: usize,
+            handed: bool,
+            table: *const u8,
+            table_len: usize,
+            out: *mut u8,
+            out_len: usize,
+        ) -> u64;
+        pub fn rimdovek_round_costs(
+            query: *const u8,
+            query_len: usize,
+            handed: bool,
+            table: *const u8,
+            table_len: usize,
+            round: usize,
+            costs: *mut u64,
+            costs_len: usize,
+        ) -> u64;
         pub fn rimdovek_run(
             plan: *const u8,
             plan_len: usize,
@@ -133,12 +150,24 @@ pub struct Planned {
     pub rejected: u16,
 }
 
-/// The plan of a query text, written into the lent output. No plan is longer than 20,565 bytes.
+/// The plan of a query text, written into the lent output. No plan is longer than 20,565 bytes. `table` is the text handed in beside the query,
+/// perhaps an empty one: frame 24 reads it and is refused (13) where there is none; without frame 24 it is not read.
 ///
 /// The C function's answer, accepted: from the highest bit, 0, fifteen bits of bytes written, and steps, tallied and rejected of sixteen each.
-pub fn plan(query: &[u8], out: &mut [u8]) -> Result<Planned, Refusal> {
-    // SAFETY: both pointers are of references that outlive the call, and the lengths are the slices'.
-    let answer = accepted(unsafe { c::rimdovek_plan(query.as_ptr(), query.len(), out.as_mut_ptr(), out.len()) })?;
+pub fn plan(query: &[u8], table: Option<&[u8]>, out: &mut [u8]) -> Result<Planned, Refusal> {
+    let rows = table.unwrap_or_default();
+    // SAFETY: the pointers are of references that outlive the call, and the lengths are the slices'.
+    let answer = accepted(unsafe {
+        c::rimdovek_plan(
+            query.as_ptr(),
+            query.len(),
+            table.is_some(),
+            rows.as_ptr(),
+            rows.len(),
+            out.as_mut_ptr(),
+            out.len(),
+        )
+    })?;
     let word = |place: u32| (answer >> (16 * place)) as u16;
     Ok(Planned {
         written: word(3).into(),
@@ -152,12 +181,24 @@ pub fn plan(query: &[u8], out: &mut [u8]) -> Result<Planned, Refusal> {
 pub const NO_COST: u64 = u64::MAX;
 
 /// The costs of round number `round` of a query text, from 0, as bits in the lent array: as far as it is long, and [`NO_COST`] for an atom that
-/// is no candidate and past the atoms. The atom chosen, or none where no atom is a candidate.
+/// is no candidate and past the atoms. The atom chosen, or none where no atom is a candidate. `table` is as in [`plan`].
 ///
 /// The C function's answer, accepted: the atom chosen, or 256.
-pub fn round_costs(query: &[u8], round: usize, costs: &mut [u64]) -> Result<Option<u8>, Refusal> {
-    // SAFETY: both pointers are of references that outlive the call, and the lengths are the slices'.
-    let answer = accepted(unsafe { c::rimdovek_round_costs(query.as_ptr(), query.len(), round, costs.as_mut_ptr(), costs.len()) })?;
+pub fn round_costs(query: &[u8], table: Option<&[u8]>, round: usize, costs: &mut [u64]) -> Result<Option<u8>, Refusal> {
+    let rows = table.unwrap_or_default();
+    // SAFETY: the pointers are of references that outlive the call, and the lengths are the slices'.
+    let answer = accepted(unsafe {
+        c::rimdovek_round_costs(
+            query.as_ptr(),
+            query.len(),
+            table.is_some(),
+            rows.as_ptr(),
+            rows.len(),
+            round,
+            costs.as_mut_ptr(),
+            costs.len(),
+        )
+    })?;
     Ok(u8::try_from(answer).ok())
 }
 

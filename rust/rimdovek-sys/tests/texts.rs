@@ -15,7 +15,7 @@ fn refusal<T>(number: u8, text: u8, line: u16) -> Result<T, Refusal> {
 #[test]
 fn worked_plan() {
     let mut out = [LENT; 200];
-    let planned = plan(QUERY, &mut out).expect("it is planned");
+    let planned = plan(QUERY, None, &mut out).expect("it is planned");
     assert_eq!((planned.written, planned.steps), (PLAN.len(), 5));
     assert_eq!(&out[..PLAN.len()], PLAN);
     assert!(out[PLAN.len()..].iter().all(|byte| *byte == LENT));
@@ -24,7 +24,7 @@ fn worked_plan() {
 #[test]
 fn refused_query() {
     let mut out = [LENT; 200];
-    assert_eq!(plan(b"", &mut out), refusal(2, 0, 0));
+    assert_eq!(plan(b"", None, &mut out), refusal(2, 0, 0));
     assert_eq!(out, [LENT; 200]);
 }
 
@@ -37,9 +37,9 @@ fn empty_query_fits_21_bytes() {
         tallied: 0,
         rejected: 0,
     };
-    assert_eq!(plan(b"00000000\n", &mut out[..20]), refusal(8, 0, 0));
+    assert_eq!(plan(b"00000000\n", None, &mut out[..20]), refusal(8, 0, 0));
     assert_eq!(out, [LENT; 21]);
-    assert_eq!(plan(b"00000000\n", &mut out), Ok(whole));
+    assert_eq!(plan(b"00000000\n", None, &mut out), Ok(whole));
     assert_eq!(&out, b"3f000000000000000000\n");
 }
 
@@ -47,11 +47,11 @@ fn empty_query_fits_21_bytes() {
 #[test]
 fn worked_costs() {
     let mut costs = [0; 3];
-    assert_eq!(round_costs(QUERY, 0, &mut costs), Ok(Some(0)));
+    assert_eq!(round_costs(QUERY, None, 0, &mut costs), Ok(Some(0)));
     assert_eq!(costs, [10f64.to_bits(), 100f64.to_bits(), NO_COST]);
-    assert_eq!(round_costs(QUERY, 1, &mut costs), Ok(None));
+    assert_eq!(round_costs(QUERY, None, 1, &mut costs), Ok(None));
     assert_eq!(costs, [NO_COST; 3]);
-    assert_eq!(round_costs(QUERY, usize::MAX, &mut costs[..1]), Ok(None));
+    assert_eq!(round_costs(QUERY, None, usize::MAX, &mut costs[..1]), Ok(None));
 }
 
 /// Without the first atom's child 2 as the second's node, the second is chosen in round 1, at its operator's cardinality times 0.5.
@@ -59,18 +59,56 @@ fn worked_costs() {
 fn costs_of_a_bound_child() {
     const APART: &[u8] = b"00040000\n0100010200010002\n010302010002\n10010000000a\n100200000064\n";
     let mut costs = [0; 2];
-    assert_eq!(round_costs(APART, 0, &mut costs), Ok(Some(0)));
+    assert_eq!(round_costs(APART, None, 0, &mut costs), Ok(Some(0)));
     assert_eq!(costs, [10f64.to_bits(), 100f64.to_bits()]);
-    assert_eq!(round_costs(APART, 1, &mut costs), Ok(Some(1)));
+    assert_eq!(round_costs(APART, None, 1, &mut costs), Ok(Some(1)));
     assert_eq!(costs, [NO_COST, 50f64.to_bits()]);
-    assert_eq!(round_costs(APART, 2, &mut costs), Ok(None));
+    assert_eq!(round_costs(APART, None, 2, &mut costs), Ok(None));
 }
 
 #[test]
 fn refused_query_has_no_costs() {
     let mut costs = [7; 2];
-    assert_eq!(round_costs(b"000", 0, &mut costs), refusal(1, 0, 1));
+    assert_eq!(round_costs(b"000", None, 0, &mut costs), refusal(1, 0, 1));
     assert_eq!(costs, [7; 2]);
+}
+
+/// Two atoms share a child: 2 rows of the first's operator by frame 10, 128 of the second's; one sample of all rows, without resamples.
+const SHARED: &[u8] = b"00030000\n010001010001\n010202010001\n100100000002\n100200000080\n200800000000000000000000\n24\n";
+/// The first's rows have the children 7 and 8, at position 0 of four rows of the second's operator and of none.
+const FOUR_AND_NONE: &[u8] = b"30000501010007\n30000601010008\n30000902010007\n30000a02010007\n30000b02010007\n30000c02010007\n";
+
+/// The draws 4 and 0 have the mean 2, so the second atom costs 2; from an empty table nothing is drawn, and it costs half of 128.
+#[test]
+fn samples_from_a_table() {
+    for (table, tallied, cost) in [(FOUR_AND_NONE, 1, 2.0_f64), (b"", 0, 64.0)] {
+        let (mut out, mut costs) = ([LENT; 200], [0; 2]);
+        let planned = plan(SHARED, Some(table), &mut out).expect("it is planned");
+        assert_eq!((planned.steps, planned.tallied, planned.rejected), (4, tallied, 0));
+        assert_eq!(round_costs(SHARED, Some(table), 1, &mut costs), Ok(Some(1)));
+        assert_eq!(costs, [NO_COST, cost.to_bits()]);
+    }
+}
+
+#[test]
+fn frame_24_wants_a_table() {
+    let (mut out, mut costs) = ([LENT; 200], [7; 2]);
+    assert_eq!(plan(SHARED, None, &mut out), refusal(13, 0, 7));
+    assert_eq!(round_costs(SHARED, None, 0, &mut costs), refusal(13, 0, 7));
+    assert_eq!((out, costs), ([LENT; 200], [7; 2]));
+}
+
+/// A table that frame 24 asks for is read before the plan's room is looked at; one that nothing asks for is not read.
+#[test]
+fn refused_table_of_a_plan() {
+    let (mut out, mut costs) = ([LENT; 200], [7; 2]);
+    let too_long = vec![b'0'; 65_537];
+    for (table, number, line) in [(&b"99\n"[..], 2, 1), (&too_long, 4, 0)] {
+        assert_eq!(plan(SHARED, Some(table), &mut out[..0]), refusal(number, 2, line));
+        assert_eq!(round_costs(SHARED, Some(table), 0, &mut costs), refusal(number, 2, line));
+        assert_eq!(plan(QUERY, Some(table), &mut [0; 200]), plan(QUERY, None, &mut [0; 200]));
+    }
+    assert_eq!((out, costs), ([LENT; 200], [7; 2]));
 }
 
 /// The run with an allowance: its status, tries, and whether it has the match.

@@ -1,4 +1,4 @@
--- `replay::run_case` meets its contract: the parts that are read are as long as they say.
+-- `replay::run_case` meets its contract.
 use Rattle.base.proofs.Lists.{taken}
 use borrow.Author.Needs.{needs}
 use Rattle.replay.proofs.run_case.Statement.{statement}
@@ -13,20 +13,20 @@ byte-at-requires c κs = search needs
 text-room-requires : tie.Need-text-room-requires
 text-room-requires c κs = search needs
 
-sub-run-numbers : tie.Need-sub-run-numbers
-sub-run-numbers c = search needs
+sub-two-texts : tie.Need-sub-two-texts
+sub-two-texts c = search needs
 
-part-run-numbers-start : tie.Need-part-run-numbers-start
-part-run-numbers-start c = search needs
+part-two-texts-start : tie.Need-part-two-texts-start
+part-two-texts-start c = search needs
 
-part-run-numbers-end : tie.Need-part-run-numbers-end
-part-run-numbers-end c = search needs
+part-two-texts-end : tie.Need-part-two-texts-end
+part-two-texts-end c = search needs
 
-slice-aggregate-run-numbers : tie.Need-slice-aggregate-run-numbers
-slice-aggregate-run-numbers c = search needs
+slice-aggregate-two-texts : tie.Need-slice-aggregate-two-texts
+slice-aggregate-two-texts c = search needs
 
-run-numbers-requires : tie.Need-run-numbers-requires
-run-numbers-requires c κs = search needs
+two-texts-requires : tie.Need-two-texts-requires
+two-texts-requires c κs = search needs
 
 same-length : tie.Need-same-length
 same-length c = search needs
@@ -51,6 +51,9 @@ slice-reshare-prefix-plan-case c = search needs
 
 slice-aggregate-plan-case : tie.Need-slice-aggregate-plan-case
 slice-aggregate-plan-case c = search taken
+
+slice-aggregate-plan-case-2 : tie.Need-slice-aggregate-plan-case-2
+slice-aggregate-plan-case-2 c = search needs
 
 plan-case-requires : tie.Need-plan-case-requires
 plan-case-requires c κs = search needs
@@ -89,11 +92,11 @@ run-case-spec =
     returns
     byte-at-requires
     text-room-requires
-    sub-run-numbers
-    part-run-numbers-start
-    part-run-numbers-end
-    slice-aggregate-run-numbers
-    run-numbers-requires
+    sub-two-texts
+    part-two-texts-start
+    part-two-texts-end
+    slice-aggregate-two-texts
+    two-texts-requires
     same-length
     returns-2
     sub-decode
@@ -102,6 +105,7 @@ run-case-spec =
     decode-requires
     slice-reshare-prefix-plan-case
     slice-aggregate-plan-case
+    slice-aggregate-plan-case-2
     plan-case-requires
     same-length-2
     returns-3

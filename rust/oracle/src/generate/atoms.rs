@@ -13,6 +13,15 @@ const FLAVOURS: [&[u8]; 7] = [
     &[1, 1, 1, 2, 3, 4, 5, 6, 12],
 ];
 
+/// The same, of queries whose atoms share variables.
+const JOINED: [&[u8]; 5] = [
+    &[1],
+    &[1, 1, 1, 1, 2, 3],
+    &[1, 1, 1, 7, 8, 9, 10, 11, 12, 13, 14],
+    &[7, 8, 9, 10, 11, 12, 13, 14],
+    &[1, 1, 1, 4, 5, 6, 7, 11, 13],
+];
+
 /// From what an atom is made.
 struct Making {
     kinds: &'static [u8],
@@ -47,6 +56,24 @@ pub fn loose(r: &mut Random, size: usize) -> Query {
         items: r.pick(&[1, 2, 3, 3, 4, 16]),
         percent_global: r.pick(&[0, 5, 20, 60]),
         own_nodes: r.chance(45),
+    };
+    query(r, &making, variables)
+}
+
+/// Nodes of their own over few variables, so that most Joins go by children and elements of atoms before.
+pub fn joined(r: &mut Random, size: usize) -> Query {
+    let variables = r.between(size + 1, 2 * size + 2).min(64);
+    let ops = r.between(1, 4);
+    let making = Making {
+        kinds: r.pick(&JOINED),
+        ops: (0..ops).map(|_| r.byte()).collect(),
+        variables,
+        globals: r.pick(&[0, 0, 1, 2]),
+        literals: r.pick(&[0, 1]),
+        atoms: size,
+        items: r.pick(&[1, 2, 2, 3, 3, 4, 16]),
+        percent_global: r.pick(&[0, 0, 5, 20]),
+        own_nodes: true,
     };
     query(r, &making, variables)
 }

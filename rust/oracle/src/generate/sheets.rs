@@ -4,6 +4,7 @@ use super::stats::{arity, operators};
 use crate::prepare::Prepared;
 use crate::query::{Query, Settings};
 use crate::random::Random;
+use crate::table::Table;
 
 /// Nodes and classes in use, and how dense the sheets are.
 struct Making {
@@ -53,12 +54,12 @@ pub fn full(r: &mut Random, query: &mut Query, k: u8, bootstrap: u16) {
 }
 
 /// A threshold at a spread that the guard meets, or next to it.
-pub fn threshold(r: &mut Random, query: &mut Query) {
+pub fn threshold(r: &mut Random, query: &mut Query, table: Option<&Table>) {
     let Some(settings) = query.settings else { return };
     if settings.bootstrap == 0 || !r.chance(40) {
         return;
     }
-    let spreads = Prepared::new(query).traced().0.spreads;
+    let spreads = Prepared::new(query, table).traced().trace.spreads;
     if spreads.is_empty() {
         return;
     }
@@ -72,7 +73,8 @@ pub fn threshold(r: &mut Random, query: &mut Query) {
     }
 }
 
-fn settings(r: &mut Random) -> Settings {
+/// Frame 20, with its edges.
+pub fn settings(r: &mut Random) -> Settings {
     let any = r.below(65) as u8;
     let resamples = r.below(257) as u16;
     let part = fraction(r);

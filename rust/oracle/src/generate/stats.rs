@@ -2,6 +2,7 @@
 use super::numbers::{Cardinalities, cardinalities, cardinality, fan_out};
 use crate::query::{Atom, Query};
 use crate::random::Random;
+use crate::table::Table;
 use std::collections::BTreeSet;
 
 /// Some of the statistics.
@@ -14,6 +15,14 @@ pub fn add(r: &mut Random, query: &mut Query) {
         query.op_card.insert(op, cardinality(r, how));
         query.by_child_pos.insert((op, pos), fan_out(r, 7));
         query.by_contains.insert(r.byte(), fan_out(r, 7));
+    }
+}
+
+/// Frame 10 as the table's rows are.
+pub fn counted(query: &mut Query, table: &Table) {
+    for op in operators(query) {
+        let rows = table.rows.iter().filter(|row| row.op() == op).count();
+        query.op_card.insert(op, rows as u32);
     }
 }
 

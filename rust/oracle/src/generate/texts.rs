@@ -1,6 +1,7 @@
-//! A query's text: frames in any order, either letter case, within the limit.
+//! A query's text, and a table's: frames in any order, either letter case, within the limit.
 use crate::query::{Query, frames, line};
 use crate::random::Random;
+use crate::table::{Row, Table};
 
 /// The most bytes of a text.
 pub const LONGEST: usize = 65_536;
@@ -47,11 +48,29 @@ fn size(query: &Query) -> usize {
     frames(query).iter().map(|frame| 2 * frame.len() + 1).sum()
 }
 
+/// The bytes of the rows' lines.
+pub fn table_size(rows: &[Row]) -> usize {
+    rows.iter().map(|row| 2 * row.frame().len() + 1).sum()
+}
+
 pub fn text(r: &mut Random, query: &Query) -> Vec<u8> {
     let mut frames = frames(query);
     if r.chance(60) {
         mix(r, &mut frames[1..]);
     }
+    lines(r, &frames)
+}
+
+/// The rows in their order, the other frames anywhere.
+pub fn table_text(r: &mut Random, table: &Table) -> Vec<u8> {
+    let mut frames: Vec<Vec<u8>> = table.rows.iter().map(Row::frame).collect();
+    for other in table.other_frames() {
+        frames.insert(r.below(frames.len() + 1), other);
+    }
+    lines(r, &frames)
+}
+
+fn lines(r: &mut Random, frames: &[Vec<u8>]) -> Vec<u8> {
     let letters = r.pick(&[0, 0, 50, 100]);
     let mut text: Vec<u8> = frames.iter().flat_map(|frame| line(frame).into_bytes()).collect();
     for byte in &mut text {

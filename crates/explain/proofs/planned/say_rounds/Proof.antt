@@ -5,10 +5,10 @@ use Rattle.explain.proofs.planned.say_rounds.Statement.{statement}
 use Rattle.explain.proofs.planned.say_rounds.Tie as tie
 
 abbrev Inv-loop : tie.InvT-loop
-Inv-loop text round₀ round = round ≤ 64
+Inv-loop text found table round₀ round = round ≤ 64
 
 abbrev μ-loop : tie.MeasureT-loop
-μ-loop text round₀ round = 64 - round
+μ-loop text found table round₀ round = 64 - round
 
 loop-holds : tie.Need-loop-holds Inv-loop μ-loop
 loop-holds c = search needs

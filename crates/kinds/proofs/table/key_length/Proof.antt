@@ -57,7 +57,11 @@ unfolding kindAt kinds
 returns-13 c = rw (c .match .keys13)
 
 returns-14 : tie.Need-returns-14
-returns-14 c = keyless _ (c .match .rest)
+unfolding kindAt kinds
+returns-14 c = rw (c .match .keys14)
+
+returns-15 : tie.Need-returns-15
+returns-15 c = keyless _ (c .match .rest)
 
 pub key-length-spec : {M : Type 1} → statement M
 key-length-spec =
@@ -76,4 +80,5 @@ key-length-spec =
     returns-11
     returns-12
     returns-13
-    returns-14)
+    returns-14
+    returns-15)

@@ -101,7 +101,11 @@ unfolding kindAt kinds
 returns-24 c = rw (c .match .keys24)
 
 returns-25 : tie.Need-returns-25
-returns-25 c = query-other _ (c .before .pre) (c .match .rest)
+unfolding kindAt kinds
+returns-25 c = rw (c .match .keys25)
+
+returns-26 : tie.Need-returns-26
+returns-26 c = query-other _ (c .before .pre) (c .match .rest)
 
 pub query-row-spec : {M : Type 1} → statement M
 query-row-spec =
@@ -131,4 +135,5 @@ query-row-spec =
     returns-22
     returns-23
     returns-24
-    returns-25)
+    returns-25
+    returns-26)

@@ -4,41 +4,28 @@ use Rattle.ordering.proofs.OrderLaws.{sheet-few, sheet-short}
 use borrow.Author.Needs.{needs}
 use Rattle.lent_planning.proofs.accepted.plan_accepted.Statement.{statement}
 use Rattle.lent_planning.proofs.accepted.plan_accepted.Tie as tie
-use Rattle.lent_planning.proofs.accepted.plan_accepted.Reads as reads
-use Rattle.lent_planning.proofs.accepted.plan_accepted.Lts as lts
-use Rattle.fitting.proofs.fit.plan_in_order.Reads as plan-in-order-reads
-use Rattle.ordering.proofs.order.plan_order.Reads as plan-order-reads
-use Rattle.placing.proofs.places.atom_places.Reads as atom-places-reads
 
--- src/accepted.rt:23:32
 slice-aggregate-atom-places : tie.Need-slice-aggregate-atom-places
 slice-aggregate-atom-places c = search needs
 
--- src/accepted.rt:23:9
 atom-places-requires : tie.Need-atom-places-requires
 atom-places-requires c κs = (sheet-few _ (c .before .before .before .before .pre .0), (refl, sheet-short _ (c .before .before .before .before .pre .0)))
 
--- src/accepted.rt:24:38
 slice-aggregate-plan-order : tie.Need-slice-aggregate-plan-order
 slice-aggregate-plan-order c = search needs
 
--- src/accepted.rt:24:9
 plan-order-requires : tie.Need-plan-order-requires
 plan-order-requires c κs = (c .before .before .before .before .before .before .before .pre .0, (c .before .before .atom-places .ensures, c .before .before .before .before .before .before .before .pre .1))
 
--- src/accepted.rt:25:26
 slice-aggregate-plan-in-order : tie.Need-slice-aggregate-plan-in-order
 slice-aggregate-plan-in-order c = search needs
 
--- src/accepted.rt:25:5
 plan-in-order-requires : tie.Need-plan-in-order-requires
 plan-in-order-requires c κs = (c .before .before .before .before .before .before .before .before .before .before .pre .0, (c .before .before .before .before .before .atom-places .ensures, c .before .before .plan-order .ensures))
 
--- src/accepted.rt:17:1
 same-length : tie.Need-same-length
 same-length c = search needs
 
--- src/accepted.rt:17:1
 returns : tie.Need-returns
 returns c = search needs
 

@@ -7,16 +7,14 @@ use Rattle.query.proofs.statistics.card_by.Statement.{statement}
 use Rattle.query.proofs.statistics.card_by.Tie as tie
 use Rattle.query.proofs.statistics.card_by.Reads as reads
 use Rattle.query.proofs.statistics.card_by.Lts as lts
-use Rattle.indexing.proofs.index.find_by.Reads as find-by-reads
-use Rattle.query.proofs.statistics.card_of.Reads as card-of-reads
 
 -- src/statistics.rt:55:35
-slice-aggregate-find-by : tie.Need-slice-aggregate-find-by
-slice-aggregate-find-by c = search needs
+slice-aggregate-find-in : tie.Need-slice-aggregate-find-in
+slice-aggregate-find-in c = search needs
 
 -- src/statistics.rt:55:13
-find-by-requires : tie.Need-find-by-requires
-find-by-requires c κs = (card-proper _ _ (c .before .before .before .pre .1), search needs)
+find-in-requires : tie.Need-find-in-requires
+find-in-requires c κs = (card-proper _ _ (c .before .before .before .pre .1), search needs)
 
 -- src/statistics.rt:55:5
 card-of-requires : tie.Need-card-of-requires
@@ -24,8 +22,8 @@ card-of-requires c κs = search needs
 
 -- src/statistics.rt:49:1
 returns : tie.Need-returns
-returns c = c .card-of .ensures ∙ ap cardOf (c .before .find-by .ensures)
+returns c = c .card-of .ensures ∙ ap cardOf (c .before .find-in .ensures)
 
 pub card-by-spec : {M : Type 1} → statement M
 card-by-spec =
-    tie.close (tie.spec slice-aggregate-find-by find-by-requires card-of-requires returns)
+    tie.close (tie.spec slice-aggregate-find-in find-in-requires card-of-requires returns)

@@ -6,53 +6,37 @@ use Rattle.round_costs.proofs.CostLaws.{told-ended, told-chosen}
 use borrow.Author.Needs.{needs}
 use Rattle.round_costs.proofs.rounds.costs_accepted.Statement.{statement}
 use Rattle.round_costs.proofs.rounds.costs_accepted.Tie as tie
-use Rattle.round_costs.proofs.rounds.costs_accepted.Reads as reads
-use Rattle.round_costs.proofs.rounds.costs_accepted.Lts as lts
-use Rattle.cost_bits.proofs.told.put_round.Reads as put-round-reads
-use Rattle.ordering.proofs.order.find_order.Reads as find-order-reads
-use Rattle.placing.proofs.places.atom_places.Reads as atom-places-reads
 
--- src/rounds.rt:43:32
 slice-aggregate-atom-places : tie.Need-slice-aggregate-atom-places
 slice-aggregate-atom-places c = search needs
 
--- src/rounds.rt:43:9
 atom-places-requires : tie.Need-atom-places-requires
 atom-places-requires c κs = (sheet-few _ (c .before .before .before .before .pre .0), (refl, sheet-short _ (c .before .before .before .before .pre .0)))
 
--- src/rounds.rt:45:38
 slice-aggregate-find-order : tie.Need-slice-aggregate-find-order
 slice-aggregate-find-order c = search needs
 
--- src/rounds.rt:45:55
 slice-aggregate-find-order-2 : tie.Need-slice-aggregate-find-order-2
 slice-aggregate-find-order-2 c = search needs
 
--- src/rounds.rt:45:9
 find-order-requires : tie.Need-find-order-requires
 find-order-requires c κs = (c .before .before .before .before .before .before .before .before .pre .0, (c .before .before .before .atom-places .ensures, c .before .before .before .before .before .before .before .before .pre .1))
 
--- src/rounds.rt:46:24
 slice-aggregate-put-round : tie.Need-slice-aggregate-put-round
 slice-aggregate-put-round c = search needs
 
--- src/rounds.rt:46:5
 put-round-requires : tie.Need-put-round-requires
 put-round-requires c κs = omega (arith, (places-located _ _ _ (c .before .before .before .before .before .before .before .before .before .before .before .before .pre .0) (c .before .before .before .before .before .before .before .atom-places .ensures)) .few, c .before .before .costs2 .given)
 
--- src/rounds.rt:48:9
 same-length : tie.Need-same-length
 same-length c = search needs
 
--- src/rounds.rt:48:9
 returns : tie.Need-returns
 returns c = told-ended _ _ _ _ (c .before .before .before .before .before .before .before .before .find-order .ensures) _ _ _ (c .if1 .taken) (c .before .before .before .before .put-round .ensures)
 
--- src/rounds.rt:37:1
 same-length-2 : tie.Need-same-length-2
 same-length-2 c = search needs
 
--- src/rounds.rt:37:1
 returns-2 : tie.Need-returns-2
 returns-2 c = told-chosen _ _ _ _ (c .before .before .before .before .before .before .before .before .find-order .ensures) _ _ _ ((places-located _ _ _ (c .before .before .before .before .before .before .before .before .before .before .before .before .before .before .before .before .before .pre .0) (c .before .before .before .before .before .before .before .before .before .before .before .before .atom-places .ensures)) .count) (omega (arith, (places-located _ _ _ (c .before .before .before .before .before .before .before .before .before .before .before .before .before .before .before .before .before .pre .0) (c .before .before .before .before .before .before .before .before .before .before .before .before .atom-places .ensures)) .few, c .before .before .before .before .before .before .before .costs2 .given)) (c .if1 .left) (c .before .before .before .before .put-round .ensures)
 

@@ -1,6 +1,6 @@
 -- `second_reading::lines::second_fault` meets its contract.
 use Rattle.frames.proofs.FrameLaws.{tests-here}
-use Rattle.second_reading.proofs.SecondLaws.{fault-5, fault-6, fault-7, fault-none}
+use Rattle.second_reading.proofs.SecondLaws.{fault-5, fault-6, fault-7, fault-13, fault-none, fault-table}
 use borrow.Author.Needs.{needs}
 use Rattle.second_reading.proofs.lines.second_fault.Statement.{statement}
 use Rattle.second_reading.proofs.lines.second_fault.Tie as tie
@@ -32,6 +32,12 @@ returns-3 c = search fault-7
 returns-4 : tie.Need-returns-4
 returns-4 c = search fault-none
 
+returns-5 : tie.Need-returns-5
+returns-5 c = search fault-table
+
+returns-6 : tie.Need-returns-6
+returns-6 c = search fault-13
+
 pub second-fault-spec : {M : Type 1} → statement M
 second-fault-spec =
     tie.close
@@ -44,4 +50,6 @@ second-fault-spec =
     returns-2
     key-given-requires
     returns-3
-    returns-4)
+    returns-4
+    returns-5
+    returns-6)

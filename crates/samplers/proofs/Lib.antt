@@ -1,0 +1,4 @@
+pub mod SheetLaws
+pub mod RowClasses
+pub mod BucketLaws
+pub mod AskLaws

@@ -1,0 +1,3 @@
+pub mod TableSamples
+pub mod Samplers
+pub mod Answers
