@@ -1,13 +1,13 @@
 -- A plan of an accepted query as the runner reads it: its text is accepted, and gives the scheduler's steps and the query's counts; the planner's plan is
 -- one by a fair choice. Proved from what is said of the plan as written.
-use Prim.Native.Nat.{ℕ, _+_, _*_, _/_, _%_, _<_}
+use Prim.Native.Nat.{ℕ, _+_, _<_}
 use mathlib.Core.Path.{_≡_, refl, ap, _∙_}
 use mathlib.Core.Option.{Option}
 use mathlib.Core.List.{List, map}
 use native.Mathlib.Omega.{arith}
 use lib.ListN.{length, getD}
-use Rattle.hex.specs.Digits.{bytesOf, digitValue, hexDigit}
-use Rattle.hex.proofs.Bytes.{digit-read}
+use Rattle.hex.specs.Digits.{bytesOf}
+use Rattle.hex.proofs.Bytes.{byte-back}
 use Rattle.first_reading.specs.First.{framesOf, firstLine}
 use Rattle.frame_tests.specs.declared.tests.Text.the-variants.{Query, Plan}
 use Rattle.first_reading.specs.declared.first.Reading.the-variants.{Accepted}
@@ -25,10 +25,6 @@ use Rattle.fitting.specs.Planner.{given, stepsOf, talliedOf, rejectedOf, planOf
 use Rattle.ordering.proofs.Accepted.{few-keys}
 use Rattle.running.specs.Tables.{countsIn, lineCounts, planSteps, stepsIn}
 use Rattle.fair_plans.specs.Terms.{planFor, FairPlan, fairSteps, lineOf}
-
--- a byte from its digits
-byte-back : (v : ℕ) → v < 256 → digitValue (hexDigit (v / 16)) % 16 * 16 + digitValue (hexDigit (v % 16)) % 16 ≡ v
-byte-back v h = rw (digit-read (v / 16) (omega arith), digit-read (v % 16) (omega arith)) (omega arith)
 
 -- the header's counts, in a plan's text
 module _ (v g l t r : ℕ) (ss : List Step) where

@@ -1,15 +1,17 @@
 -- The bytes of a line of digits by their places; what is written is read back. Assumes nothing.
 use Prim.Native.Nat.{ℕ, zero, suc, _+_, _*_, _/_, _%_, _<_, _≤_}
 use mathlib.Core.Path.{_≡_, refl, sym, _∙_}
-use mathlib.Core.List.{List, [], _∷_, map}
+use mathlib.Core.List.{List, [], _∷_}
 use native.Mathlib.Omega.{arith}
-use lib.ListN.{length, getD, take, List·getD-map, List·getD-eq-default}
+use lib.ListN.{length, getD, take, List·getD-eq-default}
 use lib.Seq.{take-nil}
 use lib.Dec.{T, ltb, ltb→lt}
 use lib.Pow.{areBytes}
-use borrow.Author.Tests.{lt-ltb}
-use Rattle.base.proofs.TableLaws.{entry, both-left, both-right}
-use Rattle.hex.specs.Digits.{digitValue, bytesOf, hexDigits, hexDigit, digitsOf}
+use borrow.Author.Tests.{lt-ltb, ltb-true, ltb-false}
+use Rattle.base.proofs.TableLaws.{both-left, both-right}
+use Rattle.base.proofs.ChooseLaws.{pick-elim}
+use Rattle.hex.specs.Digits.{digitValue, bytesOf, hexDigit, digitsOf}
+use Rattle.hex.proofs.Laws.{value-digit, value-lower}
 
 pub bytes-length : (l : List ℕ) → length (bytesOf l) ≡ length l / 2
 bytes-length [] = refl
@@ -60,19 +62,23 @@ digits-length (b ∷ f) = let h = digits-length f in omega arith
 
 -- ---- what is written is read back
 
--- the value of the digit that is written for v
-valueRead : ℕ → ℕ
-valueRead d = digitValue d % 16
+-- the digit that is written for a value has that value
+pub digit-read : (v : ℕ) → v < 16 → digitValue (hexDigit v) ≡ v
+digit-read v h =
+    pick-elim (λ (d : ℕ). digitValue d ≡ v) (ltb v 10) (48 + v) (87 + v)
+    (λ e. let k = ltb-true v 10 e in sym (value-digit (48 + v) (omega arith) (omega arith) .0) ∙ omega arith)
+    (λ e. let k = ltb-false v 10 e in sym (value-lower (87 + v) (omega arith) (omega arith) .0) ∙ omega arith)
 
-pub digit-read : (v : ℕ) → v < 16 → digitValue (hexDigit v) % 16 ≡ v
-unfolding valueRead
-digit-read v h = sym (List·getD-map valueRead hexDigits v 0) ∙ entry (λ (i : ℕ). i) (map valueRead hexDigits) tt v h
+-- no digit comes before 0, whatever it is written for
+pub digit-above : (v : ℕ) → 48 ≤ hexDigit v
+digit-above v = pick-elim (λ (d : ℕ). 48 ≤ d) (ltb v 10) (48 + v) (87 + v) (λ e. omega arith) (λ e. omega arith)
+
+-- a byte from its two digits
+pub byte-back : (b : ℕ) → b < 256 → digitValue (hexDigit (b / 16)) % 16 * 16 + digitValue (hexDigit (b % 16)) % 16 ≡ b
+byte-back b h = rw (digit-read (b / 16) (omega arith), digit-read (b % 16) (omega arith)) (omega arith)
 
 pub bytes-read : (f : List ℕ) → T (areBytes f) → bytesOf (digitsOf f) ≡ f
 bytes-read [] t = refl
 bytes-read (b ∷ f) t =
     let h : b < 256 = ltb→lt b 256 (both-left (ltb b 256) (areBytes f) t) in
-    let p : digitValue (hexDigit (b / 16)) % 16 ≡ b / 16 = digit-read (b / 16) (omega arith) in
-    let q : digitValue (hexDigit (b % 16)) % 16 ≡ b % 16 = digit-read (b % 16) (omega arith) in
-    let r : b / 16 * 16 + b % 16 ≡ b = omega arith in
-    rw (p, q, r, bytes-read f (both-right (ltb b 256) (areBytes f) t))
+    rw (byte-back b h, bytes-read f (both-right (ltb b 256) (areBytes f) t))

@@ -6,26 +6,6 @@ ghost use Rattle.hex.specs.Digits.{digitValue, hexDigit, shortAt, wordAt
 
 pub mod line;
 
-// The digits that are written.
-const DIGITS: [u8; 16] = [
-    b'0',
-    b'1',
-    b'2',
-    b'3',
-    b'4',
-    b'5',
-    b'6',
-    b'7',
-    b'8',
-    b'9',
-    b'a',
-    b'b',
-    b'c',
-    b'd',
-    b'e',
-    b'f',
-];
-
 // What a byte counts as a digit, of either letter case: 16 where it is none.
 pub fn digit_value(b: u8) -> u8
     ensures { λ r. ⌜ (r ≡ digitValue b) × (r ≤ 16) ⌝ }
@@ -55,7 +35,11 @@ pub fn digit_value(b: u8) -> u8
 pub fn hex_digit(v: u8) -> u8
     ensures { λ r. ⌜ r ≡ hexDigit (v % 16) ⌝ }
 {
-    DIGITS[(v % 16) as usize]
+    let digit = v % 16;
+    if digit < 10 {
+        return 48 + digit;
+    }
+    87 + digit
 }
 
 // The i-th byte of a frame, and 0 past its end.

@@ -5,15 +5,14 @@ use mathlib.Core.Bool.{true, false}
 use mathlib.Core.List.{List, [], _∷_, _++_, map}
 use native.Mathlib.Omega.{arith}
 use native.Mathlib.Nat.{zero-add}
-use lib.ListN.{length, take, length-append, List·getD-map, getD-replicate}
+use lib.ListN.{length, take, length-append}
 use lib.Seq.{take-append-seam}
 use lib.Dec.{T, eqb, ltb}
 use lib.Pow.{areBytes}
 use borrow.Author.Tests.{ltb-true, ne-eqb, eq-eqb}
-use Rattle.base.proofs.Lists.{blank-at}
-use Rattle.hex.specs.Digits.{digitValue, bytesOf, hexDigits, hexDigit, digitsOf}
+use Rattle.hex.specs.Digits.{digitValue, bytesOf, hexDigit, digitsOf}
 use Rattle.hex_lines.specs.Lines.{split, withLine, allDigits, isHex, endOf}
-use Rattle.hex.proofs.Bytes.{bytes-read, digits-length}
+use Rattle.hex.proofs.Bytes.{digit-read, digit-above, bytes-read, digits-length}
 use Rattle.hex_lines.proofs.Cuts.{end-is}
 use Rattle.first_reading.specs.First.{framesOf, firstLine}
 use Rattle.model.proofs.Bools.{first, second}
@@ -24,10 +23,10 @@ use Rattle.plans.specs.PlanText.{textOf, textLength}
 
 -- no digit is the byte 0a
 digit-inside : (v : ℕ) → eqb (hexDigit v) 10 ≡ false
-digit-inside v = sym (List·getD-map (λ (d : ℕ). eqb d 10) hexDigits v 0) ∙ blank-at 16 false v
+digit-inside v = ne-eqb (hexDigit v) 10 (λ e. omega (arith, digit-above v))
 
 is-digit : (v : ℕ) → v < 16 → eqb (digitValue (hexDigit v)) 16 ≡ false
-is-digit v h = sym (List·getD-map (λ (d : ℕ). eqb (digitValue d) 16) hexDigits v 0) ∙ getD-replicate 16 v false true h
+is-digit v h = rw (digit-read v h) (ne-eqb v 16 (λ e. omega arith))
 
 digits-all : (f : List ℕ) → areBytes f ≡ true → allDigits (digitsOf f) ≡ true
 digits-all [] h = refl
