@@ -1,18 +1,20 @@
 -- What is found among a query's frames is found where a table's follow, and the rows are the table's. Proved by the kinds of their texts.
-use Prim.Native.Nat.{ℕ, suc, _<_}
+use Prim.Native.Nat.{ℕ, zero, suc, _+_, _<_, _≤_}
 use mathlib.Core.Path.{_≡_, refl, sym, _∙_, ap}
 use mathlib.Core.Bool.{Bool, true, false}
-use mathlib.Core.List.{List, [], _∷_, _++_}
+use mathlib.Core.List.{List, [], _∷_, _++_, append-assoc}
 use native.Mathlib.Omega.{arith}
-use lib.ListN.{length, getD}
+use lib.ListN.{length, getD, drop, length-append, length-drop, take-append-drop}
+use lib.Seq.{drop-append-seam}
 use lib.Dec.{eqb}
 use borrow.Author.Tests.{eqb-true}
 use Rattle.base.specs.Choose.{pick}
 use Rattle.base.proofs.ChooseLaws.{both-hold}
 use Rattle.kinds.specs.Kinds.{kindAt, kinds, query, table}
-use Rattle.frames.specs.Sheet.{framesIn, laidOut, Whole}
-use Rattle.row_indexing.proofs.TableLaws.{laid-all, frames-before}
-use Rattle.frame_keys.specs.Keys.{begins, find, isFound}
+use Rattle.frames.specs.Frames.{frameLength}
+use Rattle.frames.specs.Sheet.{framesIn, framesUpTo, laidOut, Whole}
+use Rattle.frames.proofs.SheetLaws.{length-some, frame-before, frames-step}
+use Rattle.frame_keys.specs.Keys.{begins, find}
 use Rattle.frame_tests.specs.Faults.{isAtom, isRow, belongs, textNumber}
 use Rattle.frame_tests.specs.declared.tests.Text.{Text}
 use Rattle.first_reading.specs.First.{framesOf}
@@ -20,10 +22,9 @@ use Rattle.first_reading.specs.declared.first.Reading.the-variants.{Accepted}
 use Rattle.second_reading.specs.Second.{reading}
 use Rattle.reading_facts.proofs.Whole.{accepted}
 use Rattle.records.specs.Items.{Each}
-use Rattle.records.specs.Rows.{rowOf, rowsIn}
-use Rattle.given.specs.Asks.{asksTable}
+use Rattle.records.specs.Rows.{rowsIn}
 use Rattle.given.specs.Given.{QueryKey}
-use Rattle.cost.specs.QueryAtoms.{atomFrames, atomOfFrame, atomsIn}
+use Rattle.cost.specs.QueryAtoms.{atomFrames, atomsIn}
 use Rattle.lowering.proofs.AtomLaws.{by-kind}
 use Rattle.behind.specs.Behind.{FramesOf}
 
@@ -42,6 +43,30 @@ frames-of t x n c ok =
     each-by (λ f. kindAt (getD f 0 0) .text ≡ textNumber t) [] (framesOf x) (λ i h. of-text t (eqb i 0) _ (w .formed i (omega (arith, w .lines)) .place))
 
 -- ---- two sheets, one behind the other
+
+laid-up-to : (n : ℕ) (s : List ℕ) → length s ≤ n → laidOut (framesUpTo n s) ≡ s
+unfolding framesUpTo
+laid-up-to zero [] h = refl
+laid-up-to zero (b ∷ s) h = absurd (omega arith)
+laid-up-to (suc n) [] h = refl
+laid-up-to (suc n) (b ∷ s) h =
+    let k = frameLength (b ∷ s) in
+    rw (laid-up-to n (drop k (b ∷ s)) (omega (arith, length-drop k (b ∷ s), length-some (b ∷ s)))) (take-append-drop k (b ∷ s))
+
+-- the frames of a sheet make up the sheet
+laid-all : (s : List ℕ) → laidOut (framesIn s) ≡ s
+unfolding framesIn
+laid-all s = laid-up-to (length s) s (omega arith)
+
+-- whole frames do not depend on what stands behind them
+frames-before : (fs : List (List ℕ)) (t : List ℕ) → Whole fs → framesIn (laidOut fs ++ t) ≡ fs ++ framesIn t
+frames-before [] t w = refl
+frames-before (f ∷ fs) t w =
+    let a : (f ++ laidOut fs) ++ t ≡ f ++ (laidOut fs ++ t) = append-assoc f (laidOut fs) t in
+    let l : 0 < length (f ++ (laidOut fs ++ t)) = omega (arith, length-append f (laidOut fs ++ t), w .0, length-some f) in
+    rw a (frames-step (f ++ (laidOut fs ++ t)) 0 l f (sym (frame-before f (laidOut fs ++ t) (w .0)))
+    ∙ ap (λ (s : List ℕ). f ∷ framesIn s) (let z : 0 + length f ≡ length f = omega arith in rw z (drop-append-seam f (laidOut fs ++ t)))
+    ∙ ap (λ (gs : List (List ℕ)). f ∷ gs) (frames-before fs t (w .1)))
 
 pub frames-behind : (fs : List (List ℕ)) (q y : List ℕ) → framesIn q ≡ fs → Whole fs → framesIn (q ++ y) ≡ fs ++ framesIn y
 frames-behind fs q y e w =
@@ -84,10 +109,6 @@ pub find-behind : (k : List ℕ) (fs ts : List (List ℕ)) → QueryKey k → Fr
 unfolding kindAt
 find-behind [] fs ts q h = absurd (omega (arith, q .proper .keyed))
 find-behind (b ∷ k) fs ts q h = find-cons b k fs ts (q .of-query) h
-
-pub takes-behind : (fs ts : List (List ℕ)) → FramesOf table ts → asksTable (fs ++ ts) ≡ asksTable fs
-unfolding kindAt
-takes-behind fs ts h = ap isFound (find-cons 0x24 [] fs ts refl h)
 
 -- ---- atoms and rows
 

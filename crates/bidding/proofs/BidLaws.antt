@@ -8,7 +8,7 @@ use Rattle.base.specs.Choose.{pick}
 use Rattle.model.specs.Atoms.{Atom}
 use Rattle.model.specs.Bound.{Bound, has}
 use Rattle.model.specs.Scheduling.{scans}
-use Rattle.cost.specs.Choice.{isCandidate}
+use Rattle.model.specs.Cheapest.{isCandidate}
 use Rattle.item_pricing.specs.declared.items.Costed.{Costed as CostedAs}
 use Rattle.bidding.specs.declared.bid.Best.{Best}
 use Rattle.bidding.specs.Bidding.{bidOf, orBest, betterOf}

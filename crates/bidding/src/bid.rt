@@ -2,7 +2,7 @@
 ghost use mathlib.Core.Path.{_≡_};
 ghost use Prim.Native.Nat.{_<_};
 ghost use Rattle.cost.specs.QueryAtoms.{atomOfFrame};
-ghost use Rattle.cost.specs.Choice.{isCandidate};
+ghost use Rattle.model.specs.Cheapest.{isCandidate};
 ghost use Rattle.lowering.specs.AtomLines.{AtomLine};
 ghost use Rattle.bidding.specs.Bidding.{betterOf};
 use binding::sets::is_set;

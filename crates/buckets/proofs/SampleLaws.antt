@@ -19,7 +19,7 @@ use Rattle.row_frames.specs.declared.row.Want.{Want}
 use Rattle.row_frames.specs.Wanted.{wanted}
 use Rattle.buckets.specs.Buckets.{numbersFrom, strided, hits, StrideRoom, NumbersRoom}
 use Rattle.buckets.specs.RowIndex.{rowAt, nextAt, headAt, chainFrom, inSlot, slotFor, RowsIndexed}
-use Rattle.buckets.proofs.NumberLaws.{each-at, numbers-few, numbers-below, strided-length, strided-at, stride-below, strided-below, keep, keep-numbers}
+use Rattle.buckets.proofs.NumberLaws.{each-at, numbers-few, numbers-below, strided-length, strided-at, stride-below, keep, keep-numbers}
 use Rattle.buckets.proofs.IndexLaws.{slot-below, wanted-slot, chain-more, chain-none}
 use Rattle.row_frames.proofs.RowLaws.{row-op}
 
@@ -167,10 +167,6 @@ module _ (rs : List Row) (s i : List ℕ) (w : Want) (n m : ℕ) (out₀ : List 
                   ∙ rw (u, room .many) (sym (strided-at m (numbers rs w) j h))
 
 -- ---- how many have an operator
-
--- those that were taken are numbers of rows
-pub strided-room : (p : Row → Bool) (rs : List Row) (m : ℕ) (out : List ℕ) → m ≤ length (numbersFrom p 0 rs) → m ≤ length out → take m out ≡ strided m (numbersFrom p 0 rs) → NumbersRoom (length rs) m out
-strided-room p rs m out l h e = record { room = h; below = rw e (strided-below p rs m l) }
 
 pub record Hitting (rs : List Row) (o m : ℕ) (rows : List ℕ) (n i : ℕ) : Type 0 where
   pub low : i ≤ m

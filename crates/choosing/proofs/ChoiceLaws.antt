@@ -18,14 +18,14 @@ use Rattle.model.specs.Atoms.{Atom}
 use Rattle.model.specs.Bound.{Bound}
 use Rattle.model.specs.Scheduling.{atomOf, numbers}
 use Rattle.model.proofs.TabulateLaws.{tabulate-at, tabulate-length}
-use Rattle.model.specs.Cheapest.{Bid, Scan}
+use Rattle.model.specs.Cheapest.{Bid, Scan, isCandidate}
 use Rattle.query.specs.declared.statistics.Sampled.{Sampled}
 use Rattle.cost.specs.QueryAtoms.{atomOfFrame}
 use Rattle.cost.specs.Emitters.{Emitters}
 use Rattle.cost.specs.Sampling.{Tally}
 use Rattle.cost.specs.Costs.{estimateCost}
 use Rattle.cost.specs.Memo.{tallyAt}
-use Rattle.cost.specs.Choice.{isCandidate, offer, offered, offers}
+use Rattle.cost.specs.Choice.{offer, offered, offers}
 use Rattle.cost.specs.declared.memo.Sampling.{Sampling}
 use Rattle.plan_facts.proofs.Remembered.{Grows, grows-self, cost-grows}
 use Rattle.passes.specs.Eager.{Located, sheetAtoms}

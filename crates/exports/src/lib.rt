@@ -1,5 +1,5 @@
 // The C functions of the static library: the planner, the runner and their numbers, for programs outside the prover. None asks anything of
-// its caller; doubles travel as their bits.
+// its caller. A double travels as its bits, but for the draws, an array of doubles.
 ghost use mathlib.Core.Path.{_≡_};
 ghost use Rattle.splitmix.specs.SplitMix.{nextState, drawAt};
 ghost use Rattle.sqrt.specs.Sqrt.{sqrt as sqrtOf};

@@ -1,8 +1,8 @@
 // The runner for programs outside the prover: one call from plan text and table text to match lines.
 ghost use mathlib.Core.Path.{_≡_};
-ghost use Rattle.running.specs.Run.{run as runOf};
+ghost use Rattle.running.specs.Run.{triesIn, matchesIn, run as runOf};
 ghost use Rattle.run_answers.specs.Atoms.{modeFrom};
-ghost use Rattle.run_answers.specs.Runs.{packedRun, triesIn, matchesIn};
+ghost use Rattle.run_answers.specs.Runs.{packedRun};
 use entries::run::run;
 use run_answers::atoms::delta_atom;
 use run_answers::runs::matches_in;

@@ -12,9 +12,8 @@ use Rattle.kinds.specs.Kinds.{plan}
 use Rattle.frame_tests.specs.declared.tests.Text.the-variants.{Query}
 use Rattle.first_reading.specs.declared.first.Reading.the-variants.{Accepted}
 use Rattle.second_reading.specs.Second.{reading}
-use Rattle.model.specs.Atoms.{joins}
 use Rattle.model.specs.Refusing.{hasJoin}
-use Rattle.model.specs.Scheduling.{atomOf}
+use Rattle.model.specs.Scheduling.{scans, atomOf}
 use Rattle.model.specs.Matching.{Line, IsMatch}
 use Rattle.model.proofs.Modes.{Under}
 use Rattle.model.proofs.Joins.{JoinedIn, plan-joins, joins-plan}
@@ -48,6 +47,6 @@ module _ (x p : List ℕ) (n c : ℕ) (ok : reading Query x ≡ Accepted n c) (f
   under t a h y m = record { atom = a; below = known-below (atomsOf x) (f .choose) (f .start) (f .fair) a (join-atom a h .within); joined = join-atom a h .joined; match = m }
 
   -- and back: every atom of a query that runs is lowered
-  pub atom-join : Runs x → (a : ℕ) → a < length (atomsOf x) → joins (atomOf (atomsOf x) a) ≡ true → hasJoin a (planSteps p) ≡ true
+  pub atom-join : Runs x → (a : ℕ) → a < length (atomsOf x) → scans (atomOf (atomsOf x) a) ≡ true → hasJoin a (planSteps p) ≡ true
   atom-join q a h j = ap (hasJoin a) (plan-steps x n c ok p f)
       ∙ joins-plan (made (atomsOf x) (f .choose) (f .start) (f .fair) .lowered) a (record { within = all-of (atomsOf x) (f .choose) (f .start) (f .fair) (all x p f q) .every a h; joined = j })

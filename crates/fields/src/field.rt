@@ -134,18 +134,15 @@ fn class_fits(frame: &[u8], i: usize) -> bool
     short_at(frame, i) <= 0xfffe
 }
 
-// Test 4 of the field with this code that begins at byte i. That of a class, of which rows are made, is made in place.
-pub fn field_fits(code: u8, frame: &[u8], i: usize) -> bool
-    requires { ⌜ i < 65300 ⌝ }
+fn count_fits(code: u8, frame: &[u8], i: usize) -> bool
+    requires { ⌜ 128 ≤ code ⌝ }
     ensures { λ r. ⌜ r ≡ fieldFits (decode code) (now (frame .entry)) i ⌝ }
 {
-    if code == CLASS {
-        return class_fits(frame, i);
-    }
-    other_fits(code, frame, i)
+    byte_at(frame, i) <= code - 128
 }
 
-fn other_fits(code: u8, frame: &[u8], i: usize) -> bool
+// Test 4 of the field with this code that begins at byte i.
+fn fits_by_code(code: u8, frame: &[u8], i: usize) -> bool
     requires { ⌜ i < 65300 ⌝ }
     ensures { λ r. ⌜ r ≡ fieldFits (decode code) (now (frame .entry)) i ⌝ }
 {
@@ -172,10 +169,24 @@ fn other_fits(code: u8, frame: &[u8], i: usize) -> bool
             if code < 128 {
                 true
             } else {
-                byte_at(frame, i) <= code - 128
+                count_fits(code, frame, i)
             }
         }
     }
+}
+
+// The same, a class and a count told apart first, of which rows are made.
+pub fn field_fits(code: u8, frame: &[u8], i: usize) -> bool
+    requires { ⌜ i < 65300 ⌝ }
+    ensures { λ r. ⌜ r ≡ fieldFits (decode code) (now (frame .entry)) i ⌝ }
+{
+    if code == CLASS {
+        return class_fits(frame, i);
+    }
+    if 128 <= code {
+        return count_fits(code, frame, i);
+    }
+    fits_by_code(code, frame, i)
 }
 
 fn operand_in(n: Counts, tag: u8, index: u8) -> bool
@@ -247,7 +258,7 @@ pub fn field_passes(t: Test, n: Counts, code: u8, frame: &[u8], i: usize) -> boo
     ensures { λ r. ⌜ r ≡ fieldPasses t n (decode code) (now (frame .entry)) i ⌝ }
 {
     match t {
-        Test::Limits => field_fits(code, frame, i),
+        Test::Limits => fits_by_code(code, frame, i),
         Test::Range => field_in(n, code, frame, i),
         Test::Reals => field_real(code, frame, i),
     }

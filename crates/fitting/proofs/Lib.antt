@@ -1,2 +1,2 @@
 pub mod FitLaws
-pub mod TableBounds
+pub mod ReadingsLaws

@@ -6,7 +6,8 @@ ghost use Rattle.frame_tests.specs.Faults.{textNumber, isHeader, headerF
 use frames::frame::frame_length;
 use frames::frame::limits_pass;
 use hex::byte_at;
-use kinds::table::tests_of;
+use kinds::table::low_byte;
+use kinds::table::row;
 
 // Which of the three texts is read.
 pub enum Text {
@@ -114,14 +115,15 @@ pub fn frame_fault(t: Text, first: bool, c: usize, frame: &[u8]) -> u8
     ensures { λ r. ⌜ r ≡ frameFault t first c (now (frame .entry)) ⌝ }
 {
     let kind = byte_at(frame, 0);
-    let tests = tests_of(kind);
+    let row = row(kind);
+    let tests = low_byte(row);
     if !belongs(t, first, kind, tests % 4) {
         return 2;
     }
     if frame.len() != frame_length(frame) {
         return 3;
     }
-    if !limits_pass(tests, frame) {
+    if !limits_pass(tests, row / 0x100, frame) {
         return 4;
     }
     if has_room(t, c, kind) { 0 } else { 4 }

@@ -1,24 +1,22 @@
 -- A table's sheet behind a query's: accepted as the query is, and given. Proved from both readings and from the index of the rows.
 use Prim.Native.Nat.{ℕ, zero, suc, _+_, _-_, _/_, _<_, _≤_}
 use mathlib.Core.Path.{_≡_, refl, sym, _∙_, ap}
-use mathlib.Core.Bool.{Bool, true, false}
+use mathlib.Core.Bool.{true}
 use mathlib.Core.List.{List, [], _∷_, _++_}
 use native.Mathlib.Omega.{arith}
 use lib.ListN.{length, getD, take, drop, replicate, length-append, length-drop, length-replicate}
 use lib.Seq.{drop-append-seam, getD-append-add, getD-drop, take-append-seam, take-append-add, take-append-le, length-take-le}
-use lib.Dec.{eqb}
 use borrow.Author.Tests.{leb-true}
 use Rattle.base.proofs.Lists.{blank-at}
 use Rattle.fields.specs.Limits.{textMost, itemsMost, rowsMost}
 use Rattle.fields.specs.Fields.{fieldPasses, fieldFits, noCounts}
 use Rattle.fields.specs.declared.field.Test.the-variants.{Limits}
-use Rattle.kinds.specs.Kinds.{kinds, kindAt, query, table}
-use Rattle.frames.specs.Frames.{frameLength, framePasses}
+use Rattle.kinds.specs.Kinds.{kinds, kindAt}
+use Rattle.frames.specs.Frames.{framePasses}
 use Rattle.frames.specs.Sheet.{frameAt, framesIn, Whole}
 use Rattle.frames.proofs.SheetLaws.{no-frames, frames-step, frame-inside, frame-behind}
 use Rattle.indexing.specs.Index.{manySlots, slotsFor, Indexed, Finds}
 use Rattle.indexing.proofs.BehindLaws.{found-with-behind}
-use Rattle.frame_tests.specs.Faults.{textNumber}
 use Rattle.frame_tests.specs.declared.tests.Text.the-variants.{Query, Table}
 use Rattle.first_reading.specs.First.{framesOf, sheetSize, Sheet}
 use Rattle.first_reading.specs.declared.first.Reading.{Reading}
@@ -32,14 +30,12 @@ use Rattle.reading_facts.proofs.Passes.{frame-field}
 use Rattle.records.specs.Items.{Each}
 use Rattle.records.specs.Rows.{rowsIn}
 use Rattle.model.specs.Atoms.{children}
-use Rattle.buckets.specs.RowIndex.{rowsAt, tableIndex, rowsOn, RowsIndexed}
-use Rattle.row_indexing.specs.Filling.{FillRoom, TableRoom, TableIndexed}
+use Rattle.buckets.specs.RowIndex.{rowsAt, tableIndex, rowsOn}
+use Rattle.row_indexing.specs.Filling.{TableRoom, TableIndexed}
 use Rattle.row_indexing.proofs.TableLaws.{narrow-rows}
-use Rattle.given.specs.Given.{QueryKey, queryPart, Given}
+use Rattle.given.specs.Given.{QueryKey, Given}
 use Rattle.given.proofs.KeyLaws.{part-first}
-use Rattle.behind.specs.Behind.{FramesOf}
 use Rattle.behind.proofs.BehindLaws.{each-by, frames-of, frames-behind, find-behind, rows-behind}
-use Rattle.ordering.specs.Accepts.{Accepts}
 use Rattle.reading.specs.IndexedReading.{indexFor, Lent, ReadIndexed}
 use Rattle.reading.proofs.LentLaws.{lent-for}
 use borrow.Rule.Slice.PartMut.{postOf, putMid}
@@ -113,12 +109,15 @@ module _ (x t q y : List ℕ) (n c m r : ℕ) (okx : reading Query x ≡ Accepte
 
   pub both-given : (i i′ : List ℕ) → Indexed q (take rowsAt i) → length i ≡ tableIndex → TableIndexed (rowsOn (drop (length q) (q ++ y))) (q ++ y) rowsAt i i′ → Given (q ++ y) i′
   both-given i i′ d l h = record {
-    keys = λ k p. rw (← part-first i′ (omega (arith, h .size, l)), h .kept) (record {
-      falling = d .are .falling;
-      is = found-with-behind q (take rowsAt i) d y k (p .proper) ∙ rw (both-frames, sq .frames) (sym (find-behind k (framesOf x) (framesOf t) p (frames-of Table t m r okt)));
-    });
+    keyed = record { found = λ k p. rw (← part-first i′ (omega (arith, h .size, l)), h .kept) (found k p) };
     rows = λ _. rw both-rows (h .rows);
   }
+    where
+      found : (k : List ℕ) → QueryKey k → Finds (q ++ y) (take rowsAt i) k
+      found k p = record {
+        falling = d .are .falling;
+        is = found-with-behind q (take rowsAt i) d y k (p .proper) ∙ rw (both-frames, sq .frames) (sym (find-behind k (framesOf x) (framesOf t) p (frames-of Table t m r okt)));
+      }
 
 -- ---- the table behind the query
 

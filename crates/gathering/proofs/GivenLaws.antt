@@ -1,6 +1,6 @@
 -- What is given where no table is asked for: the query's sheet with its index. Assumes nothing.
 use Prim.Native.Nat.{ℕ, _≤_}
-use mathlib.Core.Path.{_≡_, refl, sym, _∙_}
+use mathlib.Core.Path.{_≡_, sym, _∙_}
 use mathlib.Core.Bool.{Bool, true, false}
 use mathlib.Core.List.{List}
 use native.Mathlib.Omega.{arith}
@@ -9,7 +9,7 @@ use Rattle.frames.specs.Sheet.{framesIn}
 use Rattle.indexing.specs.Index.{Indexed}
 use Rattle.buckets.specs.RowIndex.{rowsAt}
 use Rattle.given.specs.Asks.{asksTable}
-use Rattle.given.specs.Given.{Given}
+use Rattle.given.specs.Given.{Keyed, Given}
 use Rattle.given.proofs.KeyLaws.{part-whole}
 use Rattle.second_reading.specs.Second.{queryReading}
 use Rattle.second_reading.proofs.QueryLaws.{table-handed}
@@ -18,11 +18,11 @@ use Rattle.first_reading.specs.declared.first.Reading.{Reading}
 use Rattle.first_reading.specs.declared.first.Reading.the-variants.{Accepted}
 use Rattle.gathering.specs.Gathered.{Asks}
 
-pub given-alone : (s i : List ℕ) (b : Bool) → Indexed s i → length i ≤ rowsAt → b ≡ asksTable (framesIn s) → b ≡ false → Given s i
-given-alone s i b d l q e = record {
-  keys = λ k p. rw (← part-whole i l) (record { falling = d .are .falling; is = d .are .is k (p .proper) });
-  rows = λ h. let z : _≡_ {A = ℕ} 0 1 = cc in absurd (omega arith);
-}
+pub keyed-alone : (s i : List ℕ) → Indexed s i → length i ≤ rowsAt → Keyed s i
+keyed-alone s i d l = record { found = λ k p. rw (← part-whole i l) (record { falling = d .are .falling; is = d .are .is k (p .proper) }) }
+
+pub given-alone : (s i : List ℕ) (b : Bool) → Keyed s i → b ≡ asksTable (framesIn s) → b ≡ false → Given s i
+given-alone s i b k q e = record { keyed = k; rows = λ h. let z : _≡_ {A = ℕ} 0 1 = cc in absurd (omega arith) }
 
 -- a query that asks for a table has one beside it
 module _ (x : List ℕ) (h : Bool) (v : Reading) (is : v ≡ queryReading h x) (n c : ℕ) (e : v ≡ Accepted n c) (s : List ℕ) (sh : Sheet x s) (b : Bool) (q : b ≡ asksTable (framesIn s)) (t : b ≡ true) where

@@ -1,27 +1,13 @@
 // A query that asks for a table, and the table behind it.
-ghost use mathlib.Core.Path.{_≡_};
-ghost use Rattle.frames.specs.Sheet.{framesIn};
-ghost use Rattle.indexing.specs.Index.{Indexed};
-ghost use Rattle.given.specs.Asks.{asksTable};
 ghost use Rattle.gathering.specs.Gathered.{Asks, BothLent, QueryLaid, Gathers};
 use buckets::index::ROWS_AT;
 use first_reading::first::Reading;
 use first_reading::first::sheet_size;
 use frame_tests::tests::Text;
-use indexing::index::find_by;
 use reading::second::LONG_SHEET;
 use reading::second::read_indexed;
 use reading::second::read_query;
 use row_indexing::fill::index_table;
-
-// Whether frame 24 of an accepted query asks for a table.
-pub fn asks_table(sheet: &[u8], index: &[u16]) -> bool
-    requires { ⌜ Indexed (now sheet) (now index) ⌝ }
-    ensures { λ r. ⌜ r ≡ asksTable (framesIn (now (sheet .entry))) ⌝ }
-{
-    let key = [0x24];
-    1 <= find_by(sheet, index, &key).len()
-}
 
 // The frames of two texts.
 pub const BOTH_SHEETS: usize = 2 * LONG_SHEET;

@@ -21,7 +21,11 @@ pub record QueryKey (k : List ℕ) : Type 0 where
 abbrev pub queryPart : List ℕ → List ℕ
 queryPart i = pick (leb (length i) rowsAt) i (take rowsAt i)
 
--- the sheet s with the index i: the query's frames are found by their keys; and where frame 24 asks for a table its rows stand behind them, indexed
+-- on the sheet s with the index i the query's frames are found by their keys
+pub record Keyed (s i : List ℕ) : Type 0 where
+  pub found : (k : List ℕ) → QueryKey k → Finds s (queryPart i) k
+
+-- and where frame 24 asks for a table its rows stand behind them, indexed
 pub record Given (s i : List ℕ) : Type 0 where
-  pub keys : (k : List ℕ) → QueryKey k → Finds s (queryPart i) k
+  pub keyed : Keyed s i
   pub rows : asksTable (framesIn s) ≡ true → RowsIndexed (rowsOn s) s i

@@ -3,7 +3,7 @@ ghost use mathlib.Core.Path.{_≡_};
 ghost use Rattle.frames.specs.Sheet.{framesIn};
 ghost use Rattle.frame_keys.specs.Keys.{find as findOf};
 ghost use Rattle.given.specs.Asks.{asksTable as asksTableOf};
-ghost use Rattle.given.specs.Given.{QueryKey, queryPart, Given};
+ghost use Rattle.given.specs.Given.{QueryKey, queryPart, Keyed, Given};
 use buckets::index::ROWS_AT;
 use indexing::index::find_where;
 
@@ -26,11 +26,11 @@ pub fn find_in<'a, 'b, 'c>(sheet: &'a [u8], index: &'b [u16], key: &'c [u8]) -> 
     find_where(sheet, query_part(index), key)
 }
 
-// Whether frame 24 takes samples from a table.
-pub fn takes_table(sheet: &[u8], index: &[u16]) -> bool
-    requires { ⌜ Given (now sheet) (now index) ⌝ }
+// Whether frame 24 asks for a table.
+pub fn asks_table(sheet: &[u8], index: &[u16]) -> bool
+    requires { ⌜ Keyed (now sheet) (now index) ⌝ }
     ensures { λ r. ⌜ r ≡ asksTableOf (framesIn (now (sheet .entry))) ⌝ }
 {
     let key = [0x24];
-    1 <= find_in(sheet, index, &key).len()
+    1 <= find_where(sheet, query_part(index), &key).len()
 }

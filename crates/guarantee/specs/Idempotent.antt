@@ -1,9 +1,9 @@
 -- Note 2: "Write it as one byte after the node, 00 for false, which the planner always writes, as the Rust does; above 01 is 4. Older plans with the short
 -- frame 48 are then 3." Proved from the table by kind, and in Idempotent of `plans`.
 use Prim.Native.Nat.{ℕ, _+_, _*_, _<_}
-use mathlib.Core.Path.{_≡_, refl}
+use mathlib.Core.Path.{_≡_}
 use mathlib.Core.Bool.{false}
-use mathlib.Core.List.{List, _∷_}
+use mathlib.Core.List.{List}
 use native.Mathlib.Omega.{arith}
 use lib.ListN.{length, getD}
 use borrow.Author.Tests.{ne-eqb, eq-eqb, lt-leb}

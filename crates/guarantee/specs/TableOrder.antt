@@ -26,7 +26,7 @@ use Rattle.records.specs.Rows.{rowOf, rowsIn}
 use Rattle.row_frames.specs.Wanted.{wanted}
 use Rattle.buckets.specs.Buckets.{numbersFrom, strided, hits}
 use Rattle.query.specs.Statistics.{opCard, atomCard, baseCard, denominator, byChildPos, settings}
-use Rattle.samplers.specs.TableSamples.{tableDrivers, tableClasses, opRestricted, tableProbe}
+use Rattle.table_samples.specs.TableSamples.{tableDrivers, tableClasses, opRestricted, tableProbe}
 use Rattle.cost.specs.QueryAtoms.{operandsFrom, bytesFrom, atomOfFrame, atomsIn, atomFrames}
 use Rattle.cost.specs.Emitters.{setChildren, recordAtom, recordEmitters}
 use Rattle.cost.specs.Sampling.{probeSum, drawsOf, measure, isKnown, afterEstimate}

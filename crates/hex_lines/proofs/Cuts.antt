@@ -1,15 +1,15 @@
 -- A text's first line cut off: what the split into lines says of the bytes. Assumes nothing.
 use Prim.Native.Nat.{ℕ, suc, _+_, _-_, _<_, _≤_}
 use mathlib.Core.Path.{_≡_, refl, sym, _∙_, ap}
-use mathlib.Core.List.{List, [], _∷_, _++_}
+use mathlib.Core.List.{List, [], _∷_}
 use mathlib.Core.Bool.{Bool, true, false}
 use native.Mathlib.Omega.{arith}
 use native.Mathlib.Nat.{add-zero, add-suc, suc-add}
-use lib.ListN.{length, take, drop, length-take, length-drop}
+use lib.ListN.{length, take, drop, length-drop}
 use lib.Seq.{drop-drop}
 use lib.Dec.{eqb}
 use Rattle.base.specs.Choose.{pick}
-use Rattle.hex_lines.specs.Lines.{Split, withLine, withByte, split, isHex, hexLineIn, hexLineOf, endOf, lineAt}
+use Rattle.hex_lines.specs.Lines.{Split, withLine, withByte, split, isHex, hexLineIn, hexLineOf, endOf}
 use Rattle.hex_lines.specs.declared.decode.Found.the-variants.{At, Nothing}
 
 -- l is the first line of t, and the rest of t is what follows its 0a
@@ -88,10 +88,6 @@ line-of t at e l c p =
       alone = rw (o, k, ← c .line) (c .alone);
     }
 
--- from a search for a line's end
-pub end-line : (t : List ℕ) (at e : ℕ) (l : List ℕ) (ls : List (List ℕ)) → split (drop at t) .ended ≡ l ∷ ls → e ≡ endOf at (drop at t) → Line t at e
-end-line t at e l ls q p = line-of t at e l (cut (drop at t) l ls q) (p ∙ end-is (drop at t) at l ls q)
-
 -- from a pass over a line of digits: where it finds an end, that line is of digits; where it finds none, no line is ended or the first is not of digits
 pub record HexLine (t : List ℕ) (at e : ℕ) : Type 0 where
   pub line : Line t at e
@@ -131,72 +127,3 @@ pub all-rest : (t : List ℕ) → split t .ended ≡ [] → split t .rest ≡ t
 unfolding split
 all-rest [] q = refl
 all-rest (b ∷ t) q = rest-by b t (eqb b 10) refl (all-rest t) q
-
--- where no line is ended, the search for 0a meets the end
-none-by : (b : ℕ) (t : List ℕ) (at : ℕ) (d : Bool) → eqb b 10 ≡ d → (split t .ended ≡ [] → endOf (suc at) t ≡ suc at + length t) → split (b ∷ t) .ended ≡ [] → endOf at (b ∷ t) ≡ at + suc (length t)
-unfolding split
-none-by b t at true e f q =
-    let p : [] ∷ split t .ended ≡ [] = rw e at q in
-    let z : _≡_ {A = ℕ} 0 1 = cc in
-    absurd (omega arith)
-none-by b t at false e f q =
-    let p : withByte b (split t .ended) (split t .rest) .ended ≡ [] = rw e at q in
-    rw e (go (split t .ended) refl p)
-  where
-    go : (es : List (List ℕ)) → split t .ended ≡ es → withByte b es (split t .rest) .ended ≡ [] → endOf (suc at) t ≡ at + suc (length t)
-    go [] d g = f d ∙ (suc-add at (length t) ∙ sym (add-suc at (length t)))
-    go (m ∷ ms) d g = let z : _≡_ {A = ℕ} 0 1 = cc in absurd (omega arith)
-
-pub end-none : (t : List ℕ) (at : ℕ) → split t .ended ≡ [] → endOf at t ≡ at + length t
-unfolding split
-end-none [] at q = sym (add-zero at)
-end-none (b ∷ t) at q = none-by b t at (eqb b 10) refl (end-none t (suc at)) q
-
--- a text of whole lines, and what follows it
-app-more : (b : ℕ) (a y : List ℕ) → eqb b 10 ≡ false → split (a ++ y) ≡ record { ended = split a .ended ++ split y .ended; rest = split y .rest } → (es : List (List ℕ)) → split a .ended ≡ es → withByte b es (split a .rest) .rest ≡ [] → split (b ∷ a ++ y) ≡ record { ended = withByte b es (split a .rest) .ended ++ split y .ended; rest = split y .rest }
-unfolding split
-app-more b a y e f [] d q = let z : _≡_ {A = ℕ} 0 1 = cc in absurd (omega arith)
-app-more b a y e f (m ∷ ms) d q = rw (e, f, d)
-
-rest-more : (b : ℕ) (es : List (List ℕ)) (r : List ℕ) → withByte b es r .rest ≡ [] → r ≡ []
-rest-more b [] r q = let z : _≡_ {A = ℕ} 0 1 = cc in absurd (omega arith)
-rest-more b (m ∷ ms) r q = q
-
-app-by : (b : ℕ) (a y : List ℕ) (d : Bool) → eqb b 10 ≡ d → (split a .rest ≡ [] → split (a ++ y) ≡ record { ended = split a .ended ++ split y .ended; rest = split y .rest }) → split (b ∷ a) .rest ≡ [] → split (b ∷ a ++ y) ≡ record { ended = split (b ∷ a) .ended ++ split y .ended; rest = split y .rest }
-unfolding split
-app-by b a y true e f q =
-    let p : split a .rest ≡ [] = rw e at q in
-    rw (e, f p)
-app-by b a y false e f q =
-    let p : withByte b (split a .ended) (split a .rest) .rest ≡ [] = rw e at q in
-    rw e (rw e at (app-more b a y e (f (rest-more b (split a .ended) (split a .rest) p)) (split a .ended) refl p))
-
-pub split-append : (a y : List ℕ) → split a .rest ≡ [] → split (a ++ y) ≡ record { ended = split a .ended ++ split y .ended; rest = split y .rest }
-unfolding split
-split-append [] y q = refl
-split-append (b ∷ a) y q = app-by b a y (eqb b 10) refl (split-append a y) q
-
--- the line at a place lies within the text
-pub line-within : (x : List ℕ) (at : ℕ) → at ≤ length x → at + length (lineAt x at) ≤ length x
-line-within x at h =
-    let n = endOf at (drop at x) - at in
-    omega (arith, length-take n (drop at x), length-drop at x)
-
--- and ends where the search for 0a ends
-pub line-ends : (x l : List ℕ) (at : ℕ) → at ≤ length x → l ≡ lineAt x at → at + length l ≡ endOf at (drop at x)
-line-ends x l at h e = rw e (go (split (drop at x) .ended) refl)
-  where
-    n : ℕ
-    n = endOf at (drop at x) - at
-
-    go : (es : List (List ℕ)) → split (drop at x) .ended ≡ es → at + length (lineAt x at) ≡ endOf at (drop at x)
-    go [] q = omega (arith, length-take n (drop at x), end-none (drop at x) at q)
-    go (m ∷ ms) q = omega (arith, length-take n (drop at x), end-is (drop at x) at m ms q, cut (drop at x) m ms q .within)
-
--- the line up to e is the line at its place
-pub line-found : (x : List ℕ) (at e : ℕ) → Line x at e → lineAt x at ≡ take (e - at) (drop at x)
-line-found x at e l =
-    let m = take (e - at) (drop at x) in
-    let p = end-is (drop at x) at m (split (drop (e + 1) x) .ended) (ap (λ (s : Split). s .ended) (l .splits)) in
-    let q : endOf at (drop at x) ≡ e = omega (arith, p, length-take (e - at) (drop at x), length-drop at x, l .from, l .within) in
-    rw q

@@ -37,6 +37,10 @@ computed : T (tabulates lengthsAt 0 (map lengthsOf kinds))
 unfolding kinds
 computed = tt
 
+-- a kind's byte stands in one of the ten words
+pub word-place : (b w : ℕ) → w ≡ b → b < 77 → w / 8 < 10
+word-place b w e h = omega arith
+
 -- the byte of a kind is the kind's, as is computed over all kinds
 pub lengths-at : (b w : ℕ) → w ≡ b → b < 77 → lengthsAt w ≡ lengthsOf (kindAt b)
 unfolding kindAt

@@ -2,10 +2,10 @@
 // and its fields, and the length of its key, arms of a `match`, which are read-only data.
 ghost use mathlib.Core.Path.{_≡_};
 ghost use Prim.Native.Nat.{_<_, _≤_, _*_, _%_};
-ghost use lib.ListN.{length};
+ghost use lib.ListN.{length, getD};
 ghost use Rattle.fields.specs.Fields.{width as widthOf};
 ghost use Rattle.kinds.specs.Kinds.{kindAt, fixedLength};
-ghost use Rattle.kinds.specs.Rows.{lengthsOf, testsOf, codesOf, rowOf};
+ghost use Rattle.kinds.specs.Rows.{lengthWords, lengthsOf, testsOf, codesOf, rowOf};
 use fields::field::wide;
 
 // "Each kind's fixed length and item width stand in one table": a byte a kind, eight to a word, the lowest kind in the lowest byte. Of a byte the
@@ -27,6 +27,18 @@ const LENGTHS: [u64; 10] = [
 // No kind is this high.
 const KINDS_END: u8 = 0x4d;
 
+// The i-th word. That of the kinds of a table and that of the steps from 40 on, which are looked up most, are taken without laying the array.
+fn word_at(i: usize) -> u64
+    requires { ⌜ i < 10 ⌝ }
+    ensures { λ r. ⌜ r ≡ getD lengthWords i 0 ⌝ }
+{
+    match i {
+        6 => LENGTHS[6],
+        8 => LENGTHS[8],
+        _ => LENGTHS[i],
+    }
+}
+
 pub fn lengths(kind: u8) -> u8
     ensures { λ r. ⌜ r ≡ lengthsOf (kindAt kind) ⌝ }
 {
@@ -34,7 +46,7 @@ pub fn lengths(kind: u8) -> u8
         return 1;
     }
     let k = wide(kind);
-    let word = LENGTHS[k / 8];
+    let word = word_at(k / 8);
     low_byte(word >> (8 * (k % 8)))
 }
 
@@ -115,7 +127,7 @@ fn later_row(kind: u8) -> u64
 }
 
 // Texts other than a query have the kinds from 25 on.
-fn row(kind: u8) -> u64
+pub fn row(kind: u8) -> u64
     ensures { λ r. ⌜ r ≡ rowOf (kindAt kind) ⌝ }
 {
     if kind < 0x25 {

@@ -5,8 +5,7 @@ use Prim.Native.Nat.{ℕ}
 use mathlib.Core.Bool.{Bool, true, false}
 use mathlib.Core.Option.{Option, none, some, Option·some-injective, Option·some-ne-none}
 use mathlib.Core.List.{List, [], _∷_, List·Memᴰ, List·Memᴰ·head, List·Memᴰ·tail}
-use Rattle.set_model.specs.Lists.{Pairs}
-use Rattle.model.proofs.ListsLaws.{Hit, Clash, Finds, finds-iff, finds-self, finds-none, finds-single}
+use Rattle.model.proofs.ListsLaws.{Finds, finds-iff, finds-self, finds-none, finds-single}
 use Rattle.model.proofs.Bools.{true-false}
 use Rattle.model.specs.Equality.{sameClass}
 use Rattle.model.proofs.EqualityLaws.{same-eq, eq-same}
@@ -166,9 +165,3 @@ module _ (W : Type 0) (tb : Table) (md : Mode) where
       → ((τ : Env) → Inv K τ → τ .picked ≡ σ .picked → Finds W F Ext (runs tb md ss τ) (λ α. Ext τ α × Q α)) → Finds W F Ext (runs tb md (s ∷ ss) σ) (λ α. Ext σ α × (R α × Q α))
   unfolding runs
   next-step K F σ s ss o e g h = rw e (finds-single (λ (m : Move). onward (runs tb md ss) (m .next)) (go o) (onward-finds W F (runs tb md ss) K σ o g h))
-
-  -- Note 12's seam: any step behind a Join, by the environments that it goes on with (`runs` of the step alone) and what each agrees with
-  pub step-finds : (K : Known) (σ : Env) (Q : Assignment → Type 0) (s : Step) → ((τ : Env) → List·Memᴰ τ (runs tb md (s ∷ []) σ) → Inv K τ)
-      → ((τ : Env) → List·Memᴰ τ (runs tb md (s ∷ []) σ) → (α : Assignment) → Ext τ α → Ext σ α × Q α) → ((α : Assignment) → Ext σ α → Q α → Hit (runs tb md (s ∷ []) σ) Ext α) → (W → Pairs (Clash Ext) (runs tb md (s ∷ []) σ))
-      → Finds W (Inv K) Ext (runs tb md (s ∷ []) σ) (λ α. Ext σ α × Q α)
-  step-finds K σ Q s i f g p = record { each = i; sound = f; complete = λ α q. g α (q .0) (q .1); apart = p }

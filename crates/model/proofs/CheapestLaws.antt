@@ -12,12 +12,12 @@ use Rattle.model.proofs.Bools.{first, second}
 use Rattle.model.specs.Atoms.{Atom}
 use Rattle.model.specs.Bound.{has}
 use Rattle.model.specs.Scheduling.{scans, State, Chosen, Fair}
-use Rattle.model.specs.Cheapest.{Priced, Bid, wants, better, scan, bidder, cheapest}
+use Rattle.model.specs.Cheapest.{Priced, Bid, isCandidate, better, scan, bidder, cheapest}
 
 module _ (at : ℕ → Atom) (js : List ℕ) {X C : Type 0} (cost : X → State → ℕ → Priced X C) (less : C → C → Bool) where
   record Good (s : State) (i : ℕ) : Type 0 where
     mem : List·Memᴰ i js
-    wanted : wants at js cost less s i ≡ true
+    wanted : isCandidate (s .used) i (at i) ≡ true
 
   abbrev AllGood : State → Option (Bid C) → Type 0
   AllGood s none = Unit {0}
@@ -35,9 +35,9 @@ module _ (at : ℕ → Atom) (js : List ℕ) {X C : Type 0} (cost : X → State 
   unfolding scan
   scan-good [] s x b f h = h
   scan-good (i ∷ ks) s x b f h =
-      go (wants at js cost less s i) refl (λ g. scan-good ks s (cost x s i .next) (better at js cost less i (cost x s i .price) b) (λ j m. f j (List·Memᴰ·tail m)) (better-good s i (cost x s i .price) b g h)) (scan-good ks s x b (λ j m. f j (List·Memᴰ·tail m)) h)
+      go (isCandidate (s .used) i (at i)) refl (λ g. scan-good ks s (cost x s i .next) (better at js cost less i (cost x s i .price) b) (λ j m. f j (List·Memᴰ·tail m)) (better-good s i (cost x s i .price) b g h)) (scan-good ks s x b (λ j m. f j (List·Memᴰ·tail m)) h)
     where
-      go : (t : Bool) → wants at js cost less s i ≡ t → (Good s i → AllGood s (scan at js cost less ks s (cost x s i .next) (better at js cost less i (cost x s i .price) b) .best)) → AllGood s (scan at js cost less ks s x b .best) → AllGood s (pick t (scan at js cost less ks s (cost x s i .next) (better at js cost less i (cost x s i .price) b)) (scan at js cost less ks s x b) .best)
+      go : (t : Bool) → isCandidate (s .used) i (at i) ≡ t → (Good s i → AllGood s (scan at js cost less ks s (cost x s i .next) (better at js cost less i (cost x s i .price) b) .best)) → AllGood s (scan at js cost less ks s x b .best) → AllGood s (pick t (scan at js cost less ks s (cost x s i .next) (better at js cost less i (cost x s i .price) b)) (scan at js cost less ks s x b) .best)
       go true e k l = k (record { mem = f i (List·Memᴰ·head refl); wanted = e })
       go false e k l = l
 
@@ -49,22 +49,22 @@ module _ (at : ℕ → Atom) (js : List ℕ) {X C : Type 0} (cost : X → State 
       go true e = let z : _≡_ {A = ℕ} 0 1 = cc in omega arith
       go false e = let z : _≡_ {A = ℕ} 0 1 = cc in omega arith
 
-  scan-none : (ks : List ℕ) (s : State) (x : X) (b : Option (Bid C)) → scan at js cost less ks s x b .best ≡ none → (b ≡ none) × ((i : ℕ) → List·Memᴰ i ks → wants at js cost less s i ≡ false)
+  scan-none : (ks : List ℕ) (s : State) (x : X) (b : Option (Bid C)) → scan at js cost less ks s x b .best ≡ none → (b ≡ none) × ((i : ℕ) → List·Memᴰ i ks → isCandidate (s .used) i (at i) ≡ false)
   unfolding scan
   scan-none [] s x b e = (e, λ i m. absurd (List·Memᴰ·not-nil m))
-  scan-none (i ∷ ks) s x b e = go (wants at js cost less s i) refl e (λ h. scan-none ks s (cost x s i .next) (better at js cost less i (cost x s i .price) b) h) (λ h. scan-none ks s x b h)
+  scan-none (i ∷ ks) s x b e = go (isCandidate (s .used) i (at i)) refl e (λ h. scan-none ks s (cost x s i .next) (better at js cost less i (cost x s i .price) b) h) (λ h. scan-none ks s x b h)
     where
-      go : (t : Bool) → wants at js cost less s i ≡ t → pick t (scan at js cost less ks s (cost x s i .next) (better at js cost less i (cost x s i .price) b)) (scan at js cost less ks s x b) .best ≡ none
-          → (scan at js cost less ks s (cost x s i .next) (better at js cost less i (cost x s i .price) b) .best ≡ none → (better at js cost less i (cost x s i .price) b ≡ none) × ((j : ℕ) → List·Memᴰ j ks → wants at js cost less s j ≡ false))
-          → (scan at js cost less ks s x b .best ≡ none → (b ≡ none) × ((j : ℕ) → List·Memᴰ j ks → wants at js cost less s j ≡ false)) → (b ≡ none) × ((j : ℕ) → List·Memᴰ j (i ∷ ks) → wants at js cost less s j ≡ false)
+      go : (t : Bool) → isCandidate (s .used) i (at i) ≡ t → pick t (scan at js cost less ks s (cost x s i .next) (better at js cost less i (cost x s i .price) b)) (scan at js cost less ks s x b) .best ≡ none
+          → (scan at js cost less ks s (cost x s i .next) (better at js cost less i (cost x s i .price) b) .best ≡ none → (better at js cost less i (cost x s i .price) b ≡ none) × ((j : ℕ) → List·Memᴰ j ks → isCandidate (s .used) j (at j) ≡ false))
+          → (scan at js cost less ks s x b .best ≡ none → (b ≡ none) × ((j : ℕ) → List·Memᴰ j ks → isCandidate (s .used) j (at j) ≡ false)) → (b ≡ none) × ((j : ℕ) → List·Memᴰ j (i ∷ ks) → isCandidate (s .used) j (at j) ≡ false)
       go true w e k l = absurd (better-some i (cost x s i .price) b (k e .0))
       go false w e k l = (l e .0, λ j m. at-j j (List·Memᴰ·cases-cons m))
         where
-          at-j : (j : ℕ) → (j ≡ i) ⊎ List·Memᴰ j ks → wants at js cost less s j ≡ false
-          at-j j (inl q) = ap (wants at js cost less s) q ∙ w
+          at-j : (j : ℕ) → (j ≡ i) ⊎ List·Memᴰ j ks → isCandidate (s .used) j (at j) ≡ false
+          at-j j (inl q) = ap (λ (k : ℕ). isCandidate (s .used) k (at k)) q ∙ w
           at-j j (inr m) = l e .1 j m
 
-  unwanted : (s : State) (i : ℕ) → has (s .used) i ≡ false → wants at js cost less s i ≡ false → scans (at i) ≡ false
+  unwanted : (s : State) (i : ℕ) → has (s .used) i ≡ false → isCandidate (s .used) i (at i) ≡ false → scans (at i) ≡ false
   unwanted s i h e = sym (ap (λ (b : Bool). not b && scans (at i)) h) ∙ e
 
   chosen-good : (x : X) (s : State) (i : ℕ) → cheapest at js cost less x s .at ≡ some i → Good s i

@@ -2,7 +2,7 @@
 use mathlib.Core.Path.{_≡_, sym, _∙_}
 use Prim.Native.Nat.{ℕ, _<_, _≤_}
 use mathlib.Core.Bool.{true, false}
-use mathlib.Core.List.{List, [], map, List·Memᴰ, Memᴰ·of-map, Memᴰ·cast, flatMap}
+use mathlib.Core.List.{List, [], map, List·Memᴰ, flatMap}
 use lib.ListN.{length}
 use Rattle.model.proofs.TabulateLaws.{tabulate-mem}
 use Rattle.model.specs.Atoms.{Atom, isRun, Table}
@@ -11,11 +11,11 @@ use Rattle.model.proofs.BoundLaws.{has-blank}
 use Rattle.model.specs.Scheduling.{State, Chosen, Fair, atomOf, numbers, schedule}
 use Rattle.model.specs.Reading.{boundFirst}
 use Rattle.model.specs.Running.{Mode, Env, runs, trace, founds, attempts}
-use Rattle.model.specs.Matching.{InShapes, Line, Counts, line, Given, Exact}
+use Rattle.model.specs.Matching.{Line, Counts, line, Given, Exact}
 use Rattle.model.proofs.BoundFirst.{first-alike, bound-before-read}
 use Rattle.model.proofs.Scheduled.{Ordered, ordered, number-mem, reached}
-use Rattle.model.specs.Refusing.{allRunnable, allFit}
-use Rattle.model.proofs.Accepted.{plan-runnable, plan-fits}
+use Rattle.model.specs.Refusing.{allRunnable}
+use Rattle.model.proofs.Accepted.{plan-runnable}
 use Rattle.model.proofs.Lines.{AllOf}
 use Rattle.model.proofs.Exactness.{Blank, exact}
 use Rattle.model.proofs.Limited.{ran, Guaranteed, guaranteed}
@@ -39,16 +39,9 @@ module _ (qs : List Atom) {X : Type 0} (choose : X → State → Chosen X) (x : 
   pub all-of : AllLowered → AllOf qs (made .order)
   all-of all = record { every = λ k h. made .all k (all k h); only = known-below }
 
-  pub order-mem : (a : Atom) → List·Memᴰ a (map (atomOf qs) (made .order)) → List·Memᴰ a qs
-  order-mem a m = let r = Memᴰ·of-map (atomOf qs) (made .order) m in Memᴰ·cast (sym (r .2)) (number-mem qs (r .0) (made .known (r .0) (r .1)))
-
   -- of the kinds that run, not for 10
   pub schedule-runnable : ((a : Atom) → List·Memᴰ a qs → isRun a ≡ true) → allRunnable (schedule qs choose x .steps) ≡ true
   schedule-runnable h = plan-runnable (made .lowered) (λ k m. h (atomOf qs k) (number-mem qs k (made .known k m)))
-
-  -- in shape, not for 11
-  pub schedule-fits : (tb : Table) → InShapes tb qs → allFit tb [] (schedule qs choose x .steps) ≡ true
-  schedule-fits tb sh = plan-fits tb (made .lowered) (λ k m. sh k (known-below k m)) []
 
   module _ (all : AllLowered) (tb : Table) (n : Counts) (g : Given tb n qs) (σ : Env) (b : Blank σ) where
     -- the guarantee: the run finds the matches, each once

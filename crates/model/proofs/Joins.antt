@@ -8,8 +8,9 @@ use mathlib.Core.Option.{some, Option·some-injective}
 use mathlib.Core.List.{List, [], _∷_, _++_, List·Memᴰ, List·Memᴰ·head, List·Memᴰ·tail, List·Memᴰ·cases-cons, List·Memᴰ·not-nil}
 use lib.Dec.{eqb}
 use borrow.Author.Tests.{eq-eqb, eqb-true}
-use Rattle.model.specs.Atoms.{Operand, local, global, wild, Atom, Plain, Lit, LitBind, Eq, EqGlobal, Pred, Variadic, joins, Step}
+use Rattle.model.specs.Atoms.{Operand, local, global, wild, Atom, Plain, Lit, LitBind, Eq, EqGlobal, Pred, Variadic, Step}
 use Rattle.model.specs.Bound.{Bound, has, add}
+use Rattle.model.specs.Scheduling.{scans}
 use Rattle.model.specs.Lowering.{pvIsBound, pvMarkBound, readChild, emitReadChildren, Emitted, lowerEq, lowerEqGlobal, lower, Lowered, done, more}
 use Rattle.model.specs.Refusing.{isJoinOf, hasJoin}
 use Rattle.model.proofs.Bools.{true-false, first, second, either}
@@ -46,7 +47,7 @@ reads-none a n i B (c ∷ cs) =
 
 -- one atom
 abbrev Joined : ℕ → ℕ → Atom → Emitted → Type 0
-Joined a k at l = hasJoin a (l .steps) ≡ (joins at && eqb k a)
+Joined a k at l = hasJoin a (l .steps) ≡ (scans at && eqb k a)
 
 atom-joins : (a : ℕ) (B : Bound) (k : ℕ) (at : Atom) (l : Emitted) → lower B k at ≡ some l → Joined a k at l
 unfolding lower hasJoin
@@ -71,7 +72,7 @@ atom-joins a B k (Variadic n o cs f) l e = subst (Joined a k (Variadic n o cs f)
 -- an atom of the sequence that becomes a Join
 pub record JoinedIn (at : ℕ → Atom) (ks : List ℕ) (a : ℕ) : Type 0 where
   pub within : List·Memᴰ a ks
-  pub joined : joins (at a) ≡ true
+  pub joined : scans (at a) ≡ true
 
 pub plan-joins : {at : ℕ → Atom} {B : Bound} {ss : List Step} {B′ : Bound} {ks : List ℕ} → Lowered at B ss B′ ks → (a : ℕ) → hasJoin a ss ≡ true → JoinedIn at ks a
 unfolding hasJoin
@@ -81,8 +82,8 @@ plan-joins {at} (more {B} k l {ss} {B″} {ks} e p) a h = by (either (hasJoin a 
     by : (hasJoin a (l .steps) ≡ true) ⊎ (hasJoin a ss ≡ true) → (hasJoin a ss ≡ true → JoinedIn at ks a) → JoinedIn at (k ∷ ks) a
     by (inl i) f =
         let z = sym (atom-joins a B k (at k) l e) ∙ i in
-        let q : k ≡ a = eqb-true k a (second (joins (at k)) (eqb k a) z) in
-        record { within = List·Memᴰ·head (sym q); joined = subst (λ (j : ℕ). joins (at j) ≡ true) q (first (joins (at k)) (eqb k a) z) }
+        let q : k ≡ a = eqb-true k a (second (scans (at k)) (eqb k a) z) in
+        record { within = List·Memᴰ·head (sym q); joined = subst (λ (j : ℕ). scans (at j) ≡ true) q (first (scans (at k)) (eqb k a) z) }
     by (inr i) f = let r = f i in record { within = List·Memᴰ·tail (r .within); joined = r .joined }
 
 pub joins-plan : {at : ℕ → Atom} {B : Bound} {ss : List Step} {B′ : Bound} {ks : List ℕ} → Lowered at B ss B′ ks → (a : ℕ) → JoinedIn at ks a → hasJoin a ss ≡ true
@@ -92,6 +93,6 @@ joins-plan {at} (more {B} k l {ss} {B″} {ks} e p) a r = joins-append a (l .ste
   where
     by : (a ≡ k) ⊎ List·Memᴰ a ks → (JoinedIn at ks a → hasJoin a ss ≡ true) → (hasJoin a (l .steps) || hasJoin a ss) ≡ true
     by (inl q) f =
-        let z : joins (at k) ≡ true = subst (λ (j : ℕ). joins (at j) ≡ true) q (r .joined) in
+        let z : scans (at k) ≡ true = subst (λ (j : ℕ). scans (at j) ≡ true) q (r .joined) in
         rw (atom-joins a B k (at k) l e, z, eq-eqb k a (sym q))
     by (inr i) f = or-right (hasJoin a (l .steps)) (hasJoin a ss) (f (record { within = i; joined = r .joined }))

@@ -11,8 +11,8 @@ use lib.ListN.{length}
 use borrow.Author.Tests.{lt-ltb, le-ltb, eq-eqb, ne-eqb}
 use Rattle.set_model.specs.Lists.{Pairs}
 use Rattle.set_model.specs.Steps.{SetHolds}
-use Rattle.model.specs.Atoms.{A, AC, ACI, Atom, Plain, Lit, LitBind, Eq, EqGlobal, Pred, Variadic, tameAtom, joins, Row, Table, rows}
-use Rattle.model.specs.Scheduling.{atomOf}
+use Rattle.model.specs.Atoms.{A, AC, ACI, Atom, Plain, Lit, LitBind, Eq, EqGlobal, Pred, Variadic, tameAtom, Row, Table, rows}
+use Rattle.model.specs.Scheduling.{scans, atomOf}
 use Rattle.model.specs.Running.{Mode, joinRows}
 use Rattle.model.specs.Matching.{Assignment, Covers, Parts, HasRow, asSets, Holds, InShape, Distinct, Line, Counts, assignedBy, HoldsIn, IsMatch}
 use Rattle.model.specs.NewRows.{ByNew, UsesNew}
@@ -89,7 +89,7 @@ old-not-new tb d α (Variadic n o cs (ACI v)) sh t p q = not-both tb d (λ r s m
 pub record Under (tb : Table) (n : Counts) (qs : List Atom) (x : Line) : Type 0 where
   pub atom : ℕ
   pub below : atom < length qs
-  pub joined : joins (atomOf qs atom) ≡ true
+  pub joined : scans (atomOf qs atom) ≡ true
   pub match : IsMatch tb (some atom) n qs x
 
 module _ (tb : Table) (n : Counts) (qs : List Atom) (x : Line) where
@@ -144,7 +144,7 @@ module _ (tb : Table) (n : Counts) (qs : List Atom) (x : Line) where
       at (inl f) = record { atom = u .atom; below = u .below; joined = u .by .joined; match = named i (u .atom) (u .by) f }
       at (inr r) = record { atom = r .atom; below = omega (arith, r .below, u .below); joined = r .by .joined; match = named i (r .atom) (r .by) (r .old) }
 
-  by-new : (a : ℕ) → a < length qs → joins (atomOf qs a) ≡ true → IsMatch tb (some a) n qs x → ByNew tb (assignedBy x) (atomOf qs a)
+  by-new : (a : ℕ) → a < length qs → scans (atomOf qs a) ≡ true → IsMatch tb (some a) n qs x → ByNew tb (assignedBy x) (atomOf qs a)
   by-new a h j m = record { joined = j; holds = rw (rows-at tb a) at (m .holds a h) }
 
   -- a match under a named atom uses a new row, and is a match

@@ -17,7 +17,7 @@ use Rattle.model.specs.Atoms.{Atom, Plain, Lit, LitBind, Eq, EqGlobal, P
 use Rattle.model.specs.Bound.{Bound, has, add, hasAll, blank}
 use Rattle.model.proofs.BoundLaws.{put-same, put-other, add-keeps, not-blank}
 use Rattle.model.specs.Lowering.{Emitted, lowerEq, lowerEqGlobal, lower, Lowered, done, more}
-use Rattle.model.specs.Scheduling.{depsUsed, isFree, onlyIf, tryEagerLower, scans, State, unplanned, took, settle, unlowered, Chosen, tryAt, eagerPass, passesUpTo, lowerEager, emitAt, goOn, roundsUpTo, scheduleFrom, Fair, atomOf, numbers, schedule}
+use Rattle.model.specs.Scheduling.{depsUsed, isFree, onlyIf, tryEagerLower, scans, State, unplanned, took, settle, unlowered, Chosen, tryAt, eagerPass, passesUpTo, lowerEager, emitAt, goOn, roundsUpTo, Fair, atomOf, numbers, schedule}
 
 -- what is taken eagerly lowers, a Pred behind its dependencies
 eager-takes : (U B : Bound) (k : ℕ) (a : Atom) (l : Emitted) → tryEagerLower U B k a ≡ some l → (depsUsed U a ≡ true) × (lower B k a ≡ some l)
@@ -117,13 +117,6 @@ scans-low B k (EqGlobal a g) h = absurd (subst T (sym h) tt)
 scans-low B k (Pred g ds) h = absurd (subst T (sym h) tt)
 scans-low B k (Variadic n o cs f) h = (_, refl)
 
-not-free : (U B : Bound) (k : ℕ) (a : Atom) → scans a ≡ true → tryEagerLower U B k a ≡ none → isFree U B a ≡ false
-not-free U B k a c e = at (isFree U B a) refl e
-  where
-    at : (b : Bool) → isFree U B a ≡ b → onlyIf b (lower B k a) ≡ none → isFree U B a ≡ false
-    at true h e = let r = scans-low B k a c in let p = r .1 in let z : _≡_ {A = ℕ} 0 1 = cc in absurd (omega arith)
-    at false h e = h
-
 module _ (atomAt : ℕ → Atom) (js : List ℕ) where
   settle-reached : (b : Bool) (r : Option Emitted) (i : ℕ) (st : State) → has (st .used) i ≡ b → ((l : Emitted) → r ≡ some l → (depsUsed (st .used) (atomAt i) ≡ true) × (lower (st .bound) i (atomAt i) ≡ some l)) → List·Memᴰ i js → Reached atomAt js st → Reached atomAt js (settle b r i st)
   settle-reached true r i st h f m p = p
@@ -222,14 +215,6 @@ module _ (atomAt : ℕ → Atom) (js : List ℕ) where
       at true e r = let p = pass-idle js st (λ j n. n) (eqb-true _ _ e) in subst (λ (t : State). Idle t i) (sym (p .0)) (p .1 i m)
       at false e r = let ne : unlowered (eagerPass atomAt js js st .used) js ≢ unlowered (st .used) js = eqb-false _ _ e in r (omega (arith, pass-left js st))
 
-  -- what is chosen is not free: emit_atom meets a Plain, Lit or LitBind with an unbound node only
-  pub chosen-waits : {X : Type 0} (choose : X → State → Chosen X) → Fair atomAt js choose → (x : X) (st : State) (i : ℕ) → choose x (lowerEager atomAt js st) .at ≡ some i
-      → isFree (lowerEager atomAt js st .used) (lowerEager atomAt js st .bound) (atomAt i) ≡ false
-  chosen-waits choose fair x st i e = not-free (s .used) (s .bound) i (atomAt i) (fair .scanning x s i e) (passes-idle (suc (unlowered (st .used) js)) st (omega arith) i (fair .known x s i e) (fair .unused x s i e))
-    where
-      s : State
-      s = lowerEager atomAt js st
-
   -- when the loop ends: what is left is not eager and does not scan
   pub record Ended (st : State) : Type 0 where
     pub idle : (i : ℕ) → List·Memᴰ i js → has (st .used) i ≡ false → tryEagerLower (st .used) (st .bound) i (atomAt i) ≡ none
@@ -251,7 +236,7 @@ module _ (atomAt : ℕ → Atom) (js : List ℕ) where
         at none e k = record { idle = λ i m. passes-idle (suc (unlowered (st .used) js)) st (omega arith) i m; noscan = fair .last x s e }
         at (some i) e k = k (choose x s .next) (emitAt atomAt js i s) (omega (arith, emit-left i s (fair .known x s i e) (fair .unused x s i e) (fair .scanning x s i e), passes-left (suc (unlowered (st .used) js)) st))
 
-  -- the bounds do not matter: what lower_eager and the loop do next
+  -- the bound does not matter: what lower_eager does next
   passes-same : (f g : ℕ) (st : State) → unlowered (st .used) js < f → unlowered (st .used) js < g → passesUpTo atomAt js f st ≡ passesUpTo atomAt js g st
   unfolding passesUpTo
   passes-same zero g st h k = absurd (omega arith)
@@ -275,36 +260,6 @@ module _ (atomAt : ℕ → Atom) (js : List ℕ) where
       at : (b : Bool) → eqb (unlowered (s .used) js) (unlowered (st .used) js) ≡ b → pick b s (passesUpTo atomAt js (unlowered (st .used) js) s) ≡ pick b s (lowerEager atomAt js s)
       at true e = refl
       at false e = let ne : unlowered (s .used) js ≢ unlowered (st .used) js = eqb-false _ _ e in passes-same (unlowered (st .used) js) (suc (unlowered (s .used) js)) s (omega (arith, pass-left js st)) (omega arith)
-
-  module _ {X : Type 0} (choose : X → State → Chosen X) (fair : Fair atomAt js choose) where
-    rounds-same : (f g : ℕ) (x : X) (st : State) → unlowered (st .used) js < f → unlowered (st .used) js < g → roundsUpTo atomAt js choose f x st ≡ roundsUpTo atomAt js choose g x st
-    unfolding roundsUpTo
-    rounds-same zero g x st h k = absurd (omega arith)
-    rounds-same (suc f) zero x st h k = absurd (omega arith)
-    rounds-same (suc f) (suc g) x st h k = at (choose x s .at) refl (λ y t p q. rounds-same f g y t p q)
-      where
-        s : State
-        s = lowerEager atomAt js st
-
-        at : (o : Option ℕ) → choose x s .at ≡ o → ((y : X) (t : State) → unlowered (t .used) js < f → unlowered (t .used) js < g → roundsUpTo atomAt js choose f y t ≡ roundsUpTo atomAt js choose g y t)
-            → goOn atomAt js (roundsUpTo atomAt js choose f) o (choose x s .next) s ≡ goOn atomAt js (roundsUpTo atomAt js choose g) o (choose x s .next) s
-        at none e r = refl
-        at (some i) e r =
-            let p = emit-left choose fair i s (fair .known x s i e) (fair .unused x s i e) (fair .scanning x s i e) in
-            r (choose x s .next) (emitAt atomAt js i s) (omega (arith, passes-left (suc (unlowered (st .used) js)) st)) (omega (arith, passes-left (suc (unlowered (st .used) js)) st))
-
-    pub schedule-from-is : (x : X) (st : State) → scheduleFrom atomAt js choose x st ≡ goOn atomAt js (scheduleFrom atomAt js choose) (choose x (lowerEager atomAt js st) .at) (choose x (lowerEager atomAt js st) .next) (lowerEager atomAt js st)
-    unfolding roundsUpTo
-    schedule-from-is x st = at (choose x s .at) refl
-      where
-        s : State
-        s = lowerEager atomAt js st
-
-        at : (o : Option ℕ) → choose x s .at ≡ o → goOn atomAt js (roundsUpTo atomAt js choose (unlowered (st .used) js)) o (choose x s .next) s ≡ goOn atomAt js (scheduleFrom atomAt js choose) o (choose x s .next) s
-        at none e = refl
-        at (some i) e =
-            let p = emit-left choose fair i s (fair .known x s i e) (fair .unused x s i e) (fair .scanning x s i e) in
-            rounds-same (unlowered (st .used) js) (suc (unlowered (emitAt atomAt js i s .used) js)) (choose x s .next) (emitAt atomAt js i s) (omega (arith, passes-left (suc (unlowered (st .used) js)) st)) (omega arith)
 
 -- an atom that waits at the end is an Eq with both sides unbound, or a Pred with a dependency that waits
 pub data Waits (U B : Bound) : Atom → Type 0 where

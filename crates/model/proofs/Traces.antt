@@ -3,27 +3,16 @@ use mathlib.Core.Path.{_≡_, refl, sym, ap, _∙_, fun-ext}
 use mathlib.Core.Bool.{Bool, true, false}
 use mathlib.Core.Option.{Option, none, some}
 use mathlib.Core.List.{List, [], _∷_, _++_, flatMap, append-nil}
-use Prim.Native.Nat.{ℕ, _+_, _-_, suc}
-use native.Mathlib.Omega.{arith}
-use lib.ListN.{length}
 use Rattle.set_model.specs.Lists.{one}
-use Rattle.model.proofs.ListsLaws.{flat-flat, flat-map}
-use Rattle.model.specs.Tabulate.{tabulate}
-use Rattle.model.specs.Stores.{keep}
-use Rattle.model.specs.Atoms.{Operand, Lookup, ExpandA, Step, Join, Expand, children, Table}
-use Rattle.model.specs.Running.{Mode, joinRows, Env, rowAt, bindRow, meets, fitAt, Move, try, go, moves, onward, runs, Event, attempt, found, trace, founds, attempts}
+use Rattle.model.proofs.ListsLaws.{flat-flat}
+use Rattle.model.specs.Atoms.{Step, Table}
+use Rattle.model.specs.Running.{Mode, Env, Move, go, moves, onward, runs, Event, attempt, found, trace, founds}
 
 pub founds-append : (l m : List Event) → founds (l ++ m) ≡ founds l ++ founds m
 unfolding founds
 founds-append [] m = refl
 founds-append (attempt ∷ l) m = founds-append l m
 founds-append (found σ ∷ l) m = ap {B = List Env} (λ t. σ ∷ t) (founds-append l m)
-
-pub attempts-append : (l m : List Event) → attempts (l ++ m) ≡ attempts l + attempts m
-unfolding attempts
-attempts-append [] m = omega arith
-attempts-append (attempt ∷ l) m = omega (arith, attempts-append l m)
-attempts-append (found σ ∷ l) m = attempts-append l m
 
 -- one move
 abbrev eventsOf : (Env → List Event) → Move → List Event
@@ -60,21 +49,7 @@ runs-append tb md (x ∷ s) t σ =
     ∙ ap (λ (f : Move → List Env). flatMap f (moves tb md x σ)) (fun-ext (λ m. onward-flat (runs tb md t) (runs tb md s) (m .next)))
     ∙ sym (flat-flat (runs tb md t) (λ m. onward (runs tb md s) (m .next)) (moves tb md x σ))
 
--- What code proves against: one move, a Join row by row, step 47 with both offset by offset.
+-- what code proves against: one move
 pub trace-one : (tb : Table) (md : Mode) (s : Step) (ss : List Step) (σ : Env) (o : Option Env) → moves tb md s σ ≡ go o ∷ [] → trace tb md (s ∷ ss) σ ≡ onward (trace tb md ss) o
 unfolding trace flatMap
 trace-one tb md s ss σ o e = rw e (append-nil (onward (trace tb md ss) o))
-
-pub trace-join : (tb : Table) (md : Mode) (v k : ℕ) (ls : List Lookup) (ss : List Step) (σ : Env) → trace tb md (Join v k ls ∷ ss) σ ≡ flatMap (λ r. attempt ∷ onward (trace tb md ss) (keep (meets tb σ r ls) (bindRow σ v r))) (joinRows tb md k)
-unfolding trace
-trace-join tb md v k ls ss σ = flat-map (eventsOf (trace tb md ss)) (λ r. try (keep (meets tb σ r ls) (bindRow σ v r))) (joinRows tb md k)
-
-pub trace-both : (tb : Table) (md : Mode) (n : ℕ) (cs : List Operand) (p s : ℕ) (ss : List Step) (σ : Env)
-    → trace tb md (Expand n cs (ExpandA (some p) (some s)) ∷ ss) σ ≡ flatMap (λ i. attempt ∷ onward (trace tb md ss) (fitAt tb (some p) cs (some s) (children (rowAt σ n)) σ i)) (tabulate (suc (length (children (rowAt σ n))) - length cs) (λ i. i))
-unfolding trace
-trace-both tb md n cs p s ss σ = flat-map (eventsOf (trace tb md ss)) (λ i. try (fitAt tb (some p) cs (some s) (children (rowAt σ n)) σ i)) (tabulate (suc (length (children (rowAt σ n))) - length cs) (λ i. i))
-
--- Note 12's seam: of several things each is a try, and behind it come further moves; what the run behind makes of that
-pub onward-offers : {X Z : Type 0} (k : Env → List Z) (inner : X → List Move) (l : List X) → flatMap (λ (m : Move). onward k (m .next)) (flatMap (λ x. try none ∷ inner x) l) ≡ flatMap (λ x. flatMap (λ (m : Move). onward k (m .next)) (inner x)) l
-unfolding flatMap
-onward-offers k inner l = flat-flat (λ (m : Move). onward k (m .next)) (λ x. try none ∷ inner x) l

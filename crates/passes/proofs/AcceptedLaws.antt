@@ -5,29 +5,23 @@ use mathlib.Core.Bool.{Bool, true, false}
 use mathlib.Core.List.{List, [], _∷_, _++_, flatMap}
 use native.Mathlib.Omega.{arith}
 use lib.Dec.{eqb, ltb}
-use lib.ListN.{length, getD, replicate}
+use lib.ListN.{getD, replicate}
 use borrow.Author.Tests.{ltb-true, lt-ltb}
 use Rattle.base.specs.Choose.{pick}
 use Rattle.base.proofs.ChooseLaws.{both-hold}
 use Rattle.frame_tests.specs.Faults.{isAtom}
-use Rattle.first_reading.specs.declared.first.Reading.{Reading}
-use Rattle.first_reading.specs.declared.first.Reading.the-variants.{Accepted}
-use Rattle.first_reading.proofs.ReadingLaws.{or-passes}
-use Rattle.frame_keys.specs.Keys.{keyGiven}
-use Rattle.second_reading.specs.FromTable.{takesTable}
-use Rattle.second_reading.specs.Second.{secondFault, secondFrom}
 use Rattle.fields.specs.Fields.{width, fieldIn, fieldPasses, operandIn}
 use Rattle.kinds.specs.Kinds.{kinds, kindAt}
 use Rattle.frames.specs.Frames.{passAll, framePasses}
 use Rattle.fields.specs.declared.field.Counts.{Counts}
 use Rattle.fields.specs.declared.field.Field.{Field}
 use Rattle.fields.specs.declared.field.Field.the-variants.{Operand, Element}
-use Rattle.fields.specs.declared.field.Test.the-variants.{Range, Reals}
+use Rattle.fields.specs.declared.field.Test.the-variants.{Range}
 use Rattle.model.specs.Atoms.{local, global, localOf, varsIn}
 use Rattle.model.proofs.Bools.{both, first, second}
 use Rattle.model.specs.Bound.{boundMost}
 use Rattle.model.specs.Premises.{numbersBelow}
-use Rattle.cost.specs.QueryAtoms.{operandsFrom, atomOfFrame, atomFrames}
+use Rattle.cost.specs.QueryAtoms.{operandsFrom, atomOfFrame}
 use Rattle.lowering.specs.AtomLines.{AtomLine}
 use Rattle.lowering.proofs.AtomLaws.{by-kind}
 
@@ -79,27 +73,3 @@ module _ (n : Counts) where
   -- a frame of an atom that passes test 5, with at most 64 variables
   pub atom-line : (f : List ℕ) → isAtom (getD f 0 0) ≡ true → n .variables ≤ boundMost → framePasses (fieldPasses Range n) f ≡ true → AtomLine f
   atom-line f a l h = record { kind = a; variables = below-more (n .variables) boundMost (varsIn (atomOfFrame f)) l (vars-in f a h) }
-
-  -- ---- the second reading
-
-  passes-range : (earlier : List (List ℕ)) (f : List ℕ) → secondFault n earlier f ≡ 0 → framePasses (fieldPasses Range n) f ≡ true
-  unfolding secondFault
-  passes-range earlier f h = by (framePasses (fieldPasses Range n) f) h
-    where
-      by : (t : Bool) → _≡_ {A = ℕ} (pick t (pick (framePasses (fieldPasses Reals n) f) (pick (keyGiven earlier f) 7 (pick (takesTable f) (pick (n .table) 0 13) 0)) 6) 5) 0 → t ≡ true
-      by true h = refl
-      by false h = absurd (omega arith)
-
-  -- where it accepts, with at most 64 variables, each atom's frame is an AtomLine
-  pub accepted-lines : n .variables ≤ boundMost → (fs earlier : List (List ℕ)) (k : ℕ) (a : Reading) (l c : ℕ) → secondFrom n earlier k fs a ≡ Accepted l c → (j : ℕ) → j < length (atomFrames fs) → AtomLine (getD (atomFrames fs) j [])
-  unfolding secondFrom atomFrames
-  accepted-lines m [] earlier k a l c h j g = absurd (omega arith)
-  accepted-lines m (f ∷ fs) earlier k a l c h j g = by (isAtom (getD f 0 0)) refl j g (accepted-lines m fs (earlier ++ f ∷ []) (suc k) a l c (r .1))
-    where
-      r : (secondFault n earlier f ≡ 0) × (secondFrom n (earlier ++ f ∷ []) (suc k) fs a ≡ Accepted l c)
-      r = or-passes (secondFault n earlier f) k (secondFrom n (earlier ++ f ∷ []) (suc k) fs a) l c h
-
-      by : (t : Bool) → isAtom (getD f 0 0) ≡ t → (j : ℕ) → j < length (pick t (f ∷ atomFrames fs) (atomFrames fs)) → ((i : ℕ) → i < length (atomFrames fs) → AtomLine (getD (atomFrames fs) i [])) → AtomLine (getD (pick t (f ∷ atomFrames fs) (atomFrames fs)) j [])
-      by true e zero g rest = atom-line f e m (passes-range earlier f (r .0))
-      by true e (suc i) g rest = rest i (omega arith)
-      by false e i g rest = rest i g

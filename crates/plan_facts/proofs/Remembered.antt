@@ -26,7 +26,7 @@ use Rattle.model.proofs.ListsLaws.{from, into}
 use Rattle.model.specs.Bound.{Bound, has}
 use Rattle.model.specs.Lowering.{pvIsBound}
 use Rattle.model.specs.Scheduling.{State, Chosen, atomOf, numbers, lowerEager, emitAt, goOn, roundsUpTo, unplanned}
-use Rattle.model.specs.Cheapest.{Priced, Bid, Scan, scan, cheapest, better, wants}
+use Rattle.model.specs.Cheapest.{Priced, Bid, Scan, scan, cheapest, better, isCandidate}
 use Rattle.cost.specs.declared.probes.Key.{Key}
 use Rattle.cost.specs.Emitters.{Emitter, Emitters, emitterOf}
 use Rattle.cost.specs.Sampling.{Tally, sameKey, isKnown, measure, tallyOf, afterEstimate}
@@ -128,7 +128,7 @@ module _ (at : ℕ → Atom) {X C : Type 0} (price : X → State → ℕ → Pri
   unfolding scan
   scan-keeps js [] s x b p = p
   scan-keeps js (i ∷ ks) s x b p =
-      pick-elim (λ (r : Scan X C). P (r .next)) (wants at js price less s i) _ _
+      pick-elim (λ (r : Scan X C). P (r .next)) (isCandidate (s .used) i (at i)) _ _
       (λ _. scan-keeps js ks s (price x s i .next) (better at js price less i (price x s i .price) b) (step x s i p))
       (λ _. scan-keeps js ks s x b p)
 

@@ -1,25 +1,21 @@
 -- How large the planner's answers can be. What is refused goes by the bounds of a reading, a plan by what is proved of its text, steps and
 -- tallies.
 use Prim.Native.Nat.{ℕ, _≤_}
-use mathlib.Core.Path.{_≡_, refl}
+use mathlib.Core.Path.{_≡_}
 use mathlib.Core.Option.{Option}
 use mathlib.Core.List.{List}
 use native.Mathlib.Omega.{arith}
 use lib.ListN.{length}
 use lib.Dec.{ltb}
 use Rattle.base.proofs.ChooseLaws.{pick-elim}
-use Rattle.kinds.specs.Kinds.{query, table}
+use Rattle.kinds.specs.Kinds.{query}
 use Rattle.frame_tests.specs.declared.tests.Text.the-variants.{Query}
-use Rattle.first_reading.specs.declared.first.Reading.{Reading}
-use Rattle.first_reading.specs.declared.first.Reading.the-variants.{Accepted, Refused}
-use Rattle.second_reading.specs.Second.{reading, queryReading}
-use Rattle.second_reading.proofs.QueryLaws.{query-accepted}
-use Rattle.reading_facts.proofs.AnswersLaws.{query-number}
-use Rattle.reading_facts.proofs.FewLines.{query-few-lines}
-use Rattle.fitting.specs.Planner.{Answer, Result, given, isHanded, tableReading, afterTable, afterReading, plan, planOf, stepsOf, written, fitted, refusedWith}
+use Rattle.first_reading.specs.declared.first.Reading.the-variants.{Accepted}
+use Rattle.second_reading.specs.Second.{reading}
+use Rattle.fitting.specs.Planner.{Answer, Result, given, plan, planOf, stepsOf, written, fitted, refusedWith}
 use Rattle.ordering.proofs.Accepted.{few-keys}
 use Rattle.fitting.specs.Promised.{read-back}
-use Rattle.fitting.proofs.TableBounds.{table-refused}
+use Rattle.fitting.proofs.ReadingsLaws.{readings-hold}
 
 pub record Within (a : Answer) : Type 0 where
   pub number : a .number ≤ 13
@@ -31,8 +27,8 @@ pub record Within (a : Answer) : Type 0 where
   pub tallied : a .tallied ≤ 1024
   pub rejected : a .rejected ≤ 1024
 
-back-within : (k t l : ℕ) (o : List ℕ) → 1 ≤ k → k ≤ 13 → t ≤ 2 → l ≤ 32769 → Within (refusedWith k t l o .answer)
-back-within k t l o h g u m = record { number = g; text = u; planned = λ q. absurd (omega arith); line = m; bytes = omega arith; steps = omega arith; tallied = omega arith; rejected = omega arith }
+back-within : (o : List ℕ) (k t l : ℕ) → 1 ≤ k → k ≤ 13 → t ≤ 2 → l ≤ 32769 → Within (refusedWith o k t l .answer)
+back-within o k t l h g u m = record { number = g; text = u; planned = λ q. absurd (omega arith); line = m; bytes = omega arith; steps = omega arith; tallied = omega arith; rejected = omega arith }
 
 module _ (x : List ℕ) (t : Option (List ℕ)) (o : List ℕ) where
   -- 8, or the plan
@@ -41,19 +37,10 @@ module _ (x : List ℕ) (t : Option (List ℕ)) (o : List ℕ) where
   fitted-within n c ok =
       let b = read-back x t n c ok in
       let k = few-keys x n c ok (given x t) in
-      pick-elim (λ (r : Result). Within (r .answer)) (ltb (length o) (length (planOf x t .text))) (refusedWith 8 query 0 o) (written (planOf x t) o)
-      (λ _. back-within 8 query 0 o (omega arith) (omega arith) (omega arith) (omega arith))
+      pick-elim (λ (r : Result). Within (r .answer)) (ltb (length o) (length (planOf x t .text))) (refusedWith o 8 query 0) (written (planOf x t) o)
+      (λ _. back-within o 8 query 0 (omega arith) (omega arith) (omega arith) (omega arith))
       (λ _. record { number = omega arith; text = omega arith; planned = λ q. omega (arith, b .long); line = omega arith; bytes = b .short; steps = b .few; tallied = k .tallied-few; rejected = k .rejected-few })
-
-  -- the table's reading
-  table-within : (n c : ℕ) → reading Query x ≡ Accepted n c → (v : Reading) → tableReading x t ≡ v → Within (afterTable v x t o .answer)
-  table-within n c ok (Refused k l) e = let r = table-refused x t k l e in back-within k table l o (r .some) (omega (arith, r .number)) (omega arith) (r .line)
-  table-within n c ok (Accepted m r) e = fitted-within n c ok
 
   pub plan-within : Within (plan x t o .answer)
   unfolding plan
-  plan-within = go (queryReading (isHanded t) x) refl
-    where
-      go : (a : Reading) → queryReading (isHanded t) x ≡ a → Within (afterReading a x t o .answer)
-      go (Refused k l) e = let z = query-number (isHanded t) x k l e in back-within k query l o (z .0) (z .1) (omega arith) (query-few-lines (isHanded t) x k l e)
-      go (Accepted n c) e = table-within n c (query-accepted (isHanded t) x n c e) (tableReading x t) refl
+  plan-within = readings-hold (λ (r : Result). Within (r .answer)) (refusedWith o) (back-within o) x t (fitted (planOf x t) o) fitted-within

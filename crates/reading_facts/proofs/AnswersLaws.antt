@@ -26,7 +26,6 @@ use Rattle.first_reading.specs.declared.first.Reading.the-variants.{Accepted, R
 use Rattle.frame_keys.specs.Keys.{keyGiven}
 use Rattle.second_reading.specs.FromTable.{takesTable, tableFor}
 use Rattle.second_reading.specs.Second.{countsBy, secondFault, secondFrom, second, readingBy, reading, queryReading}
-use Rattle.reading_facts.specs.Answers.{numberOf}
 
 -- ---- "line 0 for an empty query or plan (2), a text too long (4)"
 
@@ -195,11 +194,3 @@ query-number h x k l p =
     let b = tableFor h (framesOf x) in
     let n = number-by b Query x k l p in
     (n .0, omega (arith, n .1, high-most b))
-
--- number 0 says accepted
-pub number-none : (t : Text) (x : List ℕ) → numberOf t (reading t x) ≡ 0 → (n : ℕ) × (c : ℕ) × (reading t x ≡ Accepted n c)
-number-none t x p = go (reading t x) refl p
-  where
-    go : (a : Reading) → reading t x ≡ a → numberOf t a ≡ 0 → (n : ℕ) × (c : ℕ) × (reading t x ≡ Accepted n c)
-    go (Accepted n c) e q = (n, c, e)
-    go (Refused k l) e q = let z = refused-number t x k l e in absurd (omega arith)

@@ -8,12 +8,8 @@ use lib.ListN.{length}
 use lib.Ieee.{Float}
 use Rattle.first_reading.specs.First.{framesOf}
 use Rattle.frame_tests.specs.declared.tests.Text.the-variants.{Query}
-use Rattle.first_reading.specs.declared.first.Reading.{Reading}
-use Rattle.first_reading.specs.declared.first.Reading.the-variants.{Accepted, Refused}
-use Rattle.second_reading.specs.Second.{reading, queryReading}
-use Rattle.second_reading.proofs.QueryLaws.{query-accepted}
-use Rattle.reading_facts.proofs.AnswersLaws.{query-number}
-use Rattle.reading_facts.proofs.FewLines.{query-few-lines}
+use Rattle.first_reading.specs.declared.first.Reading.the-variants.{Accepted}
+use Rattle.second_reading.specs.Second.{reading}
 use Rattle.reading_facts.proofs.Whole.{query-within}
 use Rattle.model.specs.Atoms.{Atom}
 use Rattle.model.proofs.TabulateLaws.{tabulate-mem}
@@ -22,9 +18,9 @@ use Rattle.cost.specs.QueryAtoms.{atomsIn}
 use Rattle.cost.specs.Choice.{Memory, fresh, recorded, emittedBy, byCost, choose, roundsFrom}
 use Rattle.cost.proofs.ChoiceLaws.{choose-fair}
 use Rattle.plan_facts.proofs.QueryPlansLaws.{atoms-number}
-use Rattle.fitting.specs.Planner.{isHanded, given, tableReading}
-use Rattle.fitting.proofs.TableBounds.{table-refused}
-use Rattle.round_costs.specs.Costs.{Answer as RoundAnswer, Chosen, Ended, Invalid, toldBy, roundOf, afterTable, afterReading, roundCosts}
+use Rattle.fitting.specs.Planner.{given}
+use Rattle.fitting.proofs.ReadingsLaws.{readings-hold}
+use Rattle.round_costs.specs.Costs.{Answer as RoundAnswer, Chosen, Ended, Invalid, Result, toldBy, told, roundOf, refusedWith, roundCosts}
 
 -- the atom, where one is chosen, is one of n
 Among : ℕ → Option ℕ → Type 0
@@ -69,18 +65,16 @@ told-within none cs o h = tt
 told-within (some i) cs o h = h
 
 module _ (x : List ℕ) (t : Option (List ℕ)) (round : ℕ) (o : List ℕ) where
-  table-within : (n c : ℕ) → reading Query x ≡ Accepted n c → (v : Reading) → tableReading x t ≡ v → RoundWithin (afterTable v x t round o .answer)
+  abbrev m : Memory
+  m = roundOf (given x t) (atomsIn (framesOf x)) round
+
+  read-within : (n c : ℕ) → reading Query x ≡ Accepted n c → RoundWithin (told m o .answer)
   unfolding Among
-  table-within n c ok (Refused k l) e = let r = table-refused x t k l e in (omega (arith, r .number), (omega arith, r .line))
-  table-within n c ok (Accepted a b) e =
+  read-within n c ok =
       let few : length (atomsIn (framesOf x)) ≤ 64 = omega (arith, atoms-number x n c ok, query-within x n c ok .atoms) in
-      let m = roundOf (given x t) (atomsIn (framesOf x)) round in
       told-within (m .chosen) (m .costs) o (rounds-among (given x t) (atomsIn (framesOf x)) 64 few (suc round) fresh unplanned tt)
 
   pub round-within : RoundWithin (roundCosts x t round o .answer)
   unfolding roundCosts
-  round-within = go (queryReading (isHanded t) x) refl
-    where
-      go : (a : Reading) → queryReading (isHanded t) x ≡ a → RoundWithin (afterReading a x t round o .answer)
-      go (Refused k l) e = let z = query-number (isHanded t) x k l e in (z .1, (omega arith, query-few-lines (isHanded t) x k l e))
-      go (Accepted n c) e = table-within n c (query-accepted (isHanded t) x n c e) (tableReading x t) refl
+  round-within =
+      readings-hold (λ (r : Result). RoundWithin (r .answer)) (refusedWith o) (λ k w l some most text line. (most, (text, line))) x t (told m o) read-within

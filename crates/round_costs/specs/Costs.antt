@@ -5,14 +5,10 @@ use mathlib.Core.List.{List, [], map}
 use lib.ListN.{length}
 use lib.Ieee.{Float}
 use Rattle.first_reading.specs.First.{framesOf}
-use Rattle.kinds.specs.Kinds.{query, table}
-use Rattle.first_reading.specs.declared.first.Reading.{Reading}
-use Rattle.first_reading.specs.declared.first.Reading.the-variants.{Accepted, Refused}
-use Rattle.second_reading.specs.Second.{queryReading}
 use Rattle.model.specs.Atoms.{Atom}
 use Rattle.cost.specs.QueryAtoms.{atomsIn}
 use Rattle.cost.specs.Choice.{Memory, rounds}
-use Rattle.fitting.specs.Planner.{isHanded, given, tableReading}
+use Rattle.fitting.specs.Planner.{given, afterReadings}
 use Rattle.cost_bits.specs.CostBits.{costBits}
 use Rattle.round_costs.specs.declared.rounds.RoundCosts.{RoundCosts}
 use Rattle.round_costs.specs.declared.rounds.RoundCosts.the-variants.{Chosen as Chose, Ended as Over, Refused as Refuses}
@@ -52,15 +48,10 @@ toldBy (some i) cs out = record { answer = Chosen i; output = bitsIn (map costBi
 abbrev pub told : Memory → List ℕ → Result
 told m out = toldBy (m .chosen) (m .costs) out
 
--- "Nothing is written" on a refusal
-abbrev pub afterTable : Reading → List ℕ → Option (List ℕ) → ℕ → List ℕ → Result
-afterTable (Refused k l) x t r out = record { answer = Invalid k table l; output = out }
-afterTable (Accepted n c) x t r out = told (roundOf (given x t) (atomsIn (framesOf x)) r) out
-
-abbrev pub afterReading : Reading → List ℕ → Option (List ℕ) → ℕ → List ℕ → Result
-afterReading (Refused k l) x t r out = record { answer = Invalid k query l; output = out }
-afterReading (Accepted n c) x t r out = afterTable (tableReading x t) x t r out
+-- "Nothing is written"
+abbrev pub refusedWith : List ℕ → ℕ → ℕ → ℕ → Result
+refusedWith out k t l = record { answer = Invalid k t l; output = out }
 
 -- round number r, from 0, of the query text x, with the table text t beside it or none
 unfoldable pub roundCosts : List ℕ → Option (List ℕ) → ℕ → List ℕ → Result
-roundCosts x t r out = afterReading (queryReading (isHanded t) x) x t r out
+roundCosts x t r out = afterReadings (refusedWith out) x t (told (roundOf (given x t) (atomsIn (framesOf x)) r) out)

@@ -10,9 +10,10 @@ use Rattle.frames.specs.Sheet.{framesIn}
 use Rattle.query.specs.Statistics.{driverSample, keyClasses, probeLen}
 use Rattle.buckets.specs.RowIndex.{rowsOn}
 use Rattle.buckets.proofs.NumberLaws.{each-at}
-use Rattle.samplers.specs.TableSamples.{tableDrivers, tableClasses, tableProbe}
+use Rattle.table_samples.specs.TableSamples.{tableDrivers, tableClasses, tableProbe}
+use Rattle.table_samples.specs.Listed.{Listed, RowsListed}
 use Rattle.samplers.specs.Samplers.{samplerBy}
-use Rattle.samplers.specs.Answers.{Known, Listed, Drivers, RowsListed}
+use Rattle.samplers.specs.Answers.{Known, Drivers}
 
 module _ (s : List ℕ) (table : Bool) (q : table ≡ false) where
   none-known : (node : ℕ) → Known s table node

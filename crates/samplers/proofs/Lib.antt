@@ -1,4 +1,2 @@
 pub mod SheetLaws
-pub mod RowClasses
-pub mod BucketLaws
 pub mod AskLaws

@@ -10,7 +10,7 @@ use Rattle.records.specs.Items.{itemsAt}
 use Rattle.records.specs.Shorts.{CopyRoom, Copied}
 use Rattle.records.proofs.ItemsLaws.{items-take}
 use Rattle.query.specs.Statistics.{high, low, driverSample, keyClasses}
-use Rattle.samplers.specs.Answers.{Listed}
+use Rattle.table_samples.specs.Listed.{Listed}
 
 -- all that is copied from the start of an array on
 copied-all : (f : List ℕ) (i n : ℕ) (K K′ : List ℕ) → Copied f i n K 0 K′ → take n K′ ≡ itemsAt shortAt 2 f i n

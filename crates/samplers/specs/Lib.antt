@@ -1,3 +1,2 @@
-pub mod TableSamples
 pub mod Samplers
 pub mod Answers

@@ -5,7 +5,7 @@ use mathlib.Core.List.{List}
 use Rattle.records.specs.Rows.{rowsIn}
 use Rattle.query.specs.Statistics.{driverSample, keyClasses, probeLen}
 use Rattle.given.specs.Asks.{asksTable}
-use Rattle.samplers.specs.TableSamples.{tableDrivers, tableClasses, tableProbe}
+use Rattle.table_samples.specs.TableSamples.{tableDrivers, tableClasses, tableProbe}
 
 pub record Sampler : Type 0 where
   -- `driver_sample`: at most k nodes of an atom, by its number and its operator

@@ -1,16 +1,17 @@
 // The sampler's three questions: a table answers where `table` holds, else the sample sheets.
 ghost use mathlib.Core.Path.{_≡_};
-ghost use Prim.Native.Nat.{_<_, _≤_};
+ghost use Prim.Native.Nat.{_≤_};
 ghost use lib.ListN.{length};
 ghost use Rattle.frames.specs.Sheet.{framesIn};
+ghost use Rattle.table_samples.specs.Listed.{Listed};
 ghost use Rattle.samplers.specs.Samplers.{samplerBy};
-ghost use Rattle.samplers.specs.Answers.{Listed, Drivers, Known, Answers};
+ghost use Rattle.samplers.specs.Answers.{Drivers, Known, Answers};
 use super::sheets::sheet_classes;
 use super::sheets::sheet_drivers;
 use super::sheets::sheet_probe;
-use super::tables::table_classes;
-use super::tables::table_drivers;
-use super::tables::table_probe;
+use table_samples::tables::table_classes;
+use table_samples::tables::table_drivers;
+use table_samples::tables::table_probe;
 
 // At most k nodes of an atom, by its number and its operator, and how many they are.
 pub fn driver_sample(

@@ -1,16 +1,17 @@
 // The answers of the sample sheets, frames 21 to 23: absent lists are empty, absent lengths 0.
 ghost use mathlib.Core.Path.{_≡_};
-ghost use Prim.Native.Nat.{_<_, _≤_, min};
+ghost use Prim.Native.Nat.{_≤_};
 ghost use lib.ListN.{length};
 ghost use Rattle.frames.specs.Sheet.{framesIn};
 ghost use Rattle.given.specs.Given.{Given};
 ghost use Rattle.query.specs.Statistics.{high as highOf, low as lowOf, driverSample, keyClasses, probeLen};
-ghost use Rattle.samplers.specs.Answers.{Listed};
+ghost use Rattle.table_samples.specs.Listed.{Listed};
 use fields::field::wide;
 use given::search::find_in;
 use hex::byte_at;
 use hex::word_at;
 use records::shorts::copy_shorts;
+use table_samples::tables::least;
 
 fn high(s: u16) -> u8
     ensures { λ r. ⌜ r ≡ highOf s ⌝ }
@@ -22,12 +23,6 @@ fn low(s: u16) -> u8
     ensures { λ r. ⌜ r ≡ lowOf s ⌝ }
 {
     (s % 256) as u8
-}
-
-pub fn least(a: usize, b: usize) -> usize
-    ensures { λ r. ⌜ r ≡ min a b ⌝ }
-{
-    if a <= b { a } else { b }
 }
 
 // The first k nodes of an atom's sheet, and how many they are.

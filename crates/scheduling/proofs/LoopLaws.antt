@@ -18,7 +18,7 @@ use Rattle.model.specs.Tabulate.{tabulate}
 use Rattle.model.proofs.TabulateLaws.{tabulate-length, tabulate-mem}
 use Rattle.model.specs.Lowering.{Lowered, done}
 use Rattle.model.specs.Scheduling.{State, Chosen, Progress, scans, unlowered, lowerEager, emitAt, goOn, roundsUpTo, atomOf, numbers}
-use Rattle.model.specs.Cheapest.{Bid, Scan, scan, bidder, better, wants, cheapest}
+use Rattle.model.specs.Cheapest.{Bid, Scan, scan, bidder, better, isCandidate, cheapest}
 use Rattle.query.specs.declared.statistics.Sampled.{Sampled}
 use Rattle.cost.specs.Emitters.{Emitters, recordAtom, recordEmitters}
 use Rattle.cost.specs.Sampling.{Tally}
@@ -56,7 +56,7 @@ module _ (fs : List (List ℕ)) (qs : List Atom) where
   scan-is : (ks : List ℕ) (s : State) (E : Emitters) (b : Bound) (cs : List (Option Float)) (w : Option ℕ) (t : Tally) (o : Option (Bid Float)) → scan (atomOf qs) (numbers qs) (cost fs qs) lt ks s (memory E b t cs w) o ≡ told ks s E b cs w t o
   unfolding scan candidates
   scan-is [] s E b cs w t o = refl
-  scan-is (i ∷ ks) s E b cs w t o = by (wants (atomOf qs) (numbers qs) (cost fs qs) lt s i) o (scan-is ks s E b cs w)
+  scan-is (i ∷ ks) s E b cs w t o = by (isCandidate (s .used) i (atomOf qs i)) o (scan-is ks s E b cs w)
     where
       c : Costed
       c = estimateCost fs E (s .bound) i (atomOf qs i) t

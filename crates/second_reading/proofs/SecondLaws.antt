@@ -11,6 +11,7 @@ use Rattle.base.specs.Choose.{pick}
 use Rattle.fields.specs.Limits.{atomsMost}
 use Rattle.fields.specs.Fields.{fieldPasses}
 use Rattle.kinds.specs.Kinds.{kindAt}
+use Rattle.kinds.specs.Rows.{testsOf}
 use Rattle.frames.specs.Frames.{kindOf, framePasses}
 use Rattle.frames.specs.Sheet.{frameAt, framesIn, Whole}
 use Rattle.first_reading.specs.First.{orElse}
@@ -21,12 +22,13 @@ use Rattle.frame_tests.specs.declared.tests.Text.{Text}
 use Rattle.frame_tests.specs.declared.tests.Text.the-variants.{Query, Plan}
 use Rattle.first_reading.specs.declared.first.Reading.{Reading}
 use Rattle.first_reading.specs.declared.first.Reading.the-variants.{Accepted, Refused}
+use Rattle.frames.proofs.UnreadLaws.{range-unread, reals-unread}
 use Rattle.frames.proofs.SheetLaws.{frames-end, frame-some, frame-within, frame-inside, frames-step}
 use Rattle.frame_keys.specs.Keys.{keyGiven}
 use Rattle.second_reading.specs.FromTable.{takesTable}
 use Rattle.second_reading.specs.Second.{headerCounts, countsInBy, faultOf, secondFault, secondFrom}
 use Rattle.indexing.specs.Index.{slotsFor, givenBy, noted, entriesWith, Noting, Indexes}
-use Rattle.second_reading.specs.Rereading.{indexSize, BlankFor, Rereads}
+use Rattle.second_reading.specs.Rereading.{fieldsFault, indexSize, BlankFor, Rereads}
 use Rattle.indexing.proofs.SlotLaws.{slots-some, keyed-counts}
 use Rattle.indexing.proofs.NoteLaws.{noted-line, noted-length, given-is, blank-indexes}
 use Rattle.second_reading.proofs.EntryLaws.{lacking, lacking-most, entered-still}
@@ -42,28 +44,58 @@ module _ (b : Bool) (t : Text) (s h : List ℕ) (c : ℕ) (r : Counts) (p : h �
 pub key-here : (f : List ℕ) (b k : ℕ) → b ≡ getD f 0 0 → k ≡ kindAt b .key → k ≡ kindOf f .key
 key-here f b k p q = q ∙ rw p
 
-module _ (n : Counts) (f : List ℕ) (g a : Bool) (p : a ≡ framePasses (fieldPasses Range n) f) where
-  pub fault-5 : not a ≡ true → 5 ≡ faultOf n f g
-  fault-5 h = rw (← p, not-true a h)
+-- 5 and 6: where the tests of its kind are below 8, neither looks at the frame
+module _ (n : Counts) (f : List ℕ) where
+  pub fields-unread : (b : ℕ) → b ≡ testsOf (kindOf f) → b < 8 → 0 ≡ fieldsFault n f
+  fields-unread b p h = rw (← range-unread f b p n (omega arith), ← reals-unread f b p n (omega arith))
 
-  module _ (h : not a ≡ false) (b : Bool) (q : b ≡ framePasses (fieldPasses Reals n) f) where
-    pub fault-6 : not b ≡ true → 6 ≡ faultOf n f g
-    fault-6 e = rw (← p, not-false a h, ← q, not-true b e)
+  module _ (a : Bool) (p : a ≡ framePasses (fieldPasses Range n) f) where
+    pub fields-5 : not a ≡ true → 5 ≡ fieldsFault n f
+    fields-5 h = rw (← p, not-true a h)
 
-    module _ (e : not b ≡ false) (c : Bool) (r : c ≡ g) where
+    module _ (h : not a ≡ false) (b : Bool) (q : b ≡ framePasses (fieldPasses Reals n) f) where
+      pub fields-none : b ≡ true → 0 ≡ fieldsFault n f
+      fields-none e = rw (← p, not-false a h, ← q, e)
+
+      pub fields-6 : b ≡ false → 6 ≡ fieldsFault n f
+      fields-6 e = rw (← p, not-false a h, ← q, e)
+
+-- all four, by the first of 5 and 6 that fails
+module _ (n : Counts) (f : List ℕ) (g : Bool) (e : ℕ) (p : e ≡ fieldsFault n f) where
+  abbrev rest : ℕ
+  rest = pick g 7 (pick (takesTable f) (pick (n .table) 0 13) 0)
+
+  pub fault-first : (e ≡ 0 → ⊥) → e ≡ faultOf n f g
+  fault-first z = by (framePasses (fieldPasses Range n) f) (framePasses (fieldPasses Reals n) f) p
+    where
+      by : (a b : Bool) → e ≡ pick a (pick b 0 6) 5 → e ≡ pick a (pick b rest 6) 5
+      by true true q = absurd (z q)
+      by true false q = q
+      by false b q = q
+
+  module _ (z : e ≡ 0) where
+    goes-on : faultOf n f g ≡ rest
+    goes-on = by (framePasses (fieldPasses Range n) f) (framePasses (fieldPasses Reals n) f) (sym p ∙ z)
+      where
+        by : (a b : Bool) → pick {A = ℕ} a (pick b 0 6) 5 ≡ 0 → pick a (pick b rest 6) 5 ≡ rest
+        by true true q = refl
+        by true false q = absurd (omega arith)
+        by false b q = absurd (omega arith)
+
+    module _ (c : Bool) (r : c ≡ g) where
       pub fault-7 : c ≡ true → 7 ≡ faultOf n f g
-      fault-7 z = rw (← p, not-false a h, ← q, not-false b e, ← r, z)
+      fault-7 y = rw (goes-on, ← r, y)
 
-      module _ (z : c ≡ false) (k : ℕ) (d : k ≡ getD f 0 0) where
+      module _ (y : c ≡ false) (k : ℕ) (d : k ≡ getD f 0 0) where
         pub fault-none : (k ≡ 0x24 → ⊥) → 0 ≡ faultOf n f g
-        fault-none o = rw (← p, not-false a h, ← q, not-false b e, ← r, z, ← d, ne-eqb k 0x24 o)
+        fault-none o = rw (goes-on, ← r, y, ← d, ne-eqb k 0x24 o)
 
         module _ (o : k ≡ 0x24) where
           pub fault-table : n .table ≡ true → 0 ≡ faultOf n f g
-          fault-table u = rw (← p, not-false a h, ← q, not-false b e, ← r, z, ← d, eq-eqb k 0x24 o, u)
+          fault-table u = rw (goes-on, ← r, y, ← d, eq-eqb k 0x24 o, u)
 
           pub fault-13 : n .table ≡ false → 13 ≡ faultOf n f g
-          fault-13 u = rw (← p, not-false a h, ← q, not-false b e, ← r, z, ← d, eq-eqb k 0x24 o, u)
+          fault-13 u = rw (goes-on, ← r, y, ← d, eq-eqb k 0x24 o, u)
 
 -- a line without a fault has a new key
 fresh-key : (n : Counts) (f : List ℕ) (g : Bool) → faultOf n f g ≡ 0 → g ≡ false

@@ -3,12 +3,20 @@ use Prim.Native.Nat.{ℕ, _+_, _*_, _/_, _≤_}
 use mathlib.Core.Path.{_≡_}
 use mathlib.Core.List.{List, []}
 use lib.ListN.{length, getD}
+use Rattle.base.specs.Choose.{pick}
+use Rattle.fields.specs.Fields.{fieldPasses}
+use Rattle.frames.specs.Frames.{framePasses}
 use Rattle.frames.specs.Sheet.{framesIn, Whole}
 use Rattle.fields.specs.declared.field.Counts.{Counts}
+use Rattle.fields.specs.declared.field.Test.the-variants.{Range, Reals}
 use Rattle.first_reading.specs.declared.first.Reading.{Reading}
 use Rattle.first_reading.specs.declared.first.Reading.the-variants.{Accepted}
 use Rattle.indexing.specs.Index.{slotsFor, Indexed}
 use Rattle.second_reading.specs.Second.{secondFrom}
+
+-- the tests 5 and 6 of a frame: the first that it fails, or 0
+abbrev pub fieldsFault : Counts → List ℕ → ℕ
+fieldsFault n f = pick (framePasses (fieldPasses Range n) f) (pick (framePasses (fieldPasses Reals n) f) 0 6) 5
 
 -- how many numbers the index of a sheet of n bytes has, with so many slots: a keyed frame has three bytes or more, and two numbers; there
 -- are three entries more, that of a frame 24, which has one byte and is entered once, that numbered 0 and one beyond the last

@@ -3,9 +3,10 @@ ghost use mathlib.Core.Path.{_≡_};
 ghost use lib.ListN.{length};
 ghost use Rattle.first_reading.specs.declared.first.Reading.the-variants.{Accepted};
 ghost use Rattle.frames.specs.Frames.{kindOf};
+ghost use Rattle.kinds.specs.Rows.{testsOf};
 ghost use Rattle.second_reading.specs.Second.{headerCounts, countsInBy, faultOf};
 ghost use Rattle.indexing.specs.Index.{slotsFor, hashOf, Falling, givenBy};
-ghost use Rattle.second_reading.specs.Rereading.{BlankFor, Rereads};
+ghost use Rattle.second_reading.specs.Rereading.{fieldsFault, BlankFor, Rereads};
 use fields::field::Counts;
 use first_reading::first::Reading;
 use frame_tests::tests::Text;
@@ -54,6 +55,20 @@ pub fn counts_of(table: bool, t: Text, sheet: &[u8], c: usize) -> Counts
     }
 }
 
+// The tests 5 and 6 of a frame: the first that it fails, or 0. Of a kind that neither looks at, as of rows, they need not be made.
+fn fields_fault(n: Counts, tests: u8, frame: &[u8]) -> u8
+    requires { ⌜ tests ≡ testsOf (kindOf (now frame)) ⌝ }
+    ensures { λ r. ⌜ r ≡ fieldsFault n (now (frame .entry)) ⌝ }
+{
+    if tests < 8 {
+        return 0;
+    }
+    if !range_passes(n, tests, frame) {
+        return 5;
+    }
+    if reals_pass(n, tests, frame) { 0 } else { 6 }
+}
+
 // The tests 5, 6, 7 and 13 of a frame, by the index of those before it: the first that it fails, or 0.
 fn second_fault(n: Counts, sheet: &[u8], index: &[u16], frame: &[u8], hash: usize, k: u8) -> u8
     requires { ⌜ k ≡ kindOf (now frame) .key ⌝ }
@@ -62,12 +77,9 @@ fn second_fault(n: Counts, sheet: &[u8], index: &[u16], frame: &[u8], hash: usiz
     ensures { λ r. ⌜ r ≡ faultOf n (now (frame .entry)) (givenBy (slotsFor (length (now (index .entry)))) (now (sheet .entry)) (now (index .entry)) (now (frame .entry))) ⌝ }
 {
     let kind = byte_at(frame, 0);
-    let tests = tests_of(kind);
-    if !range_passes(n, tests, frame) {
-        return 5;
-    }
-    if !reals_pass(n, tests, frame) {
-        return 6;
+    let first = fields_fault(n, tests_of(kind), frame);
+    if first != 0 {
+        return first;
     }
     if key_given(sheet, index, frame, hash, k) {
         return 7;

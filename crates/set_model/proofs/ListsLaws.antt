@@ -68,11 +68,6 @@ put-other d (y ∷ l) zero (suc j) x h = refl
 put-other d (y ∷ l) (suc i) zero x h = refl
 put-other d (y ∷ l) (suc i) (suc j) x h = put-other d l i j x (λ e. h (ap suc e))
 
-pub getD-mem : {A : Type 0} (l : List A) (i : ℕ) (d : A) → i < length l → List·Memᴰ (getD l i d) l
-getD-mem [] i d h = absurd (not-suc-le-zero h)
-getD-mem (x ∷ l) zero d h = List·Memᴰ·head refl
-getD-mem (x ∷ l) (suc i) d h = List·Memᴰ·tail (getD-mem l i d (le-of-suc-le-suc h))
-
 pub put-set : {A : Type 0} (d : A) (l : List A) (i : ℕ) (x : A) → i < length l → put d l i x ≡ set l i x
 unfolding put
 put-set d [] i x h = absurd (not-suc-le-zero h)

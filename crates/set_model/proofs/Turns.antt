@@ -134,13 +134,6 @@ module _ (val : Operand → ℕ) where
       go (inl i) = of-round false [] cs c i .mem
       go (inr i) = of-round true [] cs c i .mem
 
-  -- those of the first round are bound, those of the second free or wildcards
-  pub first-bound : (cs : List Operand) (c : Operand) → List·Memᴰ c (round val false [] cs) → val c ≡ unset → ⊥
-  first-bound cs c m e = true-false (eq-eqb (val c) unset e) (of-round false [] cs c m .kind)
-
-  pub second-free : (cs : List Operand) (c : Operand) → List·Memᴰ c (round val true [] cs) → val c ≡ unset
-  second-free cs c m = eqb-true (val c) unset (of-round true [] cs c m .kind)
-
   -- each name once
   round-apart : (free : Bool) (before cs : List Operand) → Pairs Unlike (round val free before cs)
   unfolding round

@@ -28,7 +28,7 @@ use Rattle.second_reading.specs.Second.{countsOf, reading}
 use Rattle.reading_facts.proofs.Whole.{Whole, accepted}
 use Rattle.rows.proofs.RoomLaws.{rows-number, rows-most, rows-short, table-room}
 use Rattle.model.specs.Running.{Mode}
-use Rattle.running.specs.Tables.{rowFrom, newFrom}
+use Rattle.running.specs.Tables.{newFrom}
 use Rattle.running.specs.Validation.{Invalid, testsWith}
 use Rattle.counting.specs.Halts.{Halt}
 use Rattle.world_run.specs.Ends.{Ends}

@@ -244,12 +244,13 @@ const NO_ATOM: u64 = u64::MAX;
 /// Runs a plan over a table with an allowance of tries; the lines of the matches go into the lent output. The Join of the atom `delta_atom`, if one is
 /// named, tries new rows, those from the table's frame 33 on, Joins of lower atoms old rows, higher ones all.
 ///
-/// The C function's answer, accepted: the status from bit 32 on, the bytes written below.
+/// The C function's answer, accepted: the status from bit 32 on, the bytes written below. So at most 2^32 - 1 bytes of the output are lent.
 ///
 /// # Panics
 /// Where the plan has more than 20 kB and no thread can be made.
 pub fn run(plan: &[u8], table: &[u8], allowance: u64, delta_atom: Option<u32>, out: &mut [u8]) -> Result<Ran, Refusal> {
     let (mut tries, mut matches) = (0, 0);
+    let room = out.len().min(u32::MAX as usize);
     // SAFETY: the pointers are of references that outlive the call, and the lengths are the slices'.
     let answer = accepted(with_stack(plan, || unsafe {
         c::rimdovek_run(
@@ -260,7 +261,7 @@ pub fn run(plan: &[u8], table: &[u8], allowance: u64, delta_atom: Option<u32>, o
             allowance,
             delta_atom.map_or(NO_ATOM, u64::from),
             out.as_mut_ptr(),
-            out.len(),
+            room,
             &mut tries,
             &mut matches,
         )

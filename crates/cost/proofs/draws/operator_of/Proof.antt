@@ -2,7 +2,7 @@
 use borrow.Author.Needs.{needs}
 use Prim.Native.Nat.{_-_}
 use lib.ListN.{length}
-use Rattle.cost.proofs.OperatorLaws.{Seeking, seeking-first, seeking-end, seeking-fits, seeking-less, seeking-pass, seeking-here, seeking-next}
+use Rattle.cost.proofs.OperatorLaws.{Seeking, seeking-first, seeking-end, seeking-less, seeking-pass, seeking-here, seeking-next}
 use Rattle.cost.proofs.draws.operator_of.Statement.{statement}
 use Rattle.cost.proofs.draws.operator_of.Tie as tie
 

@@ -1,5 +1,6 @@
 -- `exports::runs::rimdovek_run` meets its contract.
-use Rattle.run_answers.specs.Runs.{packedRun, triesIn, matchesIn}
+use Rattle.running.specs.Run.{triesIn, matchesIn}
+use Rattle.run_answers.specs.Runs.{packedRun}
 use Rattle.exports.proofs.RunLaws.{told-of-run, run-output}
 use borrow.Author.Needs.{needs}
 use Rattle.exports.proofs.runs.rimdovek_run.Statement.{statement}

@@ -11,11 +11,17 @@ returns : tie.Need-returns
 unfolding decode
 returns c = rw (c .before .if1 .taken) (c .class-fits .ensures)
 
-other-fits-requires : tie.Need-other-fits-requires
-other-fits-requires c κs = search needs
+count-fits-requires : tie.Need-count-fits-requires
+count-fits-requires c κs = search needs
 
 returns-2 : tie.Need-returns-2
 returns-2 c = search needs
 
+fits-by-code-requires : tie.Need-fits-by-code-requires
+fits-by-code-requires c κs = search needs
+
+returns-3 : tie.Need-returns-3
+returns-3 c = search needs
+
 pub field-fits-spec : {M : Type 1} → statement M
-field-fits-spec = tie.close (tie.spec class-fits-requires returns other-fits-requires returns-2)
+field-fits-spec = tie.close (tie.spec class-fits-requires returns count-fits-requires returns-2 fits-by-code-requires returns-3)

@@ -7,8 +7,8 @@ use Rattle.fields.proofs.field.field_passes.Tie as tie
 enum-told : tie.Need-enum-told
 enum-told c = search needs
 
-field-fits-requires : tie.Need-field-fits-requires
-field-fits-requires c κs = search needs
+fits-by-code-requires : tie.Need-fits-by-code-requires
+fits-by-code-requires c κs = search needs
 
 enum-told-2 : tie.Need-enum-told-2
 enum-told-2 c = search needs
@@ -24,7 +24,7 @@ field-real-requires c κs = search needs
 
 returns : tie.Need-returns
 unfolding fieldPasses
-returns c = rw (c .before .enum-told .given .1) (c .field-fits .ensures)
+returns c = rw (c .before .enum-told .given .1) (c .fits-by-code .ensures)
 
 returns-2 : tie.Need-returns-2
 unfolding fieldPasses
@@ -39,7 +39,7 @@ field-passes-spec =
     tie.close
     (tie.spec
     enum-told
-    field-fits-requires
+    fits-by-code-requires
     enum-told-2
     field-in-requires
     enum-told-3

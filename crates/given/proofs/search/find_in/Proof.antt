@@ -7,7 +7,7 @@ query-part-requires : tie.Need-query-part-requires
 query-part-requires c κs = search needs
 
 find-where-requires : tie.Need-find-where-requires
-find-where-requires c κs = rw (c .query-part .ensures) (c .before .before .before .before .pre .1 .keys _ (c .before .before .before .before .pre .0))
+find-where-requires c κs = rw (c .query-part .ensures) (c .before .before .before .before .pre .1 .keyed .found _ (c .before .before .before .before .pre .0))
 
 returns : tie.Need-returns
 returns c = search needs

@@ -1,7 +1,7 @@
 -- `kinds::table::lengths` meets its contract.
 use mathlib.Core.Path.{_∙_}
 use borrow.Author.Needs.{needs}
-use Rattle.kinds.proofs.KindLaws.{lengths-at, lengths-beyond}
+use Rattle.kinds.proofs.KindLaws.{word-place, lengths-at, lengths-beyond}
 use Rattle.kinds.proofs.table.lengths.Statement.{statement}
 use Rattle.kinds.proofs.table.lengths.Tie as tie
 
@@ -11,11 +11,8 @@ wide-requires c κs = search needs
 returns : tie.Need-returns
 returns c = lengths-beyond _ (c .if1 .taken)
 
-mul-word : tie.Need-mul-word
-mul-word c = search needs
-
-array-read-word : tie.Need-array-read-word
-array-read-word c = search needs
+word-at-requires : tie.Need-word-at-requires
+word-at-requires c κs = word-place _ _ (c .wide .ensures .0) (c .before .if1 .left)
 
 mul-low-byte : tie.Need-mul-low-byte
 mul-low-byte c = search needs
@@ -27,7 +24,9 @@ low-byte-requires : tie.Need-low-byte-requires
 low-byte-requires c κs = search needs
 
 returns-2 : tie.Need-returns-2
-returns-2 c = c .low-byte .ensures ∙ lengths-at _ _ (c .before .wide .ensures .0) (c .before .before .if1 .left)
+returns-2 c =
+    c .low-byte .ensures
+    ∙ rw (c .before .word-at .ensures) (lengths-at _ _ (c .before .before .wide .ensures .0) (c .before .before .before .if1 .left))
 
 pub lengths-spec : {M : Type 1} → statement M
 lengths-spec =
@@ -35,8 +34,7 @@ lengths-spec =
     (tie.spec
     returns
     wide-requires
-    mul-word
-    array-read-word
+    word-at-requires
     mul-low-byte
     shr-low-byte
     low-byte-requires

@@ -4,7 +4,7 @@ use Rattle.reading.proofs.ReadLaws.{read-within, read-fits, read-sheet, read-in
 use Rattle.ordering.proofs.OrderLaws.{accepts}
 use Rattle.second_reading.proofs.QueryLaws.{query-accepted}
 use mathlib.Core.Path.{sym, _∙_, refl}
-use Rattle.gathering.proofs.GivenLaws.{given-alone, taken-table, handed-table, asks}
+use Rattle.gathering.proofs.GivenLaws.{keyed-alone, given-alone, taken-table, handed-table, asks}
 use Rattle.lent_planning.proofs.EntryLaws.{planned-back, planned-whole, planned-beside}
 use borrow.Author.Needs.{needs}
 use Rattle.lent_planning.proofs.accepted.plan_by.Statement.{statement}
@@ -29,7 +29,7 @@ slice-aggregate-asks-table : tie.Need-slice-aggregate-asks-table
 slice-aggregate-asks-table c = read-fits _ _ _ _ _ (c .before .before .before .before .before .before .before .before .before .read-query .ensures) _ _ (c .before .before .before .lines .given .1) _ (c .before .sheet-size .ensures)
 
 asks-table-requires : tie.Need-asks-table-requires
-asks-table-requires c κs = read-index _ _ _ _ _ (c .before .before .before .before .before .before .before .before .before .before .read-query .ensures) _ _ (c .before .before .before .before .lines .given .1) _ (c .before .before .sheet-size .ensures)
+asks-table-requires c κs = keyed-alone _ _ (read-index _ _ _ _ _ (c .before .before .before .before .before .before .before .before .before .before .read-query .ensures) _ _ (c .before .before .before .before .lines .given .1) _ (c .before .before .sheet-size .ensures)) (omega (arith, c .before .before .before .before .before .before .before .index .given, c .before .before .before .before .before .before .before .before .before .before .before .before .before .before .before .before .before .before .pre .1))
 
 plan-sampled-requires : tie.Need-plan-sampled-requires
 plan-sampled-requires c κs = (asks _ _ _ (c .before .before .before .before .before .before .before .before .before .before .before .before .before .read-query .ensures .is) _ _ (c .before .before .before .before .before .before .before .lines .given .1) _ (read-sheet _ _ _ _ _ (c .before .before .before .before .before .before .before .before .before .before .before .before .before .read-query .ensures) _ _ (c .before .before .before .before .before .before .before .lines .given .1) _ (c .before .before .before .before .before .sheet-size .ensures)) _ (c .before .before .asks-table .ensures) (c .before .if1 .taken), taken-table _ _ _ (c .before .before .before .before .before .before .before .before .before .before .before .before .before .read-query .ensures .is) _ _ (c .before .before .before .before .before .before .before .lines .given .1) _ (read-sheet _ _ _ _ _ (c .before .before .before .before .before .before .before .before .before .before .before .before .before .read-query .ensures) _ _ (c .before .before .before .before .before .before .before .lines .given .1) _ (c .before .before .before .before .before .sheet-size .ensures)) _ (c .before .before .asks-table .ensures) (c .before .if1 .taken))
@@ -53,7 +53,7 @@ slice-aggregate-plan-accepted : tie.Need-slice-aggregate-plan-accepted
 slice-aggregate-plan-accepted c = read-fits _ _ _ _ _ (c .before .before .before .before .before .before .before .before .before .before .before .before .before .read-query .ensures) _ _ (c .before .before .before .before .before .before .before .lines .given .1) _ (c .before .before .before .before .before .sheet-size .ensures)
 
 plan-accepted-requires : tie.Need-plan-accepted-requires
-plan-accepted-requires c κs = (accepts _ _ refl _ _ (query-accepted _ _ _ _ (sym (c .before .before .before .before .before .before .before .before .before .before .before .before .before .before .before .read-query .ensures .is) ∙ (c .before .before .before .before .before .before .before .before .before .lines .given .1))) _ (read-sheet _ _ _ _ _ (c .before .before .before .before .before .before .before .before .before .before .before .before .before .before .before .read-query .ensures) _ _ (c .before .before .before .before .before .before .before .before .before .lines .given .1) _ (c .before .before .before .before .before .before .before .sheet-size .ensures)), given-alone _ _ _ (read-index _ _ _ _ _ (c .before .before .before .before .before .before .before .before .before .before .before .before .before .before .before .read-query .ensures) _ _ (c .before .before .before .before .before .before .before .before .before .lines .given .1) _ (c .before .before .before .before .before .before .before .sheet-size .ensures)) (omega (arith, c .before .before .before .before .before .before .before .before .before .before .before .before .index .given, c .before .before .before .before .before .before .before .before .before .before .before .before .before .before .before .before .before .before .before .before .before .before .before .pre .1)) (c .before .before .before .before .asks-table .ensures) (c .before .before .before .if1 .left))
+plan-accepted-requires c κs = (accepts _ _ refl _ _ (query-accepted _ _ _ _ (sym (c .before .before .before .before .before .before .before .before .before .before .before .before .before .before .before .read-query .ensures .is) ∙ (c .before .before .before .before .before .before .before .before .before .lines .given .1))) _ (read-sheet _ _ _ _ _ (c .before .before .before .before .before .before .before .before .before .before .before .before .before .before .before .read-query .ensures) _ _ (c .before .before .before .before .before .before .before .before .before .lines .given .1) _ (c .before .before .before .before .before .before .before .sheet-size .ensures)), given-alone _ _ _ (keyed-alone _ _ (read-index _ _ _ _ _ (c .before .before .before .before .before .before .before .before .before .before .before .before .before .before .before .read-query .ensures) _ _ (c .before .before .before .before .before .before .before .before .before .lines .given .1) _ (c .before .before .before .before .before .before .before .sheet-size .ensures)) (omega (arith, c .before .before .before .before .before .before .before .before .before .before .before .before .index .given, c .before .before .before .before .before .before .before .before .before .before .before .before .before .before .before .before .before .before .before .before .before .before .before .pre .1))) (c .before .before .before .before .asks-table .ensures) (c .before .before .before .if1 .left))
 
 same-length-4 : tie.Need-same-length-4
 same-length-4 c = search needs

@@ -1,0 +1,2 @@
+pub mod TableSamples
+pub mod Listed
