@@ -52,6 +52,7 @@ uint64_t rimdovek_round_costs(const uint8_t *query, size_t query_len, bool hande
 
 /* Runs a plan over a table with an allowance of tries, a line for each match. `atom` is the atom that the run names as its new one, whose Join
    tries the rows from the table's frame 33 on, Joins of lower atoms those before it; or RIMDOVEK_NO_ATOM. An atom without a Join is refused (12).
+   Classes go by the leaders of the table's frames 34, and are told by them; a row that equals an earlier one so is not tried.
    Accepted: 0 done, 1 spent or 2 full in bits 32 and 33, the bytes written below, modulo 4,294,967,296: lend at most 4,294,967,295 bytes, so that
    they are told whole. Tries and matches are set; a refusal sets 0. The run takes some 1,700 bytes of stack for a Join and 250,000 besides:
    360,000 for a plan of the planner, which has at most 64 Joins, and less than 4,600,000 for the longest plan text that is accepted. */

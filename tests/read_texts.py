@@ -1,5 +1,5 @@
 #!/usr/bin/env python3
-"""The reading of query, plan and table texts, modelled from the words of documents 01 and 02 (Notes 1 to 3, without 13) and not from the code, and the cases of
+"""The reading of query, plan and table texts, modelled from the words of documents 01 and 02 (Notes 1 to 3 and 5, without 13) and not from the code, and the cases of
 reading that the program replay runs. Where they leave room, the readings are those of docs/DECISIONS.md.
 
     tests/read_texts.py DIR              writes reading.in and .out, refused.in and .out; the seed is fixed, so the same files come out
@@ -61,13 +61,14 @@ FRAMES = {QUERY: '''
 31 class(2) op value(4)
 32 global class(2)
 33 row(2)
+34 class(2) leader(2)
 '''}
 WIDTH = {'operand': 2, 'operands': 2, 'elements': 3, 'lookups': 4}
 VARIABLES = {'node', 'a', 'b', 'local', 'target', 'parent', 'other'}
 REALS = {'by_repr', 'fan-out', 'cv'}
 KEYS = {0x10: ['op'], 0x11: ['atom'], 0x12: [], 0x13: ['op', 'position'], 0x14: ['op'], 0x20: [], 0x21: ['atom'],
-        0x22: ['number', 'site', 'position'], 0x23: ['class', 'path', 'position', 'op'], 0x24: [], 0x32: ['global'], 0x33: []}
-MOST = {'variables': 64, 'globals': 16, 'literals': 16, 'k': 64, 'bootstrap': 256, 'class': 0xfffe, 'classes': 0xfffe, 'idempotent': 1}
+        0x22: ['number', 'site', 'position'], 0x23: ['class', 'path', 'position', 'op'], 0x24: [], 0x32: ['global'], 0x33: [], 0x34: ['class']}
+MOST = {'variables': 64, 'globals': 16, 'literals': 16, 'k': 64, 'bootstrap': 256, 'class': 0xfffe, 'classes': 0xfffe, 'leader': 0xfffe, 'idempotent': 1}
 MOST_ITEMS = {'lookups': 18, 'nodes': 64}  # else 16; frame 22 has 32 classes
 TEXT_MOST, ATOMS_MOST, ROWS_MOST = 65536, 64, 1024
 
@@ -214,7 +215,7 @@ def read(text, x):
     n = {'global': 16, 'rows': counted}
     if text != TABLE:
         n = dict(zip(('variable', 'global', 'literal'), frames[0][1:4]), atom=counted if text == QUERY else 64)
-    seen = set()
+    seen, led, leaders = set(), set(), set()
     for i, f in enumerate(frames, 1):
         if not below_counts(f, n):
             return refused(5, i)
@@ -224,6 +225,12 @@ def read(text, x):
         if k is not None and k in seen:
             return refused(7, i)
         seen.add(k)
+        if f[0] == 0x34:
+            led.add(f[1:3])
+            leaders.add(f[3:5])
+            # 14: with this line a leader has a frame 34
+            if f[1:3] in leaders or f[3:5] in led:
+                return refused(14, i)
     return ('accepted', len(frames), counted)
 
 # ---- the cases
@@ -241,11 +248,11 @@ def build(text, frames, steps=None):
 ONE = struct.pack('>d', 1.0)
 
 def good(kind, items=1):
-    """A frame of the kind that passes in a text built so: 0 in every field but reals."""
+    """A frame of the kind that passes in a text built so: 0 in every field but reals, and a leader that is not the class."""
     _, fields, item = KINDS[kind]
     f = bytes([kind])
     for name, w in fields:
-        f += ONE if name in REALS else bytes([items]) if name == 'n' else bytes(w)
+        f += ONE if name in REALS else bytes([items]) if name == 'n' else bytes([0, 1]) if name == 'leader' else bytes(w)
     return f + bytes(item[1] * items if item else 0)
 
 # lines that stand around the tested one, and clash with nothing
@@ -439,13 +446,28 @@ def count_cases():
     yield TABLE, build(TABLE, [row(i) for i in range(1023)] + [row(0)])
     yield TABLE, build(TABLE, [row(i) for i in range(1023)] + [row(1023)[:3] + b'\0\1' + b'\0\0', row(1)])
 
+def leader_cases(rng):
+    """Frames 34 in twos, all of them, and some threes, with another line between or behind: 7, 14, or accepted."""
+    lead = lambda c, d: bytes([0x34, 0, c, 0, d])
+    pairs = [(c, d) for c in (1, 2, 3) for d in (1, 2, 3)]
+    for a in pairs:
+        yield TABLE, build(TABLE, [lead(*a)])
+        yield from ((TABLE, build(TABLE, [lead(*a), lead(*b)])) for b in pairs)
+    for _ in range(120):
+        frames = [lead(*rng.choice(pairs)) for _ in range(3)]
+        frames.insert(rng.randrange(4), bytes.fromhex(rng.choice(('3000010100', '32100000', '330001', '3000010100', '3400ff0001'))))
+        yield TABLE, build(TABLE, frames)
+    far = [bytes([0x34]) + i.to_bytes(2, 'big') + b'\xff\xf0' for i in range(300)]
+    yield from ((TABLE, build(TABLE, far + [last])) for last in (far[0], bytes.fromhex('34fff00001'), bytes.fromhex('34ffef012b'), bytes.fromhex('34ffef0200')))
+
 def size_cases():
     """Texts of exactly 65,536 bytes, and of one more. The query has as many keyed lines as fit: no text costs the test for 7 more."""
     query = build(QUERY, [bytes([0x22]) + i.to_bytes(2, 'big') + bytes(3) for i in range(5040)] + [good(0x06, 0)])
     plan = build(PLAN, [good(0x4c)] * 13103)
     rows = [bytes([0x30]) + i.to_bytes(2, 'big') + bytes([0, 16]) + bytes(32) for i in range(873)]
     table = build(TABLE, rows + [good(0x30, 6), good(0x31), good(0x32)])
-    for text, x in ((QUERY, query), (PLAN, plan), (TABLE, table)):
+    led = build(TABLE, [bytes([0x34]) + i.to_bytes(2, 'big') + b'\xff\xf0' for i in range(5957)] + [good(0x32)])
+    for text, x in ((QUERY, query), (PLAN, plan), (TABLE, table), (TABLE, led)):
         assert len(x) == TEXT_MOST
         yield text, x
         yield text, x + b'\n'
@@ -467,7 +489,7 @@ def random_cases(rng):
 
 def all_cases():
     seen = set()
-    for cases in (kind_cases(), header_cases(), byte_cases(), order_cases(), count_cases(), size_cases(), random_cases(random.Random(1))):
+    for cases in (kind_cases(), header_cases(), byte_cases(), order_cases(), count_cases(), leader_cases(random.Random(5)), size_cases(), random_cases(random.Random(1))):
         for case in cases:
             if case not in seen:
                 seen.add(case)
@@ -512,7 +534,7 @@ def against(file):
             if case.get(text) is not None and got is None:
                 a = read(text, base64.b64decode(case[text]))
                 got = ['refused', a[1], text, a[2]] if a[0] == 'refused' else None
-        told = want[0] == 'refused' and want[1] <= 7
+        told = want[0] == 'refused' and (want[1] <= 7 or want[1] == 14)
         missing = told and want[1] == 5 and want[2] == PLAN and got is None  # a used global without frame 32: the runner's
         compared += told and not missing
         if (got != want) if told and not missing else got is not None:

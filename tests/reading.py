@@ -7,7 +7,7 @@ import sys
 
 ROOTS = (
     "fitting/Planner fitting/Entry fitting/Promised running/Run entries/Outcomes round_costs/Costs "
-    "guarantee/Demand3 guarantee/NewRows guarantee/Idempotent guarantee/TableSamples guarantee/SecondEntry guarantee/Marked modes/Modes gathering/Handed "
+    "guarantee/Demand3 guarantee/NewRows guarantee/Idempotent guarantee/TableSamples guarantee/Leaders guarantee/SecondEntry guarantee/Marked modes/Modes gathering/Handed "
     "hex/SixteenDigits"
 ).split()
 NAMED = re.compile(r"Rattle·(\w+?)(?:·specs)?\.specs\.(\w+)")

@@ -20,8 +20,9 @@ use Rattle.frame_tests.specs.declared.tests.Text.{Text}
 use Rattle.first_reading.specs.First.{framesOf}
 use Rattle.first_reading.specs.declared.first.Reading.the-variants.{Accepted}
 use Rattle.second_reading.specs.Second.{reading}
+use Rattle.reading_facts.proofs.Found.{begun-kind}
 use Rattle.reading_facts.proofs.Whole.{accepted}
-use Rattle.records.specs.Items.{Each}
+use Rattle.records.proofs.ItemsLaws.{each-by}
 use Rattle.records.specs.Rows.{rowsIn}
 use Rattle.given.specs.Given.{QueryKey}
 use Rattle.cost.specs.QueryAtoms.{atomFrames, atomsIn}
@@ -29,10 +30,6 @@ use Rattle.lowering.proofs.AtomLaws.{by-kind}
 use Rattle.behind.specs.Behind.{FramesOf}
 
 -- ---- the frames of an accepted text
-
-pub each-by : {X : Type 0} (P : X → Type 0) (d : X) (l : List X) → ((i : ℕ) → i < length l → P (getD l i d)) → Each P l
-each-by P d [] h = tt
-each-by P d (x ∷ l) h = (h 0 (omega arith), each-by P d l (λ i k. h (suc i) (omega arith)))
 
 of-text : (t : Text) (first : Bool) (b : ℕ) → belongs t first b ≡ true → kindAt b .text ≡ textNumber t
 of-text t first b h = eqb-true _ _ (both-hold (eqb (kindAt b .text) (textNumber t)) _ h .0)
@@ -77,12 +74,6 @@ frames-behind fs q y e w =
 
 no-truth : false ≡ true → ⊥
 no-truth e = let y : _≡_ {A = ℕ} 0 1 = cc in omega arith
-
--- the key's first byte
-begun-kind : (b : ℕ) (k f : List ℕ) → begins (b ∷ k) f ≡ true → b ≡ getD f 0 0
-unfolding begins
-begun-kind b k [] h = absurd (no-truth h)
-begun-kind b k (d ∷ f) h = eqb-true b d (both-hold (eqb b d) (begins k f) h .0)
 
 other-text : (b d : ℕ) → kindAt b .text ≡ query → kindAt d .text ≡ table → b ≡ d → ⊥
 other-text b d p q e = let z : _≡_ {A = ℕ} 0 2 = sym p ∙ rw (← e) at q in omega arith

@@ -1,7 +1,8 @@
 // Explains the plan text on standard input, each step in words. A query text is planned first, with the table in the file `table` beside it, or none
-// where it is missing; it is said where its samples come from, and for each round the candidates are shown with their costs. A refused text is explained by its number and line. The argument, a decimal number below 2^64, is an atom: each Join then says which
-// rows it tries in a run that names that atom as its new one, and a last line says where no Join is of that atom. Any other arguments get a line
-// of usage.
+// where it is missing; it is said where its samples come from, and for each round the candidates are shown with their costs. Of a table text it is
+// said how many rows it has and which of them are passed over. A refused text is explained by its number and line. The argument, a decimal number
+// below 2^64, is an atom: each Join then says which rows it tries in a run that names that atom as its new one, and a last line says where no Join
+// is of that atom. Any other arguments get a line of usage.
 
 mod accepted;
 mod costs;
@@ -10,6 +11,7 @@ mod planned;
 mod refusals;
 mod source;
 mod steps;
+mod table;
 mod words;
 
 use accepted::explain_plan;
@@ -20,6 +22,7 @@ use hex_lines::reader::line_from;
 use modes::mode::DeltaAtom;
 use planned::explain_query;
 use printing::TEXT_ROOM;
+use table::explain_table;
 use table_file::read_table;
 use words::say;
 
@@ -35,10 +38,20 @@ fn explain_beside(text: &[u8], named: DeltaAtom) {
     explain_with(text, file.found, &table, file.size, named);
 }
 
-// A text is taken for a plan by its first byte.
+// The frames 30 to 34 are a table's.
+fn is_of_table(kind: u8) -> bool {
+    if 0x30 <= kind { kind <= 0x34 } else { false }
+}
+
+// A text is taken for a plan or for a table by its first byte.
 fn explain(text: &[u8], named: DeltaAtom) {
-    if byte_at(line_from(text, 0), 0) == 0x3f {
+    let kind = byte_at(line_from(text, 0), 0);
+    if kind == 0x3f {
         explain_plan(text, named);
+        return;
+    }
+    if is_of_table(kind) {
+        explain_table(text);
         return;
     }
     explain_beside(text, named);

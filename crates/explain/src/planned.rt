@@ -66,7 +66,7 @@ fn say_rounds(text: &[u8], found: bool, table: &[u8]) {
 fn say_plan(text: &[u8], found: bool, table: &[u8], out: &[u8], n: usize, named: DeltaAtom) {
     if n <= out.len() {
         let lines = &out[..n];
-        say_source(text);
+        say_source(text, table);
         say_rounds(text, found, table);
         explain_plan(lines, named);
     }

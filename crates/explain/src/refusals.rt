@@ -13,7 +13,8 @@ fn say_condition(number: u8) {
         6 => say(b"by_repr, fan-out or cv not finite or below 0"),
         7 => say(b"key given twice"),
         8 => say(b"whole plan longer than the output"),
-        _ => say(b"frame 24 without a table, or beside frames 21 to 23"),
+        13 => say(b"frame 24 without a table, or beside frames 21 to 23"),
+        _ => say(b"a leader has a frame 34 itself"),
     }
 }
 

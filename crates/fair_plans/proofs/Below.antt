@@ -96,7 +96,7 @@ query-given x t n c m d ok read run sh gs =
     let f = query-fits x n c ok 0 0 (omega arith) (omega arith) .atoms in
     record {
       proper = proper-rows t m d read;
-      distinct = distinct-rows t m d read;
+      distinct = distinct-rows t;
       tame = λ k h. atoms-tame (framesOf x) (atomOf (atomsOf x) k) (number-in (atomsOf x) k h);
       shape = sh;
       globals = gs;

@@ -18,6 +18,7 @@ use Rattle.second_reading.proofs.QueryLaws.{query-accepted}
 use Rattle.reading_facts.proofs.AnswersLaws.{refused-number, query-number}
 use Rattle.reading_facts.proofs.FewLines.{few-lines, query-few-lines}
 use Rattle.given.specs.Asks.{asksTable}
+use Rattle.given.specs.Sampled.{sampledFrom}
 use Rattle.gathering.specs.Handed.{handedIf}
 use Rattle.gathering.specs.Gathered.{Asks}
 use Rattle.fitting.specs.Planner.{isHanded, tableText, given, tableReading, orRefused, afterReadings}
@@ -48,13 +49,13 @@ module _ {A : Type 0} (back : ℕ → ℕ → ℕ → A) (x t : List ℕ) where
 
     -- both are accepted
     pub read-both : (f : List (List ℕ) → A) (n c : ℕ) → reading Table t ≡ Accepted n c
-        → f (framesOf x ++ framesOf t) ≡ afterReadings back x (some t) (f (given x (some t)))
+        → f (framesOf x ++ sampledFrom (framesOf t)) ≡ afterReadings back x (some t) (f (given x (some t)))
     read-both f n c e = rw (a .is, q, e)
 
 -- ---- what holds of every refusal within these bounds, and of what follows an accepted query
 
 module _ {A : Type 0} (P : A → Type 0) (back : ℕ → ℕ → ℕ → A)
-    (back-holds : (k w l : ℕ) → 1 ≤ k → k ≤ 13 → w ≤ 2 → l ≤ 32769 → P (back k w l)) (x : List ℕ) (t : Option (List ℕ)) (a : A) where
+    (back-holds : (k w l : ℕ) → 1 ≤ k → k ≤ 14 → w ≤ 2 → l ≤ 32769 → P (back k w l)) (x : List ℕ) (t : Option (List ℕ)) (a : A) where
   table-holds : (b : Bool) → P a → P (orRefused back table (pick b (reading Table (tableText t)) (Accepted 0 0)) a)
   table-holds false p = p
   table-holds true p = by (reading Table (tableText t)) refl
@@ -70,4 +71,4 @@ module _ {A : Type 0} (P : A → Type 0) (back : ℕ → ℕ → ℕ → A)
     where
       by : (v : Reading) → queryReading (isHanded t) x ≡ v → P (orRefused back query v (orRefused back table (tableReading x t) a))
       by (Accepted n c) e = table-holds (asksTable (framesOf x)) (p n c (query-accepted (isHanded t) x n c e))
-      by (Refused k l) e = let r = query-number (isHanded t) x k l e in back-holds k query l (r .0) (r .1) (omega arith) (query-few-lines (isHanded t) x k l e)
+      by (Refused k l) e = let r = query-number (isHanded t) x k l e in back-holds k query l (r .0) (omega (arith, r .1)) (omega arith) (query-few-lines (isHanded t) x k l e)

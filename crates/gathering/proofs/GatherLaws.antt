@@ -1,18 +1,13 @@
 -- A table's sheet behind a query's: accepted as the query is, and given. Proved from both readings and from the index of the rows.
 use Prim.Native.Nat.{ℕ, zero, suc, _+_, _-_, _/_, _<_, _≤_}
-use mathlib.Core.Path.{_≡_, refl, sym, _∙_, ap}
+use mathlib.Core.Path.{_≡_, refl, sym, _∙_, ap, subst}
 use mathlib.Core.Bool.{true}
 use mathlib.Core.List.{List, [], _∷_, _++_}
 use native.Mathlib.Omega.{arith}
 use lib.ListN.{length, getD, take, drop, replicate, length-append, length-drop, length-replicate}
-use lib.Seq.{drop-append-seam, getD-append-add, getD-drop, take-append-seam, take-append-add, take-append-le, length-take-le}
-use borrow.Author.Tests.{leb-true}
+use lib.Seq.{drop-append-seam, drop-at, getD-append-add, getD-drop, take-add, take-append-seam, take-append-le, take-at, length-take-le}
 use Rattle.base.proofs.Lists.{blank-at}
-use Rattle.fields.specs.Limits.{textMost, itemsMost, rowsMost}
-use Rattle.fields.specs.Fields.{fieldPasses, fieldFits, noCounts}
-use Rattle.fields.specs.declared.field.Test.the-variants.{Limits}
-use Rattle.kinds.specs.Kinds.{kinds, kindAt}
-use Rattle.frames.specs.Frames.{framePasses}
+use Rattle.fields.specs.Limits.{textMost}
 use Rattle.frames.specs.Sheet.{frameAt, framesIn, Whole}
 use Rattle.frames.proofs.SheetLaws.{no-frames, frames-step, frame-inside, frame-behind}
 use Rattle.indexing.specs.Index.{manySlots, slotsFor, Indexed, Finds}
@@ -24,59 +19,40 @@ use Rattle.first_reading.specs.declared.first.Reading.the-variants.{Accepted, R
 use Rattle.second_reading.specs.Second.{reading, queryReading}
 use Rattle.second_reading.specs.Rereading.{indexSize}
 use Rattle.second_reading.proofs.QueryLaws.{query-accepted}
-use Rattle.reading_facts.proofs.Whole.{accepted, table-rows as accepted-rows}
-use Rattle.records.proofs.RowLaws.{rows-counted}
-use Rattle.reading_facts.proofs.Passes.{frame-field}
-use Rattle.records.specs.Items.{Each}
-use Rattle.records.specs.Rows.{rowsIn}
-use Rattle.model.specs.Atoms.{children}
+use Rattle.reading_facts.proofs.Whole.{accepted}
 use Rattle.buckets.specs.RowIndex.{rowsAt, tableIndex, rowsOn}
 use Rattle.row_indexing.specs.Filling.{TableRoom, TableIndexed}
-use Rattle.row_indexing.proofs.TableLaws.{narrow-rows}
+use Rattle.standing.proofs.AcceptedLaws.{rows-sheet}
 use Rattle.given.specs.Given.{QueryKey, Given}
+use Rattle.given.specs.Sampled.{sampledFrom}
 use Rattle.given.proofs.KeyLaws.{part-first}
-use Rattle.behind.proofs.BehindLaws.{each-by, frames-of, frames-behind, find-behind, rows-behind}
+use Rattle.behind.proofs.BehindLaws.{frames-of, frames-behind, find-behind, rows-behind}
+use Rattle.sampled_frames.specs.Laid.{partOf, TableLaid, SampledSheet, SampledLaid}
 use Rattle.reading.specs.IndexedReading.{indexFor, Lent, ReadIndexed}
 use Rattle.reading.proofs.LentLaws.{lent-for}
 use borrow.Rule.Slice.PartMut.{postOf, putMid}
 use Rattle.gathering.specs.Gathered.{Asks, BothLent, QueryLaid, AcceptsAs, Both, Gathers}
 
--- ---- the rows of a table
-
--- "items 16"
-narrow-frame : (f : List ℕ) → framePasses (fieldPasses Limits noCounts) f ≡ true → getD f 0 0 ≡ 0x30 → getD f 4 0 ≤ itemsMost
-unfolding kinds kindAt fieldPasses fieldFits
-narrow-frame [] h e = absurd (omega arith)
-narrow-frame (b ∷ f) h e =
-    let q : framePasses (fieldPasses Limits noCounts) (0x30 ∷ f) ≡ true = rw e at h in
-    leb-true _ _ (frame-field (fieldPasses Limits noCounts) (0x30 ∷ f) q 2 (omega arith))
-
-module _ (t : List ℕ) (n c : ℕ) (ok : reading Table t ≡ Accepted n c) where
-  narrow-table : Each (λ r. length (children r) ≤ itemsMost) (rowsIn (framesOf t))
-  narrow-table =
-      let w = accepted Table t n c ok in
-      narrow-rows (framesOf t) (each-by (λ f. getD f 0 0 ≡ 0x30 → getD f 4 0 ≤ itemsMost) [] (framesOf t) (λ i h. narrow-frame (getD (framesOf t) i []) (w .formed i (omega (arith, w .lines)) .limits)))
-
-  few-rows : length (rowsIn (framesOf t)) ≤ rowsMost
-  few-rows = omega (arith, rows-counted (framesOf t) 0, accepted Table t n c ok .counts, accepted-rows t n c ok)
-
 -- ---- both sheets
 
-module _ (x t q y : List ℕ) (n c m r : ℕ) (okx : reading Query x ≡ Accepted n c) (okt : reading Table t ≡ Accepted m r) (sq : Sheet x q) (st : Sheet t y) (short : length q < 32768) where
-  pub both-frames : framesIn (q ++ y) ≡ framesOf x ++ framesOf t
-  both-frames = frames-behind (framesIn q) q y refl (sq .whole) ∙ rw (sq .frames, st .frames)
+module _ (x t q y : List ℕ) (n c : ℕ) (okx : reading Query x ≡ Accepted n c) (sq : Sheet x q) (fs : List (List ℕ)) (sy : SampledSheet fs y) (short : length q < 32768) where
+  on-both : framesIn (q ++ y) ≡ framesOf x ++ framesIn y
+  on-both = frames-behind (framesIn q) q y refl (sq .whole) ∙ rw (sq .frames)
+
+  pub both-frames : framesIn (q ++ y) ≡ framesOf x ++ sampledFrom fs
+  both-frames = on-both ∙ rw (sy .frames)
 
   both-small : length (q ++ y) < 65536
-  both-small = omega (arith, length-append q y, short, st .size, st .most)
+  both-small = omega (arith, length-append q y, short, sy .size)
 
-  table-rows : rowsOn (drop (length q) (q ++ y)) ≡ rowsIn (framesOf t)
-  table-rows = rw (drop-append-seam q y, st .frames)
+  table-rows : rowsOn (drop (length q) (q ++ y)) ≡ rowsOn y
+  table-rows = rw (drop-append-seam q y)
 
   both-rows : rowsOn (q ++ y) ≡ rowsOn (drop (length q) (q ++ y))
-  both-rows = rw (table-rows, both-frames) (rows-behind (framesOf x) (framesOf t) (frames-of Query x n c okx))
+  both-rows = rw (table-rows, on-both) (rows-behind (framesOf x) (framesIn y) (frames-of Query x n c okx))
 
   pub both-room : (i : List ℕ) → tableIndex ≤ length i → ((k : ℕ) → rowsAt ≤ k → getD i k 0 ≡ 0) → TableRoom (q ++ y) (length q) i
-  both-room i l b = record { small = both-small; room = record { rows = rw table-rows (few-rows t m r okt); narrow = rw table-rows (narrow-table t m r okt); size = l; blank = b } }
+  both-room i l b = record { small = both-small; room = record { rows = rw table-rows (sy .rows); narrow = rw table-rows (sy .narrow); size = l; blank = b } }
 
   some-bytes : 0 < length q
   some-bytes = by q (sq .frames) (accepted Query x n c okx .lines) (accepted Query x n c okx .some (λ e. let z : _≡_ {A = ℕ} 0 1 = cc in omega arith))
@@ -98,9 +74,9 @@ module _ (x t q y : List ℕ) (n c m r : ℕ) (okx : reading Query x ≡ Accepte
       lines = n;
       atoms = c;
       is = okx;
-      behind = framesOf t;
-      frames = both-frames;
-      of-table = frames-of Table t m r okt;
+      behind = framesIn y;
+      frames = on-both;
+      of-table = sy .of-table;
       header = both-header ∙ sq .header;
       size = both-small;
     };
@@ -116,17 +92,10 @@ module _ (x t q y : List ℕ) (n c m r : ℕ) (okx : reading Query x ≡ Accepte
       found : (k : List ℕ) → QueryKey k → Finds (q ++ y) (take rowsAt i) k
       found k p = record {
         falling = d .are .falling;
-        is = found-with-behind q (take rowsAt i) d y k (p .proper) ∙ rw (both-frames, sq .frames) (sym (find-behind k (framesOf x) (framesOf t) p (frames-of Table t m r okt)));
+        is = found-with-behind q (take rowsAt i) d y k (p .proper) ∙ rw (on-both, sq .frames) (sym (find-behind k (framesOf x) (framesIn y) p (sy .of-table)));
       }
 
 -- ---- the table behind the query
-
--- the first of a sheet, and behind it the first of what was put there
-cut-both : (s y r : List ℕ) (a m : ℕ) → a ≤ length s → m ≤ length y → take (a + m) (take a s ++ (y ++ r)) ≡ take a s ++ take m y
-cut-both s y r a m h l =
-    let e = length-take-le a s h in
-    let c : take (length (take a s) + m) (take a s ++ (y ++ r)) ≡ take a s ++ take m (y ++ r) = take-append-add (take a s) (y ++ r) m in
-    rw e at c ∙ ap (λ (b : List ℕ). take a s ++ b) (take-append-le m y r l)
 
 module _ (x t s : List ℕ) (size : ℕ) (i k : List ℕ) (l : QueryLaid x t s size i k) (y k′ : List ℕ) (v : Reading) (d : ReadIndexed (reading Table t) t y k′ v) where
   abbrev laid : List ℕ
@@ -136,57 +105,84 @@ module _ (x t s : List ℕ) (size : ℕ) (i k : List ℕ) (l : QueryLaid x t s s
   table-refused a b e i′ = record { refused = λ c f g. sym (d .is) ∙ e ∙ g; both = λ c f g. let z : _≡_ {A = ℕ} 0 1 = cc in absurd (omega arith) }
 
   module _ (n c m : ℕ) (e : v ≡ Accepted n c) (z : m ≡ sheetSize (length t) n) where
-    abbrev q : List ℕ
-    q = take size s
+    okt : reading Table t ≡ Accepted n c
+    okt = sym (d .is) ∙ e
 
-    q-long : length q ≡ size
+    q-long : length (take size s) ≡ size
     q-long = length-take-le size s (omega (arith, l .fits, l .sheet))
 
     y-long : m ≤ length y
     y-long = rw z (d .fits n c e)
 
-    is-both : take (size + m) laid ≡ q ++ take m y
-    is-both = cut-both s y (postOf size (length s - size) s) size m (omega (arith, l .fits, l .sheet)) y-long
-
     y-sheet : Sheet t (take m y)
     y-sheet = rw z (d .sheet n c e)
 
-    okt : reading Table t ≡ Accepted n c
-    okt = sym (d .is) ∙ e
+    -- what stands there is the table's sheet
+    part-is : partOf laid size (size + m) ≡ take m y
+    part-is =
+        let a : size + m - size ≡ m = omega arith in
+        rw (a, drop-at (take size s) (y ++ postOf size (length s - size) s) size q-long) (take-append-le m y (postOf size (length s - size) s) y-long)
 
-    short : length q < 32768
-    short = omega (arith, q-long, l .fits)
+    before-is : take size laid ≡ take size s
+    before-is = take-at (take size s) (y ++ postOf size (length s - size) s) size q-long
 
-    pub table-fits : size + m ≤ length laid
-    table-fits = omega (arith, length-append q (y ++ postOf size (length s - size) s), length-append y (postOf size (length s - size) s), q-long, y-long)
+    table-fits : size + m ≤ length laid
+    table-fits = omega (arith, length-append (take size s) (y ++ postOf size (length s - size) s), length-append y (postOf size (length s - size) s), q-long, y-long)
 
-    pub table-cut : size + m ≡ length (take (size + m) laid)
-    table-cut = sym (length-take-le (size + m) laid table-fits)
-
-    pub rows-room : TableRoom (take (size + m) laid) size i
-    rows-room =
-        let g : TableRoom (q ++ take m y) (length q) i = both-room x t q (take m y) (l .lines) (l .atoms) n c (l .is) okt (l .laid) y-sheet short i (omega (arith, l .length-is)) (l .blank) in
-        rw is-both (rw q-long at g)
-
-    pub table-behind : (i′ : List ℕ) → TableIndexed (rowsOn (drop size (take (size + m) laid))) (take (size + m) laid) rowsAt i i′ → Gathers x t laid i′ (Accepted (size + m) c)
-    table-behind i′ h = record {
-      refused = λ a b g. let y : _≡_ {A = ℕ} 0 1 = cc in absurd (omega arith);
-      both = λ a b g. let o : size + m ≡ a = cc in rw (← o) both-of;
+    pub table-laid : TableLaid laid size (size + m) k′
+    table-laid = record {
+      from = omega arith;
+      fits = table-fits;
+      sheet = rw part-is (rows-sheet t (take m y) n c okt y-sheet);
+      of-table = rw (part-is, y-sheet .frames) (frames-of Table t n c okt);
+      indexed = rw part-is (rw (← z) at (d .indexed n c e));
     }
-      where
-        given-both : Given (q ++ take m y) i′
-        given-both = both-given x t q (take m y) (l .lines) (l .atoms) n c (l .is) okt (l .laid) y-sheet short i i′ (l .indexed) (l .length-is) (rw q-long (rw is-both at h))
 
-        both-of : Both x t laid i′ (size + m)
-        both-of = record {
-          lines = n;
-          rows = c;
-          is = okt;
-          fits = table-fits;
-          accepted = rw is-both (both-accepted x t q (take m y) (l .lines) (l .atoms) n c (l .is) okt (l .laid) y-sheet short);
-          frames = rw is-both (both-frames x t q (take m y) (l .lines) (l .atoms) n c (l .is) okt (l .laid) y-sheet short);
-          given = rw is-both given-both;
-        }
+    module _ (s′ : List ℕ) (f : ℕ) (sampled : SampledLaid laid size (size + m) s′ f) where
+      abbrev q : List ℕ
+      q = take size s
+
+      abbrev p : List ℕ
+      p = partOf s′ size f
+
+      is-both : take f s′ ≡ q ++ p
+      is-both =
+          let a : f ≡ size + (f - size) = omega (arith, sampled .from) in
+          ap (λ (b : ℕ). take b s′) a ∙ take-add size (f - size) s′ ∙ ap (λ (b : List ℕ). b ++ p) (sampled .kept ∙ before-is)
+
+      p-sheet : SampledSheet (framesOf t) p
+      p-sheet = subst (λ (fs : List (List ℕ)). SampledSheet fs p) (ap framesIn part-is ∙ y-sheet .frames) (sampled .sampled)
+
+      short : length q < 32768
+      short = omega (arith, q-long, l .fits)
+
+      pub sampled-cut : f ≡ length (take f s′)
+      sampled-cut = sym (length-take-le f s′ (sampled .fits))
+
+      pub rows-room : TableRoom (take f s′) size i
+      rows-room =
+          let g : TableRoom (q ++ p) (length q) i = both-room x t q p (l .lines) (l .atoms) (l .is) (l .laid) (framesOf t) p-sheet short i (omega (arith, l .length-is)) (l .blank) in
+          rw is-both (rw q-long at g)
+
+      pub table-behind : (i′ : List ℕ) → TableIndexed (rowsOn (drop size (take f s′))) (take f s′) rowsAt i i′ → Gathers x t s′ i′ (Accepted f c)
+      table-behind i′ h = record {
+        refused = λ a b g. let y : _≡_ {A = ℕ} 0 1 = cc in absurd (omega arith);
+        both = λ a b g. let o : f ≡ a = cc in rw (← o) both-of;
+      }
+        where
+          given-both : Given (q ++ p) i′
+          given-both = both-given x t q p (l .lines) (l .atoms) (l .is) (l .laid) (framesOf t) p-sheet short i i′ (l .indexed) (l .length-is) (rw q-long (rw is-both at h))
+
+          both-of : Both x t s′ i′ f
+          both-of = record {
+            lines = n;
+            rows = c;
+            is = okt;
+            fits = sampled .fits;
+            accepted = rw is-both (both-accepted x t q p (l .lines) (l .atoms) (l .is) (l .laid) (framesOf t) p-sheet short);
+            frames = rw is-both (both-frames x t q p (l .lines) (l .atoms) (l .is) (l .laid) (framesOf t) p-sheet short);
+            given = rw is-both given-both;
+          }
 
 -- ---- the query
 

@@ -14,6 +14,7 @@ use Rattle.second_reading.specs.Second.{reading, queryReading}
 use Rattle.reading.specs.IndexedReading.{Blank}
 use Rattle.buckets.specs.RowIndex.{rowsAt, tableIndex}
 use Rattle.given.specs.Given.{Given}
+use Rattle.given.specs.Sampled.{sampledFrom}
 use Rattle.ordering.specs.Accepts.{Accepts}
 
 -- the query x is accepted with a table beside it
@@ -54,7 +55,7 @@ pub record Both (x t s i : List ℕ) (e : ℕ) : Type 0 where
   pub is : reading Table t ≡ Accepted lines rows
   pub fits : e ≤ length s
   pub accepted : AcceptsAs x (take e s)
-  pub frames : framesIn (take e s) ≡ framesOf x ++ framesOf t
+  pub frames : framesIn (take e s) ≡ framesOf x ++ sampledFrom (framesOf t)
   pub given : Given (take e s) i
 
 -- r is the table's refusal, or says how many bytes there are

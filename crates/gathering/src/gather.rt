@@ -8,12 +8,13 @@ use reading::second::LONG_SHEET;
 use reading::second::read_indexed;
 use reading::second::read_query;
 use row_indexing::fill::index_table;
+use sampled_frames::lay::lay_sampled;
 
 // The frames of two texts.
 pub const BOTH_SHEETS: usize = 2 * LONG_SHEET;
 
-// Reads the table behind the first `size` bytes of the sheet, which are the query's, and indexes its rows. How many bytes there then are, or the
-// table's refusal.
+// Reads the table behind the first `size` bytes of the sheet, which are the query's, and indexes its rows that stand. How many bytes there then
+// are, or the table's refusal.
 fn add_table(
     text: &[u8],
     table: &[u8],
@@ -28,7 +29,8 @@ fn add_table(
     match read_indexed(Text::Table, table, &mut sheet[size..], keys) {
         Reading::Refused(k, line) => Reading::Refused(k, line),
         Reading::Accepted(lines, rows) => {
-            let end = size + sheet_size(table.len(), lines);
+            let last = size + sheet_size(table.len(), lines);
+            let end = lay_sampled(sheet, size, last, keys);
             index_table(&sheet[..end], size, index);
             Reading::Accepted(end, rows)
         }

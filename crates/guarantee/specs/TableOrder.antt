@@ -1,28 +1,31 @@
--- Note 3: a query with frame 24 whose plan goes by the table that is handed in. Computed.
+-- Notes 3 and 5: a query with frame 24 whose plan goes by the table that is handed in, and by its leaders. Computed.
 use Prim.Native.Nat.{ℕ}
 use mathlib.Core.Path.{_≡_, refl}
 use mathlib.Core.Option.{some}
-use mathlib.Core.List.{List, [], flatMap}
+use mathlib.Core.List.{List, [], _++_, flatMap}
 use lib.Ieee.{ofInt, ofBits, lt, mul, div, add}
 use Rattle.measure.specs.Bootstrap.{sumFrom, mean, rejected, estimateOf}
 use Rattle.hex_lines.specs.Lines.{split}
 use Rattle.fields.specs.Fields.{fieldPasses}
 use Rattle.kinds.specs.Kinds.{kindAt}
+use Rattle.frames.specs.Among.{hasKinds}
 use Rattle.frames.specs.Frames.{passAll}
 use Rattle.first_reading.specs.First.{framesOf}
 use Rattle.first_reading.specs.declared.first.Reading.the-variants.{Accepted}
 use Rattle.frame_keys.specs.Keys.{begins, find}
-use Rattle.second_reading.specs.FromTable.{hasSheets}
 use Rattle.second_reading.specs.Second.{queryReading}
 use Rattle.reading_facts.specs.Ascii.{ascii}
 use Rattle.model.specs.Bound.{put, hasAll, blank}
-use Rattle.model.specs.Equality.{sameClass}
+use Rattle.model.specs.Equality.{sameClass, sameList}
+use Rattle.model.specs.Firsts.{isAmong, firstsFrom}
 use Rattle.model.specs.Tabulate.{tabulate}
 use Rattle.model.specs.Lowering.{markAll, emitReadChildren, childLookups, lower}
 use Rattle.model.specs.Scheduling.{unlowered, eagerPass, passesUpTo, roundsUpTo, atomOf}
 use Rattle.model.specs.Cheapest.{scan, cheapest}
 use Rattle.records.specs.Items.{itemsAt}
 use Rattle.records.specs.Rows.{rowOf, rowsIn}
+use Rattle.records.specs.Leaders.{ledRows, standing}
+use Rattle.given.specs.Sampled.{sampledFrom}
 use Rattle.row_frames.specs.Wanted.{wanted}
 use Rattle.buckets.specs.Buckets.{numbersFrom, strided, hits}
 use Rattle.query.specs.Statistics.{opCard, atomCard, baseCard, denominator, byChildPos, settings}
@@ -46,15 +49,24 @@ unfoldable pub orderTable : List ℕ
 orderTable = ascii "30000501010007\n30000802010007\n30000902010007\n30000a03010007\n"
 
 accepted : queryReading (isHanded (some orderTable)) orderQuery ≡ Accepted 9 3
-unfolding orderQuery queryReading hasSheets framesOf split kindAt passAll fieldPasses begins find
+unfolding orderQuery queryReading hasKinds framesOf split kindAt passAll fieldPasses begins find
 accepted = refl
 
 -- without rows nothing is sampled: 2 before 3
 by-number : planFor orderQuery (some []) ≡ ascii "3f040000000600000000\n4000000100010000\n41010000\n400201020002000001000100\n4202000001\n400302020003000001000100\n4203000001\n"
-unfolding orderQuery planOf stepsOf framesOf split planned remembered atomsIn atomOfFrame operandsFrom bytesFrom put hasAll blank tabulate markAll emitReadChildren childLookups lower unlowered eagerPass passesUpTo roundsUpTo atomOf scan cheapest begins find opCard atomCard baseCard denominator byChildPos settings setChildren recordAtom recordEmitters childCosts estimateCost measure drawsOf probeSum isKnown afterEstimate tableDrivers tableClasses tableProbe opRestricted numbersFrom strided hits wanted sameClass rowsIn rowOf itemsAt atomFrames estimateOf rejected mean sumFrom add ofInt ofBits lt mul div planText textOf frameOf flatMap
+unfolding orderQuery planOf stepsOf sampledFrom hasKinds framesOf split planned remembered atomsIn atomOfFrame operandsFrom bytesFrom put hasAll blank tabulate markAll emitReadChildren childLookups lower unlowered eagerPass passesUpTo roundsUpTo atomOf scan cheapest begins find opCard atomCard baseCard denominator byChildPos settings setChildren recordAtom recordEmitters childCosts estimateCost measure drawsOf probeSum isKnown afterEstimate tableDrivers tableClasses tableProbe opRestricted numbersFrom strided hits wanted sameClass rowsIn rowOf itemsAt atomFrames estimateOf rejected mean sumFrom add ofInt ofBits lt mul div planText textOf frameOf flatMap
 by-number = refl
 
 -- with them: 3 before 2
 by-samples : planFor orderQuery (some orderTable) ≡ ascii "3f040000000600020000\n4000000100010000\n41010000\n400302020003000001000100\n4203000001\n400201020002000001000100\n4202000001\n"
-unfolding orderQuery orderTable planOf stepsOf framesOf split planned remembered atomsIn atomOfFrame operandsFrom bytesFrom put hasAll blank tabulate markAll emitReadChildren childLookups lower unlowered eagerPass passesUpTo roundsUpTo atomOf scan cheapest begins find opCard atomCard baseCard denominator byChildPos settings setChildren recordAtom recordEmitters childCosts estimateCost measure drawsOf probeSum isKnown afterEstimate tableDrivers tableClasses tableProbe opRestricted numbersFrom strided hits wanted sameClass rowsIn rowOf itemsAt atomFrames estimateOf rejected mean sumFrom add ofInt ofBits lt mul div planText textOf frameOf flatMap
+unfolding orderQuery orderTable planOf stepsOf sampledFrom hasKinds framesOf split planned remembered atomsIn atomOfFrame operandsFrom bytesFrom put hasAll blank tabulate markAll emitReadChildren childLookups lower unlowered eagerPass passesUpTo roundsUpTo atomOf scan cheapest begins find opCard atomCard baseCard denominator byChildPos settings setChildren recordAtom recordEmitters childCosts estimateCost measure drawsOf probeSum isKnown afterEstimate tableDrivers tableClasses tableProbe opRestricted numbersFrom strided hits wanted sameClass rowsIn rowOf itemsAt atomFrames estimateOf rejected mean sumFrom add ofInt ofBits lt mul div planText textOf frameOf flatMap
 by-samples = refl
+
+-- Note 5: where the two rows of operator 2 are equal by leaders the second is unsampled, and 2 is before 3 again
+unfoldable pub mergedTable : List ℕ
+unfolding orderTable
+mergedTable = orderTable ++ ascii "3400090008\n"
+
+by-leaders : planFor orderQuery (some mergedTable) ≡ ascii "3f040000000600020000\n4000000100010000\n41010000\n400201020002000001000100\n4202000001\n400302020003000001000100\n4203000001\n"
+unfolding orderQuery orderTable mergedTable planOf stepsOf sampledFrom hasKinds standing ledRows firstsFrom isAmong sameList framesOf split planned remembered atomsIn atomOfFrame operandsFrom bytesFrom put hasAll blank tabulate markAll emitReadChildren childLookups lower unlowered eagerPass passesUpTo roundsUpTo atomOf scan cheapest begins find opCard atomCard baseCard denominator byChildPos settings setChildren recordAtom recordEmitters childCosts estimateCost measure drawsOf probeSum isKnown afterEstimate tableDrivers tableClasses tableProbe opRestricted numbersFrom strided hits wanted sameClass rowsIn rowOf itemsAt atomFrames estimateOf rejected mean sumFrom add ofInt ofBits lt mul div planText textOf frameOf flatMap
+by-leaders = refl

@@ -131,7 +131,8 @@ find-more b k ((c ∷ g) ∷ fs) f = go (begins (b ∷ k) (c ∷ g)) (find-more 
 find-with : (k : List ℕ) → Slotted k → (fs : List (List ℕ)) (f : List ℕ) → find k (fs ++ f ∷ []) ≡ pick (isFound (find k fs)) (find k fs) (pick (begins k f) f [])
 find-with k s fs f = slotted-some (λ (k : List ℕ). find k (fs ++ f ∷ []) ≡ pick (isFound (find k fs)) (find k fs) (pick (begins k f) f [])) k s (λ b k. find-more b k fs f)
 
-begun-some : (b : ℕ) (k f : List ℕ) → begins (b ∷ k) f ≡ true → isFound f ≡ true
+-- a frame that begins with a key of some bytes has some
+pub begun-some : (b : ℕ) (k f : List ℕ) → begins (b ∷ k) f ≡ true → isFound f ≡ true
 unfolding begins
 begun-some b k [] p = p
 begun-some b k (c ∷ f) p = refl

@@ -167,6 +167,8 @@ from30 =
     ∷ fixed table 2 (Global ∷ Class ∷ [])
     -- 33 row(2), "one key" (Note 1)
     ∷ fixed table 1 (Row ∷ [])
+    -- 34 class(2) leader(2) (Note 5)
+    ∷ fixed table 3 (Class ∷ Class ∷ [])
     ∷ []
 
 -- the plan: its header and the steps
@@ -207,7 +209,7 @@ gap n = replicate n noKind
 
 -- by number
 unfoldable pub kinds : List Kind
-kinds = from00 ++ gap 1 ++ from10 ++ gap 11 ++ from20 ++ gap 11 ++ from30 ++ gap 11 ++ from3f
+kinds = from00 ++ gap 1 ++ from10 ++ gap 11 ++ from20 ++ gap 11 ++ from30 ++ gap 10 ++ from3f
 
 -- the row of a byte, where it is a kind
 unfoldable pub kindAt : ℕ → Kind

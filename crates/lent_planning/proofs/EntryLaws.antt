@@ -12,6 +12,7 @@ use Rattle.first_reading.specs.declared.first.Reading.{Reading}
 use Rattle.first_reading.specs.declared.first.Reading.the-variants.{Accepted, Refused}
 use Rattle.second_reading.specs.Second.{reading, queryReading}
 use Rattle.given.specs.Asks.{asksTable}
+use Rattle.given.specs.Sampled.{sampledFrom}
 use Rattle.fitting.specs.Planner.{Plan, Result, planWith, planOf, fitted, refusedWith, plan}
 use Rattle.fitting.specs.Entry.{planOn, plannedResult}
 use Rattle.fitting.specs.declared.fit.Planned.the-variants.{Refused as Refuses}
@@ -57,5 +58,5 @@ module _ (x t o : List ℕ) (a : Asks x) (q : asksTable (framesOf x) ≡ true) w
   unfolding plan
   sampled-whole s i e b r f =
       let p = ap (λ (m : Plan). fitted m o) (plan-on (take e s) (b .accepted .accepts)) in
-      let w = same-plan x o (framesIn (take e s)) (framesOf x ++ framesOf t) (b .accepted .accepts .text) (b .frames) (b .accepted .text) in
+      let w = same-plan x o (framesIn (take e s)) (framesOf x ++ sampledFrom (framesOf t)) (b .accepted .accepts .text) (b .frames) (b .accepted .text) in
       f ∙ p ∙ w ∙ read-both (refusedWith o) x t a q (by-frames x o) (b .lines) (b .rows) (b .is)

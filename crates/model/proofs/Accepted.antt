@@ -17,7 +17,7 @@ use Rattle.model.specs.Lowering.{pvIsBound, pvMarkBound, readChild, emit
 use Rattle.model.specs.Refusing.{isNode, countOps, runnable, allRunnable, joinOp, allRows, isLiteral, hasChild, lookupsFit, opAt, allFit}
 use Rattle.model.specs.Matching.{AsNode, AsLiteral, InShape}
 
-all-rows : (f : Row → Bool) (o : ℕ) (rs : List Row) → ((r : Row) → List·Memᴰ r rs → opOf r ≡ o → f r ≡ true) → allRows f o rs ≡ true
+pub all-rows : (f : Row → Bool) (o : ℕ) (rs : List Row) → ((r : Row) → List·Memᴰ r rs → opOf r ≡ o → f r ≡ true) → allRows f o rs ≡ true
 unfolding allRows
 all-rows f o [] h = refl
 all-rows f o (r ∷ rs) h = both (at (eqb (opOf r) o) refl) (all-rows f o rs (λ s m. h s (List·Memᴰ·tail m)))

@@ -9,6 +9,7 @@ pub mod Carried
 pub mod CheapestLaws
 pub mod EqualityLaws
 pub mod Exactness
+pub mod FirstLaws
 pub mod ExampleLaws
 pub mod Frames
 pub mod Group

@@ -7,6 +7,8 @@ ghost use Rattle.model.specs.Limits.{lineEnd};
 ghost use Rattle.plans.specs.StepFrames.{wordBytes};
 ghost use Rattle.output.specs.Written.{Puts, PutsBytes};
 use hex::hex_digit;
+use records::shorts::high_of;
+use records::shorts::low_of;
 
 pub fn put_end(out: &mut [u8], at: usize) -> usize
     requires { ⌜ at < 0x8000_0000 ⌝ }
@@ -102,18 +104,6 @@ pub fn put_word(out: &mut [u8], at: usize, x: u32) -> usize
     let b = low_byte(x / 0x1_0000);
     let c = low_byte(x / 0x100);
     put_first(out, at, &[a, b, c, low_byte(x)], 4)
-}
-
-pub fn high_of(x: u16) -> u8
-    ensures { λ r. ⌜ r ≡ x / 0x100 ⌝ }
-{
-    (x / 0x100) as u8
-}
-
-pub fn low_of(x: u16) -> u8
-    ensures { λ r. ⌜ r ≡ x % 0x100 ⌝ }
-{
-    (x % 0x100) as u8
 }
 
 // A number of two bytes, the higher first.

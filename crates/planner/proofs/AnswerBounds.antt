@@ -18,7 +18,7 @@ use Rattle.fitting.specs.Promised.{read-back}
 use Rattle.fitting.proofs.ReadingsLaws.{readings-hold}
 
 pub record Within (a : Answer) : Type 0 where
-  pub number : a .number ≤ 13
+  pub number : a .number ≤ 14
   pub text : a .text ≤ 2
   pub planned : a .number ≡ 0 → 21 ≤ a .bytes
   pub line : a .line ≤ 32769
@@ -27,7 +27,7 @@ pub record Within (a : Answer) : Type 0 where
   pub tallied : a .tallied ≤ 1024
   pub rejected : a .rejected ≤ 1024
 
-back-within : (o : List ℕ) (k t l : ℕ) → 1 ≤ k → k ≤ 13 → t ≤ 2 → l ≤ 32769 → Within (refusedWith o k t l .answer)
+back-within : (o : List ℕ) (k t l : ℕ) → 1 ≤ k → k ≤ 14 → t ≤ 2 → l ≤ 32769 → Within (refusedWith o k t l .answer)
 back-within o k t l h g u m = record { number = g; text = u; planned = λ q. absurd (omega arith); line = m; bytes = omega arith; steps = omega arith; tallied = omega arith; rejected = omega arith }
 
 module _ (x : List ℕ) (t : Option (List ℕ)) (o : List ℕ) where

@@ -7,6 +7,7 @@ use mathlib.Core.List.{List, [], _∷_, _++_, map}
 use native.Mathlib.Omega.{arith}
 use native.Mathlib.Nat.{add-zero}
 use lib.ListN.{length, getD, drop, length-map}
+use lib.Dec.{eqb}
 use lib.Pow.{areBytes}
 use borrow.Author.Tests.{lt-ltb, le-ltb, le-leb, eq-eqb, ne-eqb, eqb-true}
 use Rattle.hex.specs.Digits.{bytesOf, digitsOf}
@@ -14,7 +15,7 @@ use Rattle.fields.specs.Limits.{textMost, variablesMost, globalsMost, literalsM
 use Rattle.fields.specs.Fields.{fieldPasses, fieldFits, fieldIn, fieldReal, noCounts}
 use Rattle.kinds.specs.Kinds.{kinds, kindAt}
 use Rattle.frames.specs.Frames.{frameLength, passAll}
-use Rattle.frame_tests.specs.Faults.{frameFault}
+use Rattle.frame_tests.specs.Faults.{belongs, frameFault}
 use Rattle.first_reading.specs.First.{framesOf, lineFault, firstLines, firstFrom, firstLine, stepsSay, stepsRight, firstReading}
 use Rattle.fields.specs.declared.field.Counts.{Counts}
 use Rattle.frame_tests.specs.declared.tests.Text.the-variants.{Plan}
@@ -22,6 +23,7 @@ use Rattle.first_reading.specs.declared.first.Reading.{Reading}
 use Rattle.first_reading.specs.declared.first.Reading.the-variants.{Accepted}
 use Rattle.frame_keys.specs.Keys.{keyGiven}
 use Rattle.second_reading.specs.FromTable.{takesTable}
+use Rattle.second_reading.specs.Leading.{leads}
 use Rattle.second_reading.specs.Second.{countsOf, secondFault, secondFrom, reading}
 use Rattle.model.specs.Atoms.{Step}
 use Rattle.records.specs.Items.{Each}
@@ -51,17 +53,25 @@ step-line : (n : Counts) → CountsFit n → (s : Step) → StepFits n s → (c 
 unfolding lineFault
 step-line n fit s h c = rw (digits-hex (frameOf s) (omega (arith, step-length s)) (step-bytes n fit s h), line-read (frameOf s) (step-bytes n fit s h)) (step-fault n s h c)
 
+-- a step's kind is none of another text's
+step-other : (b : ℕ) → belongs Plan false b ≡ false → (s : Step) → eqb (getD (frameOf s) 0 0) b ≡ false
+step-other b o s = go (eqb (getD (frameOf s) 0 0) b) refl
+  where
+    go : (t : Bool) → eqb (getD (frameOf s) 0 0) b ≡ t → t ≡ false
+    go true p = let e : getD (frameOf s) 0 0 ≡ b = eqb-true _ _ p in absurd (true≢false (sym (rw e at (step-belongs s)) ∙ o))
+    go false p = refl
+
 step-takes : (s : Step) → takesTable (frameOf s) ≡ false
 unfolding kindAt kinds
-step-takes s = go (takesTable (frameOf s)) refl
-  where
-    go : (b : Bool) → takesTable (frameOf s) ≡ b → b ≡ false
-    go true p = let e : getD (frameOf s) 0 0 ≡ 0x24 = eqb-true _ _ p in absurd (true≢false (sym (rw e at (step-belongs s))))
-    go false p = refl
+step-takes s = step-other 0x24 refl s
+
+step-leads : (s : Step) → leads (frameOf s) ≡ false
+unfolding kindAt kinds
+step-leads s = step-other 0x34 refl s
 
 step-second : (n : Counts) (s : Step) → StepFits n s → (earlier : List (List ℕ)) → secondFault n earlier (frameOf s) ≡ 0
 unfolding secondFault
-step-second n s h earlier = rw (step-range n s h, step-reals n s, step-keyless earlier s, step-takes s)
+step-second n s h earlier = rw (step-range n s h, step-reals n s, step-keyless earlier s, step-leads s, step-takes s)
 
 -- ---- so do the steps' lines, k lines being passed
 

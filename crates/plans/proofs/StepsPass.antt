@@ -26,7 +26,8 @@ use Rattle.model.specs.Atoms.{Operand, local, global, wild, Lookup, ByOp, ByChi
 use Rattle.model.proofs.Lengths.{flat-length}
 use Rattle.records.specs.Items.{Each}
 use Rattle.plans.specs.StepFrames.{tagOf, indexOf, operandBytes, lookupBytes, Element, elementsOf, elementBytes, flagOf, orZero, truthByte, endsFlags, frameOf, Byte, CountsFit, OperandFits, LookupFits, HandleFits, StepFits}
-use Rattle.plans.proofs.Items.{items-pass, behind}
+use Rattle.records.proofs.ItemsLaws.{behind}
+use Rattle.plans.proofs.Items.{items-pass}
 use Rattle.plans.proofs.StepsRead.{lookup-wide}
 
 -- ---- the kind: a step's, and no header's

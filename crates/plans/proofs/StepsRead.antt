@@ -16,7 +16,7 @@ use Rattle.model.specs.Atoms.{Operand, local, global, wild, Lookup, ByOp, ByChi
 use Rattle.records.specs.Items.{itemsAt, Each}
 use Rattle.records.specs.Lookups.{operandAt, lookupAt}
 use Rattle.plans.specs.StepFrames.{operandBytes, lookupBytes, Element, elementsOf, elementBytes, flagOf, orZero, truthByte, endsFlags, wordBytes, frameOf, elementAt, someIf, stepOf, OperandFits, LookupFits, StepFits}
-use Rattle.plans.proofs.Items.{items-read, behind}
+use Rattle.records.proofs.ItemsLaws.{items-read, behind}
 
 -- what begins behind p
 operand-behind : (p r : List ℕ) → operandAt (p ++ r) (length p) ≡ operandAt r 0

@@ -1,6 +1,6 @@
 -- A text is accepted exactly where it is whole: what an accepted text meets is also enough. Assumes nothing.
 use Prim.Native.Nat.{ℕ, zero, suc, _+_, _≤_, _<_}
-use mathlib.Core.Path.{_≡_, refl, sym, _∙_}
+use mathlib.Core.Path.{_≡_, refl, sym, _∙_, subst}
 use mathlib.Core.Bool.{Bool, true, false}
 use mathlib.Core.List.{List, [], _∷_, _++_, map, append-assoc, append-nil}
 use native.Mathlib.Omega.{arith}
@@ -23,6 +23,7 @@ use Rattle.first_reading.specs.declared.first.Reading.{Reading}
 use Rattle.first_reading.specs.declared.first.Reading.the-variants.{Accepted}
 use Rattle.frame_keys.specs.Keys.{begins, find, isFound, keyOf, keyGiven}
 use Rattle.second_reading.specs.FromTable.{takesTable}
+use Rattle.second_reading.specs.Leading.{chained}
 use Rattle.second_reading.specs.Second.{countsOf, secondFrom, reading}
 use Rattle.reading_facts.proofs.Whole.{Formed, Named, countFrom, Whole, frames-length}
 
@@ -81,13 +82,15 @@ any-passes : (a b : Bool) → b ≡ true → pick {A = ℕ} a (pick b 0 13) 0 �
 any-passes true b t = rw t
 any-passes false b t = refl
 
-second-accepted : (n : Counts) → n .table ≡ true → (es : List (List ℕ)) (k : ℕ) (fs : List (List ℕ)) (a : Reading) → ((i : ℕ) → i < length fs → Named n (getD fs i [])) → ((i : ℕ) → i < length fs → keyGiven (es ++ take i fs) (getD fs i []) ≡ false) → secondFrom n es k fs a ≡ a
+second-accepted : (n : Counts) → n .table ≡ true → (es : List (List ℕ)) (k : ℕ) (fs : List (List ℕ)) (a : Reading) → ((i : ℕ) → i < length fs → Named n (getD fs i [])) → ((i : ℕ) → i < length fs → keyGiven (es ++ take i fs) (getD fs i []) ≡ false) → ((i : ℕ) → i < length fs → chained (es ++ take i fs) (getD fs i []) ≡ false) → secondFrom n es k fs a ≡ a
 unfolding secondFrom
-second-accepted n t es k [] a h f = refl
-second-accepted n t es k (g ∷ fs) a h f =
+second-accepted n t es k [] a h f u = refl
+second-accepted n t es k (g ∷ fs) a h f u =
     let b : keyGiven es g ≡ false = rw (append-nil es) at (f zero (omega arith)) in
-    rw (h zero (omega arith) .range, h zero (omega arith) .reals, b, any-passes (takesTable g) (n .table) t)
-    (second-accepted n t (es ++ g ∷ []) (suc k) fs a (λ i q. h (suc i) (omega arith)) (λ i q. rw (append-assoc es (g ∷ []) (take i fs)) (f (suc i) (omega arith))))
+    let d : chained es g ≡ false = subst (λ (y : List (List ℕ)). chained y g ≡ false) (append-nil es) (u zero (omega arith)) in
+    rw (h zero (omega arith) .range, h zero (omega arith) .reals, b, d, any-passes (takesTable g) (n .table) t)
+    (second-accepted n t (es ++ g ∷ []) (suc k) fs a (λ i q. h (suc i) (omega arith)) (λ i q. rw (append-assoc es (g ∷ []) (take i fs)) (f (suc i) (omega arith)))
+    (λ i q. subst (λ (y : List (List ℕ)). chained y (getD fs i []) ≡ false) (sym (append-assoc es (g ∷ []) (take i fs))) (u (suc i) (omega arith))))
 
 -- ---- the whole
 
@@ -117,7 +120,7 @@ pub whole-accepted : (t : Text) (x : List ℕ) (n c : ℕ) → Whole t x n c →
 unfolding reading
 whole-accepted t x n c w =
     rw (short t x n c w)
-    (second-accepted (countsOf t x c) (counts-table t) [] 0 (framesOf x) (Accepted n c) (λ i q. w .named i (omega (arith, w .lines))) fresh)
+    (second-accepted (countsOf t x c) (counts-table t) [] 0 (framesOf x) (Accepted n c) (λ i q. w .named i (omega (arith, w .lines))) fresh (λ i q. w .unchained i (omega (arith, w .lines))))
   where
     counts-table : (t : Text) → countsOf t x c .table ≡ true
     counts-table Query = refl

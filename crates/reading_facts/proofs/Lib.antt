@@ -5,3 +5,4 @@ pub mod LetterCase
 pub mod Lookups
 pub mod Passes
 pub mod Whole
+pub mod Found

@@ -1,7 +1,7 @@
--- What holds of an accepted text: its size and counts are within the limits, each of its frames passes the tests 2 to 6, and no two of
--- its frames have the same key. Assumes nothing.
+-- What holds of an accepted text: its size and counts are within the limits, each of its frames passes the tests 2 to 6, no two of
+-- its frames have the same key, and no leader has a frame 34. Assumes nothing.
 use Prim.Native.Nat.{ℕ, zero, suc, _+_, _≤_, _<_}
-use mathlib.Core.Path.{_≡_, refl, sym, _∙_, ap}
+use mathlib.Core.Path.{_≡_, refl, sym, _∙_, ap, subst}
 use mathlib.Core.Bool.{Bool, true, false}
 use mathlib.Core.List.{List, [], _∷_, _++_, map, append-assoc, append-nil}
 use native.Mathlib.Omega.{arith}
@@ -33,6 +33,7 @@ use Rattle.frame_keys.specs.Keys.{begins, find, isFound, keyOf, keyGiven}
 pub use Rattle.reading.proofs.Formed.{Formed, countFrom}
 use Rattle.first_reading.proofs.ReadingLaws.{or-passes}
 use Rattle.reading.proofs.Formed.{passes, Passed, lines-pass, lines-hex, First, first-accepted}
+use Rattle.second_reading.specs.Leading.{chained}
 use Rattle.second_reading.specs.Second.{countsOf, secondFault, secondFrom, second, reading}
 
 -- ---- what is said of an accepted text
@@ -56,6 +57,7 @@ pub record Whole (t : Text) (x : List ℕ) (n c : ℕ) : Type 0 where
   pub named : (i : ℕ) → i < n → Named (countsOf t x c) (getD (framesOf x) i [])
   pub fresh : (i j : ℕ) → i < j → j < n → (kindOf (getD (framesOf x) j []) .key ≡ 0 → ⊥) → begins (keyOf (getD (framesOf x) j [])) (getD (framesOf x) i []) ≡ false
   pub apart : (i j : ℕ) → i < j → j < n → (kindOf (getD (framesOf x) j []) .key ≡ 0 → ⊥) → keyOf (getD (framesOf x) i []) ≡ keyOf (getD (framesOf x) j []) → ⊥
+  pub unchained : (i : ℕ) → i < n → chained (take i (framesOf x)) (getD (framesOf x) i []) ≡ false
 
 -- ---- the second reading
 
@@ -67,10 +69,12 @@ record Tested (n : Counts) (es fs : List (List ℕ)) (a : Reading) (m c : ℕ) :
   pub answer : a ≡ Accepted m c
   pub named : (i : ℕ) → i < length fs → Named n (getD fs i [])
   pub fresh : (i : ℕ) → i < length fs → keyGiven (es ++ take i fs) (getD fs i []) ≡ false
+  pub unchained : (i : ℕ) → i < length fs → chained (es ++ take i fs) (getD fs i []) ≡ false
 
 record Fresh (n : Counts) (es : List (List ℕ)) (f : List ℕ) : Type 0 where
   pub named : Named n f
   pub fresh : keyGiven es f ≡ false
+  pub unchained : chained es f ≡ false
 
 no-second : (n : Counts) (es : List (List ℕ)) (f : List ℕ) → secondFault n es f ≡ 0 → Fresh n es f
 unfolding secondFault
@@ -78,10 +82,11 @@ no-second n es f p =
     let a = passes (framePasses (fieldPasses Range n) f) _ 4 p in
     let b = passes (framePasses (fieldPasses Reals n) f) _ 5 (a .1) in
     let d = spares (keyGiven es f) _ 6 (b .1) in
-    record { named = record { range = a .0; reals = b .0 }; fresh = d .0 }
+    let e = spares (chained es f) _ 13 (d .1) in
+    record { named = record { range = a .0; reals = b .0 }; fresh = d .0; unchained = e .0 }
 
 tested-more : (n : Counts) (es : List (List ℕ)) (f : List ℕ) (fs : List (List ℕ)) (a : Reading) (m c : ℕ) → Fresh n es f → Tested n (es ++ f ∷ []) fs a m c → Tested n es (f ∷ fs) a m c
-tested-more n es f fs a m c g p = record { answer = p .answer; named = each; fresh = new }
+tested-more n es f fs a m c g p = record { answer = p .answer; named = each; fresh = new; unchained = free }
   where
     each : (i : ℕ) → i < suc (length fs) → Named n (getD (f ∷ fs) i [])
     each zero h = g .named
@@ -91,9 +96,13 @@ tested-more n es f fs a m c g p = record { answer = p .answer; named = each; fre
     new zero h = rw (append-nil es) (g .fresh)
     new (suc i) h = rw (append-assoc es (f ∷ []) (take i fs)) at (p .fresh i (omega arith))
 
+    free : (i : ℕ) → i < suc (length fs) → chained (es ++ take i (f ∷ fs)) (getD (f ∷ fs) i []) ≡ false
+    free zero h = rw (append-nil es) (g .unchained)
+    free (suc i) h = let z : (es ++ f ∷ []) ++ take i fs ≡ es ++ f ∷ take i fs = append-assoc es (f ∷ []) (take i fs) in subst (λ (y : List (List ℕ)). chained y (getD fs i []) ≡ false) z (p .unchained i (omega arith))
+
 second-passes : (n : Counts) (es : List (List ℕ)) (k : ℕ) (fs : List (List ℕ)) (a : Reading) (m c : ℕ) → secondFrom n es k fs a ≡ Accepted m c → Tested n es fs a m c
 unfolding secondFrom
-second-passes n es k [] a m c p = record { answer = p; named = λ i h. absurd (omega arith); fresh = λ i h. absurd (omega arith) }
+second-passes n es k [] a m c p = record { answer = p; named = λ i h. absurd (omega arith); fresh = λ i h. absurd (omega arith); unchained = λ i h. absurd (omega arith) }
 second-passes n es k (f ∷ fs) a m c p =
     let e = or-passes (secondFault n es f) k _ m c p in
     tested-more n es f fs a m c (no-second n es f (e .0)) (second-passes n (es ++ f ∷ []) (suc k) fs a m c (e .1))
@@ -172,6 +181,7 @@ both t x n c f p s =
       named = λ i h. s .named i (omega arith);
       fresh = new;
       apart = λ i j h k m q. not-same (getD (framesOf x) i []) (getD (framesOf x) j []) (new i j h k m) q;
+      unchained = λ i h. s .unchained i (omega arith);
     }
   where
     formed : (i : ℕ) → i < length (framesOf x) → Formed t (eqb i 0) (getD (framesOf x) i [])

@@ -7,12 +7,13 @@ use mathlib.Core.List.{List, [], _∷_, _++_, map}
 use Rattle.hex_lines.specs.Lines.{split}
 use Rattle.fields.specs.Fields.{fieldPasses}
 use Rattle.kinds.specs.Kinds.{kindAt}
+use Rattle.frames.specs.Among.{hasKinds}
 use Rattle.frames.specs.Frames.{passAll}
 use Rattle.frame_tests.specs.declared.tests.Text.{Text}
 use Rattle.frame_tests.specs.declared.tests.Text.the-variants.{Query, Plan, Table}
 use Rattle.first_reading.specs.declared.first.Reading.{Reading}
 use Rattle.first_reading.specs.declared.first.Reading.the-variants.{Accepted, Refused}
-use Rattle.second_reading.specs.FromTable.{hasSheets}
+use Rattle.second_reading.specs.Leading.{isLeader}
 use Rattle.second_reading.specs.Second.{reading, queryReading}
 use Rattle.reading_facts.specs.Answers.{numberOf}
 use Rattle.reading_facts.specs.Ascii.{ascii, times}
@@ -124,10 +125,24 @@ points =
     -- Note 3: frame 24 is a query's
     ∷ record { of = Plan; bytes = ascii "3f000000000100000000\n24\n"; says = Refused 2 2 }
     ∷ record { of = Table; bytes = ascii "24\n"; says = Refused 2 1 }
+    -- Note 5: a leader that has a frame 34, its own, an earlier or a later one, told at the later of the two lines
+    ∷ record { of = Table; bytes = ascii "3400010001\n"; says = Refused 14 1 }
+    ∷ record { of = Table; bytes = ascii "3400010002\n3400020003\n"; says = Refused 14 2 }
+    ∷ record { of = Table; bytes = ascii "3400020003\n3400010002\n"; says = Refused 14 2 }
+    -- two classes with one leader
+    ∷ record { of = Table; bytes = ascii "3400010002\n3400030002\n"; says = Accepted 2 0 }
+    -- a class led twice is 7, before 14
+    ∷ record { of = Table; bytes = ascii "3400010002\n3400010001\n"; says = Refused 7 2 }
+    -- class fffe is the limit for leaders too
+    ∷ record { of = Table; bytes = ascii "340001ffff\n"; says = Refused 4 1 }
+    -- line by line with 5, 6, 7
+    ∷ record { of = Table; bytes = ascii "3400010002\n3400020003\n32100000\n"; says = Refused 14 2 }
+    -- frame 34 is a table's
+    ∷ record { of = Query; bytes = ascii "00000000\n3400010002\n"; says = Refused 2 2 }
     ∷ []
 
 pub examples : map (λ (r : ReadingCase). reading (r .of) (r .bytes)) (refusals ++ points) ≡ map (λ (r : ReadingCase). r .says) (refusals ++ points)
-unfolding refusals points reading split kindAt passAll fieldPasses
+unfolding refusals points reading split kindAt passAll fieldPasses isLeader
 examples = refl
 
 -- each number from 1 to 7 can occur for a query
@@ -168,5 +183,5 @@ tables =
     ∷ []
 
 pub table-examples : map (λ (r : QueryCase). queryReading (r .handed) (r .bytes)) tables ≡ map (λ (r : QueryCase). r .says) tables
-unfolding tables queryReading hasSheets split kindAt passAll fieldPasses
+unfolding tables queryReading hasKinds split kindAt passAll fieldPasses
 table-examples = refl

@@ -1,12 +1,13 @@
 -- The rows of a table, read off its frames.
-use Prim.Native.Nat.{ℕ}
-use mathlib.Core.List.{List, [], _∷_, _++_}
-use lib.ListN.{getD}
+use Prim.Native.Nat.{ℕ, _/_, _%_}
+use mathlib.Core.List.{List, [], _∷_, _++_, flatMap}
+use lib.ListN.{length, getD}
 use lib.Dec.{eqb}
 use Rattle.base.specs.Choose.{pick}
 use Rattle.hex.specs.Digits.{shortAt, wordAt}
 use Rattle.frame_tests.specs.Faults.{isRow}
 use Rattle.model.specs.Atoms.{Row, Node, Literal}
+use Rattle.model.specs.Limits.{classBytes}
 use Rattle.records.specs.Items.{itemsAt}
 
 -- "30 class(2) op n classes(2); 31 class(2) op value(4)"
@@ -19,6 +20,14 @@ rowOf f =
 unfoldable pub rowsIn : List (List ℕ) → List Row
 rowsIn [] = []
 rowsIn (f ∷ fs) = pick (isRow (getD f 0 0)) (rowOf f ∷ rowsIn fs) (rowsIn fs)
+
+-- a row as a frame again, "big-endian if wider"
+abbrev pub wordBytes : ℕ → List ℕ
+wordBytes x = x / 0x100_0000 ∷ x / 0x1_0000 % 0x100 ∷ x / 0x100 % 0x100 ∷ x % 0x100 ∷ []
+
+abbrev pub rowFrame : Row → List ℕ
+rowFrame (Node c o ds) = 0x30 ∷ (classBytes c ++ o ∷ length ds ∷ flatMap classBytes ds)
+rowFrame (Literal c o x) = 0x31 ∷ (classBytes c ++ o ∷ wordBytes x)
 
 -- what stands behind a row's operator, as numbers of two bytes: its children, or the two halves of its value
 unfoldable pub halvesOf : List ℕ → List ℕ

@@ -57,7 +57,7 @@ module _ (fs : List (List ℕ)) (qs : List Atom) (n : ℕ) (few : length qs ≤ 
 abbrev pub RoundWithin : RoundAnswer → Type 0
 RoundWithin (Chosen i) = i < 64
 RoundWithin Ended = Unit {0}
-RoundWithin (Invalid k t l) = (k ≤ 13) × ((t ≤ 2) × (l ≤ 32769))
+RoundWithin (Invalid k t l) = (k ≤ 14) × ((t ≤ 2) × (l ≤ 32769))
 
 told-within : (c : Option ℕ) (cs : List (Option Float)) (o : List ℕ) → Among 64 c → RoundWithin (toldBy c cs o .answer)
 unfolding Among

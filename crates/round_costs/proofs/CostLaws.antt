@@ -17,6 +17,7 @@ use Rattle.second_reading.specs.Second.{reading, queryReading}
 use Rattle.model.specs.Atoms.{Atom}
 use Rattle.cost.specs.QueryAtoms.{atomsIn}
 use Rattle.given.specs.Asks.{asksTable}
+use Rattle.given.specs.Sampled.{sampledFrom}
 use Rattle.passes.specs.Eager.{sheetAtoms}
 use Rattle.cost_bits.specs.CostBits.{costBits}
 use Rattle.scheduling.specs.Rounds.{Rounded}
@@ -76,5 +77,5 @@ module _ (x t : List ℕ) (round : ℕ) (o : List ℕ) (a : Asks x) (q : asksTab
   unfolding roundCosts
   costs-sampled s i e b r f =
       let g : sheetAtoms (take e s) ≡ atomsIn (framesOf x) = sheet-atoms (take e s) (b .accepted .accepts) ∙ ap (λ (y : List ℕ). atomsIn (framesOf y)) (b .accepted .text) in
-      let w = same-costs x round o (framesIn (take e s)) (framesOf x ++ framesOf t) (sheetAtoms (take e s)) (b .frames) g in
+      let w = same-costs x round o (framesIn (take e s)) (framesOf x ++ sampledFrom (framesOf t)) (sheetAtoms (take e s)) (b .frames) g in
       f ∙ w ∙ read-both (refusedWith o) x t a q (by-frames x round o) (b .lines) (b .rows) (b .is)

@@ -1,14 +1,14 @@
 -- The classes and values of an accepted table: no class is ffff, a class has two bytes, a value four. Proved from 4, "above a limit", and from
 -- the bytes of the frames.
 use Prim.Native.Nat.{ℕ, zero, suc, _+_, _*_, _<_, _≤_}
-use mathlib.Core.Path.{_≡_, subst}
+use mathlib.Core.Path.{_≡_, refl, sym, subst}
 use mathlib.Core.Logic.{_⊎_, inl, inr}
-use mathlib.Core.Bool.{true}
-use mathlib.Core.List.{List, [], _∷_, List·Memᴰ, List·Memᴰ·cases-cons, List·Memᴰ·not-nil}
+use mathlib.Core.Bool.{Bool, true, false}
+use mathlib.Core.List.{List, [], _∷_, List·Memᴰ, List·Memᴰ·cases-cons, List·Memᴰ·not-nil, Memᴰ·of-map}
 use native.Mathlib.Omega.{arith}
 use native.Mathlib.Nat.{mul-suc}
 use native.Mathlib.Decide.{decLt}
-use lib.ListN.{getD, List·getD-eq-default, take-append-drop}
+use lib.ListN.{getD, List·getD-eq-default}
 use borrow.Author.Tests.{leb-true}
 use Rattle.base.proofs.ChooseLaws.{pick-elim}
 use Rattle.hex.specs.Digits.{shortAt, wordAt}
@@ -24,6 +24,7 @@ use Rattle.first_reading.specs.declared.first.Reading.the-variants.{Accepted}
 use Rattle.frame_keys.specs.Keys.{begins, find, isFound}
 use Rattle.second_reading.specs.Second.{reading}
 use Rattle.reading_facts.proofs.Passes.{frame-field, frame-item}
+use Rattle.reading_facts.proofs.Found.{begun-kind, found-at}
 use Rattle.reading_facts.proofs.Whole.{accepted, frame-bytes}
 use Rattle.model.specs.Tabulate.{tabulate}
 use Rattle.model.proofs.TabulateLaws.{tabulate-at, tabulate-length}
@@ -32,8 +33,12 @@ use Rattle.model.specs.Matching.{Proper}
 use Rattle.model.proofs.Carried.{TableHas}
 use Rattle.records.specs.Items.{itemsAt}
 use Rattle.records.specs.Rows.{rowOf, rowsIn}
-use Rattle.running.specs.Tables.{globalIn, newFrom, tableOf, tableIn}
-use Rattle.running.proofs.DistinctRows.{IsRow, is-node, is-literal, row-kind, row-at}
+use Rattle.model.specs.Limits.{classBytes}
+use Rattle.records.specs.Leaders.{leadingKey, leaderIn, ledRow}
+use Rattle.records.proofs.LeaderLaws.{stands-led}
+use Rattle.records.proofs.RowFrames.{IsRow, is-node, is-literal, row-kind}
+use Rattle.running.specs.Tables.{globalIn, tableOf, tableIn}
+use Rattle.running.proofs.DistinctRows.{row-at, table-rows}
 
 -- an item stands at its place
 record ItemAt {X : Type 0} (read : List ℕ → ℕ → X) (w : ℕ) (f : List ℕ) (i n : ℕ) (x : X) : Type 0 where
@@ -67,6 +72,13 @@ literal-fits : (r : List ℕ) → framePasses (fieldPasses Limits noCounts) (0x3
 unfolding kindAt kinds fieldPasses fieldFits
 literal-fits r h = leb-true _ _ (frame-field (fieldPasses Limits noCounts) (0x31 ∷ r) h 0 (omega arith))
 
+leader-fits : (f : List ℕ) → getD f 0 0 ≡ 0x34 → framePasses (fieldPasses Limits noCounts) f ≡ true → shortAt f 3 ≤ classMost
+unfolding kindAt kinds fieldPasses fieldFits
+leader-fits [] e h = absurd (omega arith)
+leader-fits (b ∷ r) e h =
+    let g : framePasses (fieldPasses Limits noCounts) (0x34 ∷ r) ≡ true = rw e at h in
+    leb-true _ _ (frame-field (fieldPasses Limits noCounts) (0x34 ∷ r) g 1 (omega arith))
+
 -- what is said of a row
 pub record Sized (r : Row) : Type 0 where
   pub class : classOf r ≤ classMost
@@ -96,17 +108,41 @@ row-sized (x ∷ r) k h b = by x k h b
 
 -- ---- an accepted table
 
-module _ (t : List ℕ) (n c : ℕ) (ok : reading TableText t ≡ Accepted n c) where
+module _ (t : List ℕ) (n c′ : ℕ) (ok : reading TableText t ≡ Accepted n c′) where
   frame-at-bytes : (i j : ℕ) → getD (getD (framesOf t) i []) j 0 < 256
   frame-at-bytes i j = byte-at (getD (framesOf t) i []) (frame-bytes t i) j
 
-  pub rows-sized : (r : Row) → List·Memᴰ r (rows (tableOf t)) → Sized r
-  unfolding tableIn
-  rows-sized r m =
-      let a = row-at (framesOf t) r (subst (List·Memᴰ r) (take-append-drop (newFrom (framesOf t)) (rowsIn (framesOf t))) m) in
-      let w = accepted TableText t n c ok in
+  -- the rows as they are written
+  pub written-sized : (r : Row) → List·Memᴰ r (rowsIn (framesOf t)) → Sized r
+  written-sized r m =
+      let a = row-at (framesOf t) r m in
+      let w = accepted TableText t n c′ ok in
       let l = w .lines in
       rw (a .is) (row-sized (getD (framesOf t) (a .at) []) (row-kind _ (a .kind)) (w .formed (a .at) (omega (arith, a .within)) .limits) (frame-at-bytes (a .at)))
+
+  pub leader-sized : (c : ℕ) → c ≤ classMost → leaderIn (framesOf t) c ≤ classMost
+  leader-sized c h = by (isFound (find (leadingKey c) (framesOf t))) refl
+    where
+      by : (b : Bool) → isFound (find (leadingKey c) (framesOf t)) ≡ b → leaderIn (framesOf t) c ≤ classMost
+      by false e = rw e h
+      by true e =
+          let a = found-at (leadingKey c) (framesOf t) e in
+          let w = accepted TableText t n c′ ok in
+          let l = w .lines in
+          rw (e, a .is) (leader-fits (getD (framesOf t) (a .at) []) (sym (begun-kind 0x34 (classBytes c) _ (a .begun))) (w .formed (a .at) (omega (arith, a .within)) .limits))
+
+  pub led-sized : (r : Row) → Sized r → Sized (ledRow (leaderIn (framesOf t)) r)
+  led-sized (Node c o ds) s = record {
+    class = leader-sized c (s .class);
+    children = λ d m. let e = Memᴰ·of-map (leaderIn (framesOf t)) ds m in subst (λ (x : ℕ). x ≤ classMost) (e .2) (leader-sized (e .0) (s .children (e .0) (e .1)));
+    value = s .value;
+  }
+  led-sized (Literal c o x) s = record { class = leader-sized c (s .class); children = s .children; value = s .value }
+
+  pub rows-sized : (r : Row) → List·Memᴰ r (rows (tableOf t)) → Sized r
+  rows-sized r m =
+      let a = stands-led (framesOf t) r (subst (List·Memᴰ r) (table-rows (framesOf t)) m) in
+      subst Sized (a .is) (led-sized (a .row) (written-sized (a .row) (a .of-table)))
 
   -- no class of the table is ffff
   pub proper-rows : Proper (tableOf t)
@@ -122,12 +158,17 @@ module _ (t : List ℕ) (n c : ℕ) (ok : reading TableText t ≡ Accepted n c) 
   find-bytes key [] h j = omega arith
   find-bytes key (f ∷ fs) h j = pick-elim (λ (g : List ℕ). getD g j 0 < 256) (begins key f) f (find key fs) (λ e. h 0 j) (λ e. find-bytes key fs (λ i k. h (suc i) k) j)
 
+  -- a field of a frame that is found
+  found-short : (key : List ℕ) (i : ℕ) → shortAt (find key (framesOf t)) i < 0x1_0000
+  found-short key i = omega (arith, find-bytes key (framesOf t) frame-at-bytes i, find-bytes key (framesOf t) frame-at-bytes (i + 1))
+
   global-sized : (g : ℕ) → globalIn (framesOf t) g < 0x1_0000
   global-sized g =
       let f = find (0x32 ∷ g ∷ []) (framesOf t) in
-      let a = find-bytes (0x32 ∷ g ∷ []) (framesOf t) frame-at-bytes 2 in
-      let b = find-bytes (0x32 ∷ g ∷ []) (framesOf t) frame-at-bytes 3 in
-      pick-elim (λ (x : ℕ). x < 0x1_0000) (isFound f) (shortAt f 2) unset (λ e. omega arith) (λ e. omega arith)
+      let a = found-short (0x32 ∷ g ∷ []) 2 in
+      let k = leadingKey (shortAt f 2) in
+      pick-elim (λ (x : ℕ). x < 0x1_0000) (isFound f) (leaderIn (framesOf t) (shortAt f 2)) unset
+      (λ e. pick-elim (λ (x : ℕ). x < 0x1_0000) (isFound (find k (framesOf t))) (shortAt (find k (framesOf t)) 3) (shortAt f 2) (λ _. found-short k 3) (λ _. a)) (λ e. omega arith)
 
   globals-sized : (g : ℕ) → globalClass (tableOf t) g < 0x1_0000
   unfolding tableIn

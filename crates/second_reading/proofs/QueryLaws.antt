@@ -22,6 +22,7 @@ use Rattle.frame_tests.specs.declared.tests.Text.the-variants.{Query}
 use Rattle.first_reading.specs.declared.first.Reading.{Reading}
 use Rattle.first_reading.specs.declared.first.Reading.the-variants.{Accepted, Refused}
 use Rattle.second_reading.specs.FromTable.{takesTable, hasSheets, tableFor}
+use Rattle.second_reading.specs.Leading.{chained}
 use Rattle.second_reading.specs.Second.{headerCounts, secondFault, secondFrom, second, reading, queryReading}
 use Rattle.second_reading.proofs.SecondLaws.{table-there}
 
@@ -83,7 +84,7 @@ second-table n es k (f ∷ fs) a m c p q =
     go (takesTable f) refl (rw (takes-begins f) at q) (second-table n (es ++ f ∷ []) (suc k) fs a m c (r .1)) (r .0)
   where
     go : (t : Bool) → takesTable f ≡ t → isFound (pick t f (find (0x24 ∷ []) fs)) ≡ true → (asks fs ≡ true → n .table ≡ true) → secondFault n es f ≡ 0 → n .table ≡ true
-    go true e r more z = table-there n f (keyGiven es f) z e
+    go true e r more z = table-there n f (keyGiven es f) (chained es f) z e
     go false e r more z = more r
 
 -- ---- the whole

@@ -6,12 +6,16 @@ use mathlib.Core.List.{List, [], _∷_, _++_, append-nil, append-assoc}
 use native.Mathlib.Numerals.{add-one}
 use native.Mathlib.Omega.{arith}
 use lib.ListN.{length, getD, drop}
-use borrow.Author.Tests.{eq-eqb, ne-eqb, not-true, not-false}
+use lib.Dec.{eqb}
+use borrow.Author.Tests.{eq-eqb, ne-eqb, eqb-true, not-true, not-false}
 use Rattle.base.specs.Choose.{pick}
 use Rattle.fields.specs.Limits.{atomsMost}
 use Rattle.fields.specs.Fields.{fieldPasses}
+use Rattle.class_sets.specs.Sets.{setWords, hasClass}
+use Rattle.class_sets.proofs.SetLaws.{no-class}
 use Rattle.kinds.specs.Kinds.{kindAt}
 use Rattle.kinds.specs.Rows.{testsOf}
+use Rattle.frames.specs.Among.{isBetween, hasKinds}
 use Rattle.frames.specs.Frames.{kindOf, framePasses}
 use Rattle.frames.specs.Sheet.{frameAt, framesIn, Whole}
 use Rattle.first_reading.specs.First.{orElse}
@@ -26,12 +30,14 @@ use Rattle.frames.proofs.UnreadLaws.{range-unread, reals-unread}
 use Rattle.frames.proofs.SheetLaws.{frames-end, frame-some, frame-within, frame-inside, frames-step}
 use Rattle.frame_keys.specs.Keys.{keyGiven}
 use Rattle.second_reading.specs.FromTable.{takesTable}
+use Rattle.second_reading.specs.Leading.{leads, hasLeaders, isLeader}
 use Rattle.second_reading.specs.Second.{headerCounts, countsInBy, faultOf, secondFault, secondFrom}
 use Rattle.indexing.specs.Index.{slotsFor, givenBy, noted, entriesWith, Noting, Indexes}
-use Rattle.second_reading.specs.Rereading.{fieldsFault, indexSize, BlankFor, Rereads}
+use Rattle.second_reading.specs.Rereading.{fieldsFault, chainedBy, indexSize, BlankFor, LeadersFor, Marked, Rereads}
 use Rattle.indexing.proofs.SlotLaws.{slots-some, keyed-counts}
 use Rattle.indexing.proofs.NoteLaws.{noted-line, noted-length, given-is, blank-indexes}
 use Rattle.second_reading.proofs.EntryLaws.{lacking, lacking-most, entered-still}
+use Rattle.second_reading.proofs.LeadingLaws.{chained-is, leader-more}
 
 module _ (b : Bool) (t : Text) (s h : List ℕ) (c : ℕ) (r : Counts) (p : h ≡ frameAt s 0) where
   pub query-counts : t ≡ Query → r ≡ headerCounts b h c → r ≡ countsInBy b t s c
@@ -60,12 +66,12 @@ module _ (n : Counts) (f : List ℕ) where
       pub fields-6 : b ≡ false → 6 ≡ fieldsFault n f
       fields-6 e = rw (← p, not-false a h, ← q, e)
 
--- all four, by the first of 5 and 6 that fails
-module _ (n : Counts) (f : List ℕ) (g : Bool) (e : ℕ) (p : e ≡ fieldsFault n f) where
+-- all five, by the first of 5 and 6 that fails
+module _ (n : Counts) (f : List ℕ) (g l : Bool) (e : ℕ) (p : e ≡ fieldsFault n f) where
   abbrev rest : ℕ
-  rest = pick g 7 (pick (takesTable f) (pick (n .table) 0 13) 0)
+  rest = pick g 7 (pick l 14 (pick (takesTable f) (pick (n .table) 0 13) 0))
 
-  pub fault-first : (e ≡ 0 → ⊥) → e ≡ faultOf n f g
+  pub fault-first : (e ≡ 0 → ⊥) → e ≡ faultOf n f g l
   fault-first z = by (framePasses (fieldPasses Range n) f) (framePasses (fieldPasses Reals n) f) p
     where
       by : (a b : Bool) → e ≡ pick a (pick b 0 6) 5 → e ≡ pick a (pick b rest 6) 5
@@ -74,7 +80,7 @@ module _ (n : Counts) (f : List ℕ) (g : Bool) (e : ℕ) (p : e ≡ fieldsFault
       by false b q = q
 
   module _ (z : e ≡ 0) where
-    goes-on : faultOf n f g ≡ rest
+    goes-on : faultOf n f g l ≡ rest
     goes-on = by (framePasses (fieldPasses Range n) f) (framePasses (fieldPasses Reals n) f) (sym p ∙ z)
       where
         by : (a b : Bool) → pick {A = ℕ} a (pick b 0 6) 5 ≡ 0 → pick a (pick b rest 6) 5 ≡ rest
@@ -83,23 +89,27 @@ module _ (n : Counts) (f : List ℕ) (g : Bool) (e : ℕ) (p : e ≡ fieldsFault
         by false b q = absurd (omega arith)
 
     module _ (c : Bool) (r : c ≡ g) where
-      pub fault-7 : c ≡ true → 7 ≡ faultOf n f g
+      pub fault-7 : c ≡ true → 7 ≡ faultOf n f g l
       fault-7 y = rw (goes-on, ← r, y)
 
-      module _ (y : c ≡ false) (k : ℕ) (d : k ≡ getD f 0 0) where
-        pub fault-none : (k ≡ 0x24 → ⊥) → 0 ≡ faultOf n f g
-        fault-none o = rw (goes-on, ← r, y, ← d, ne-eqb k 0x24 o)
+      module _ (y : c ≡ false) (w : Bool) (u : w ≡ l) where
+        pub fault-14 : w ≡ true → 14 ≡ faultOf n f g l
+        fault-14 x = rw (goes-on, ← r, y, ← u, x)
 
-        module _ (o : k ≡ 0x24) where
-          pub fault-table : n .table ≡ true → 0 ≡ faultOf n f g
-          fault-table u = rw (goes-on, ← r, y, ← d, eq-eqb k 0x24 o, u)
+        module _ (x : w ≡ false) (k : ℕ) (d : k ≡ getD f 0 0) where
+          pub fault-none : (k ≡ 0x24 → ⊥) → 0 ≡ faultOf n f g l
+          fault-none o = rw (goes-on, ← r, y, ← u, x, ← d, ne-eqb k 0x24 o)
 
-          pub fault-13 : n .table ≡ false → 13 ≡ faultOf n f g
-          fault-13 u = rw (goes-on, ← r, y, ← d, eq-eqb k 0x24 o, u)
+          module _ (o : k ≡ 0x24) where
+            pub fault-table : n .table ≡ true → 0 ≡ faultOf n f g l
+            fault-table v = rw (goes-on, ← r, y, ← u, x, ← d, eq-eqb k 0x24 o, v)
+
+            pub fault-13 : n .table ≡ false → 13 ≡ faultOf n f g l
+            fault-13 v = rw (goes-on, ← r, y, ← u, x, ← d, eq-eqb k 0x24 o, v)
 
 -- a line without a fault has a new key
-fresh-key : (n : Counts) (f : List ℕ) (g : Bool) → faultOf n f g ≡ 0 → g ≡ false
-fresh-key n f g p = go (framePasses (fieldPasses Range n) f) (framePasses (fieldPasses Reals n) f) g (pick (takesTable f) (pick (n .table) 0 13) 0) p
+fresh-key : (n : Counts) (f : List ℕ) (g l : Bool) → faultOf n f g l ≡ 0 → g ≡ false
+fresh-key n f g l p = go (framePasses (fieldPasses Range n) f) (framePasses (fieldPasses Reals n) f) g (pick l 14 (pick (takesTable f) (pick (n .table) 0 13) 0)) p
   where
     go : (a b g : Bool) (v : ℕ) → pick {A = ℕ} a (pick b (pick g 7 v) 6) 5 ≡ 0 → g ≡ false
     go true true true v q = absurd (omega arith)
@@ -108,16 +118,17 @@ fresh-key n f g p = go (framePasses (fieldPasses Range n) f) (framePasses (field
     go false b g v q = absurd (omega arith)
 
 -- and one that takes samples from a table has one
-pub table-there : (n : Counts) (f : List ℕ) (g : Bool) → faultOf n f g ≡ 0 → takesTable f ≡ true → n .table ≡ true
-table-there n f g p = go (framePasses (fieldPasses Range n) f) (framePasses (fieldPasses Reals n) f) g (takesTable f) (n .table) p
+pub table-there : (n : Counts) (f : List ℕ) (g l : Bool) → faultOf n f g l ≡ 0 → takesTable f ≡ true → n .table ≡ true
+table-there n f g l p = go (framePasses (fieldPasses Range n) f) (framePasses (fieldPasses Reals n) f) g l (takesTable f) (n .table) p
   where
-    go : (a b g t d : Bool) → pick {A = ℕ} a (pick b (pick g 7 (pick t (pick d 0 13) 0)) 6) 5 ≡ 0 → t ≡ true → d ≡ true
-    go true true true t d q e = absurd (omega arith)
-    go true true false true true q e = refl
-    go true true false true false q e = absurd (omega arith)
-    go true true false false d q e = absurd (true≢false (sym e))
-    go true false g t d q e = absurd (omega arith)
-    go false b g t d q e = absurd (omega arith)
+    go : (a b g l t d : Bool) → pick {A = ℕ} a (pick b (pick g 7 (pick l 14 (pick t (pick d 0 13) 0))) 6) 5 ≡ 0 → t ≡ true → d ≡ true
+    go true true true l t d q e = absurd (omega arith)
+    go true true false true t d q e = absurd (omega arith)
+    go true true false false true true q e = refl
+    go true true false false true false q e = absurd (omega arith)
+    go true true false false false d q e = absurd (true≢false (sym e))
+    go true false g l t d q e = absurd (omega arith)
+    go false b g l t d q e = absurd (omega arith)
 
 -- a second reading that accepts says what the first one said
 pub accepts : (n : Counts) (e : List (List ℕ)) (k : ℕ) (fs : List (List ℕ)) (m c n′ c′ : ℕ) → secondFrom n e k fs (Accepted m c) ≡ Accepted n′ c′ → n′ ≡ m
@@ -125,8 +136,8 @@ unfolding secondFrom
 accepts n e k [] m c n′ c′ h = let z : m ≡ n′ = cc in sym z
 accepts n e k (f ∷ fs) m c n′ c′ h = accepts n (e ++ f ∷ []) (suc k) fs m c n′ c′ (or-passes (secondFault n e f) k _ n′ c′ h .1)
 
--- k frames, the earlier ones, are passed, m of them entered in i, and those from `at` on say the rest
-pub record Rereading (n : Counts) (s : List ℕ) (a : Reading) (i₀ i : List ℕ) (at k m : ℕ) : Type 0 where
+-- k frames, the earlier ones, are passed, m of them entered in i, their leaders marked in B, and those from `at` on say the rest
+pub record Rereading (n : Counts) (s : List ℕ) (a : Reading) (i₀ B₀ i B : List ℕ) (at k m : ℕ) : Type 0 where
   pub few : k ≤ at
   pub within : at ≤ length s
   pub earlier : List (List ℕ)
@@ -138,9 +149,13 @@ pub record Rereading (n : Counts) (s : List ℕ) (a : Reading) (i₀ i : List �
   pub size : length s ≤ 32768
   pub room : indexSize (slotsFor (length i)) (length s) ≤ length i
   pub same : length i ≡ length i₀
+  pub leaders : (c : ℕ) → hasClass B c ≡ isLeader c earlier
+  pub words : hasLeaders (framesIn (drop at s)) ≡ true → length B ≡ setWords
+  pub alike : length B ≡ length B₀
 
-pub from-blank : (n : Counts) (s : List ℕ) (a : Reading) (i : List ℕ) → BlankFor s i → Rereading n s a i i 0 0 0
-from-blank n s a i b = record {
+pub from-blank : (n : Counts) (s : List ℕ) (a : Reading) (i B : List ℕ) → BlankFor s i → LeadersFor s B → Rereading n s a i B i B 0 0 0
+unfolding isLeader
+from-blank n s a i B b l = record {
   few = omega arith;
   within = omega arith;
   earlier = [];
@@ -152,9 +167,12 @@ from-blank n s a i b = record {
   size = b .size;
   room = b .room;
   same = refl;
+  leaders = no-class B (l .blank);
+  words = l .room;
+  alike = refl;
 }
 
-module _ (n : Counts) (s : List ℕ) (a : Reading) (i₀ i : List ℕ) (at k m : ℕ) (q : Rereading n s a i₀ i at k m) where
+module _ (n : Counts) (s : List ℕ) (a : Reading) (i₀ B₀ i B : List ℕ) (at k m : ℕ) (q : Rereading n s a i₀ B₀ i B at k m) where
   pub all-indexed : length s ≤ at → Rereads n s a i a
   unfolding secondFrom
   all-indexed h =
@@ -182,13 +200,29 @@ module _ (n : Counts) (s : List ℕ) (a : Reading) (i₀ i : List ℕ) (at k m :
     pub next-fits : at + length f ≤ 32768
     next-fits = omega (arith, next-within, q .size)
 
-    module _ (v : ℕ) (g : v ≡ faultOf n f (givenBy (slotsFor (length i)) s i f)) where
+    -- where it is a frame 34 the set has room, and so it has for those behind it
+    pub room-here : leads f ≡ true → length B ≡ setWords
+    unfolding hasKinds
+    room-here t = q .words (rw step (between (getD f 0 0) t))
+      where
+        between : (b : ℕ) → eqb b 0x34 ≡ true → pick (isBetween 0x34 0x34 b) true (hasKinds 0x34 0x34 (framesIn (drop (at + length f) s))) ≡ true
+        between b e = rw (eqb-true b 0x34 e)
+
+    room-behind : hasLeaders (framesIn (drop (at + length f) s)) ≡ true → length B ≡ setWords
+    unfolding hasKinds
+    room-behind t = q .words (rw (step, t) (either (isBetween 0x34 0x34 (getD f 0 0))))
+      where
+        either : (b : Bool) → pick b true true ≡ true
+        either true = refl
+        either false = refl
+
+    module _ (v : ℕ) (g : v ≡ faultOf n f (givenBy (slotsFor (length i)) s i f) (chainedBy s i B f)) where
       given-here : givenBy (slotsFor (length i)) s i f ≡ keyGiven (q .earlier) f
       given-here = given-is (slotsFor (length i)) s i f (q .earlier) m (q .index) (keyed-counts f (wholes .0))
 
       fault-here : v ≡ secondFault n (q .earlier) f
       unfolding secondFault
-      fault-here = g ∙ rw given-here
+      fault-here = g ∙ rw (given-here, chained-is s i B (q .earlier) m (q .index) (q .leaders) f)
 
       says : secondFrom n [] 0 (framesIn s) a ≡ orElse v k (secondFrom n (q .earlier ++ f ∷ []) (suc k) (framesIn (drop (at + length f) s)) a)
       unfolding secondFrom
@@ -200,9 +234,9 @@ module _ (n : Counts) (s : List ℕ) (a : Reading) (i₀ i : List ℕ) (at k m :
         indexed = λ b c p. let y : _≡_ {A = ℕ} 0 1 = cc in absurd (omega arith);
       }
 
-      pub frame-entered : v ≡ 0 → (j : List ℕ) (m′ : ℕ) → j ≡ noted (slotsFor (length i)) i f at m → m′ ≡ entriesWith f m → Rereading n s a i₀ j (at + length f) (k + 1) m′
-      frame-entered z j m′ u w =
-          let new : keyGiven (q .earlier) f ≡ false = sym given-here ∙ fresh-key n f (givenBy (slotsFor (length i)) s i f) (sym g ∙ z) in
+      pub frame-entered : v ≡ 0 → (j : List ℕ) (m′ : ℕ) → j ≡ noted (slotsFor (length i)) i f at m → m′ ≡ entriesWith f m → (C : List ℕ) → Marked B C f → Rereading n s a i₀ B₀ j C (at + length f) (k + 1) m′
+      frame-entered z j m′ u w C d =
+          let new : keyGiven (q .earlier) f ≡ false = sym given-here ∙ fresh-key n f (givenBy (slotsFor (length i)) s i f) (chainedBy s i B f) (sym g ∙ z) in
           let o : length j ≡ length i = ap length u ∙ noted-length (slotsFor (length i)) i f at m in
           record {
             few = omega (arith, q .few, frame-some s at h f taken);
@@ -216,4 +250,7 @@ module _ (n : Counts) (s : List ℕ) (a : Reading) (i₀ i : List ℕ) (at k m :
             size = q .size;
             room = rw o (q .room);
             same = o ∙ q .same;
+            leaders = λ c. rw (leader-more c (q .earlier) f, ← q .leaders c) (d .is c);
+            words = λ t. d .same ∙ room-behind t;
+            alike = d .same ∙ q .alike;
           }

@@ -1,5 +1,5 @@
 -- "then a second reading tests 5, 6, 7 the same way": each line in turn; then the whole reading of a query, a plan or a table.
--- Note 3: 13 "in the second reading after 7".
+-- Notes 3 and 5: 13 and 14 "in the second reading after 7".
 use Prim.Native.Nat.{ℕ, suc}
 use mathlib.Core.Bool.{Bool, true}
 use mathlib.Core.List.{List, [], _∷_, _++_}
@@ -19,6 +19,7 @@ use Rattle.first_reading.specs.declared.first.Reading.{Reading}
 use Rattle.first_reading.specs.declared.first.Reading.the-variants.{Accepted, Refused}
 use Rattle.frame_keys.specs.Keys.{keyGiven}
 use Rattle.second_reading.specs.FromTable.{takesTable, tableFor}
+use Rattle.second_reading.specs.Leading.{chained}
 
 -- ---- what there is to name
 
@@ -51,24 +52,26 @@ countsIn t s c = countsInBy true t s c
 
 -- ---- one line: the number of the first test that it fails, 0 where it passes
 
--- 7: whether its key was given; 13: "at frame 24" without a table to take samples from
-abbrev pub faultOf : Counts → List ℕ → Bool → ℕ
-faultOf n f given =
+-- 7: whether its key was given; 14: whether with it a leader has a frame 34; 13: "at frame 24" without a table to take samples from
+abbrev pub faultOf : Counts → List ℕ → Bool → Bool → ℕ
+faultOf n f given led =
     pick (framePasses (fieldPasses Range n) f)
     (pick (framePasses (fieldPasses Reals n) f)
     (pick given
     7
+    (pick led
+    14
     (pick (takesTable f)
     (pick (n .table)
     0
     13)
-    0))
+    0)))
     6)
     5
 
 unfoldable pub secondFault : Counts → List (List ℕ) → List ℕ → ℕ
 unfolding keyGiven
-secondFault n earlier f = faultOf n f (keyGiven earlier f)
+secondFault n earlier f = faultOf n f (keyGiven earlier f) (chained earlier f)
 
 -- ---- the lines in turn: k are passed, the earlier frames; `a` where all pass
 
@@ -87,7 +90,7 @@ unfoldable pub readingBy : Bool → Text → List ℕ → Reading
 unfolding firstReading secondFrom framesOf
 readingBy b t x = second b t x (firstReading t x)
 
--- the tests 1 to 7 alone: all that a plan or a table is put to
+-- the tests 1 to 7 and 14: all that a plan or a table is put to
 unfoldable pub reading : Text → List ℕ → Reading
 unfolding readingBy
 reading t x = readingBy true t x

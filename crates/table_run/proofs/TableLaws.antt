@@ -25,10 +25,13 @@ use Rattle.frame_tests.specs.declared.tests.Text.the-variants.{Table as TableTe
 use Rattle.first_reading.specs.declared.first.Reading.{Reading}
 use Rattle.first_reading.specs.declared.first.Reading.the-variants.{Accepted, Refused}
 use Rattle.second_reading.specs.Second.{countsOf, reading}
+use Rattle.reading_facts.proofs.Found.{begun-kind, found-at}
 use Rattle.reading_facts.proofs.Whole.{Whole, accepted}
 use Rattle.rows.proofs.RoomLaws.{rows-number, rows-most, rows-short, table-room}
 use Rattle.model.specs.Running.{Mode}
 use Rattle.running.specs.Tables.{newFrom}
+use Rattle.running.proofs.DistinctRows.{distinct-frames}
+use Rattle.standing.proofs.AcceptedLaws.{rows-sheet}
 use Rattle.running.specs.Validation.{Invalid, testsWith}
 use Rattle.counting.specs.Halts.{Halt}
 use Rattle.world_run.specs.Ends.{Ends}
@@ -37,27 +40,6 @@ use Rattle.sheet_run.specs.SheetRuns.{haltIn, SheetLent}
 use Rattle.table_run.specs.TableRuns.{tableTests, TableLent}
 
 -- ---- the first new row is one of the table's, or the number of its rows: "frame 33 .. is 5 above the row count"
-
--- a frame that is found stands among the frames, and begins with the key
-record FoundAt (key : List ℕ) (fs : List (List ℕ)) : Type 0 where
-  at : ℕ
-  within : at < length fs
-  is : find key fs ≡ getD fs at []
-  begun : begins key (getD fs at []) ≡ true
-
-found-at : (key : List ℕ) (fs : List (List ℕ)) → isFound (find key fs) ≡ true → FoundAt key fs
-unfolding find
-found-at key [] h = true-false h refl
-found-at key (f ∷ fs) h = by (begins key f) refl h (found-at key fs)
-  where
-    by : (b : Bool) → begins key f ≡ b → isFound (pick b f (find key fs)) ≡ true → (isFound (find key fs) ≡ true → FoundAt key fs) → FoundAt key (f ∷ fs)
-    by true e h k = record { at = 0; within = omega arith; is = rw e; begun = e }
-    by false e h k = let r = k h in record { at = suc (r .at); within = omega (arith, r .within); is = rw e (r .is); begun = r .begun }
-
-first-byte : (b : ℕ) (f : List ℕ) → begins (b ∷ []) f ≡ true → getD f 0 0 ≡ b
-unfolding begins
-first-byte b [] h = true-false h refl
-first-byte b (x ∷ f) h = sym (eqb-true b x (both-hold (eqb b x) true h .0))
 
 -- test 5 of a frame 33
 row-in : (n : Counts) (f : List ℕ) → getD f 0 0 ≡ 0x33 → framePasses (fieldPasses Range n) f ≡ true → shortAt f 1 ≤ n .rows
@@ -74,7 +56,7 @@ new-few t y n c ok h = by (isFound (find (0x33 ∷ []) (framesOf t))) refl
     by false e = rw (h .frames, e) (omega arith)
     by true e =
         let r = found-at (0x33 ∷ []) (framesOf t) e in
-        let k : shortAt (getD (framesOf t) (r .at) []) 1 ≤ c = row-in (countsOf TableText t c) (getD (framesOf t) (r .at) []) (first-byte 0x33 (getD (framesOf t) (r .at) []) (r .begun)) (w .named (r .at) (omega (arith, w .lines, r .within)) .range) in
+        let k : shortAt (getD (framesOf t) (r .at) []) 1 ≤ c = row-in (countsOf TableText t c) (getD (framesOf t) (r .at) []) (sym (begun-kind 0x33 [] (getD (framesOf t) (r .at) []) (r .begun))) (w .named (r .at) (omega (arith, w .lines, r .within)) .range) in
         let m : length (rowsIn (framesOf t)) ≡ c = ap (λ (fs : List (List ℕ)). length (rowsIn fs)) (sym (h .frames)) ∙ rows-number t y n c ok h in
         rw (h .frames, e, r .is, m) k
 
@@ -85,7 +67,19 @@ sheet-lent t s i R K L l v is n c e y h =
     let few : c ≤ rowsMost = omega (arith, rows-number t y n c ok h, rows-most t y n c ok h) in
     let short : 10 * c ≤ length t = omega (arith, rows-number t y n c ok h, rows-short y (h .whole), h .size) in
     let half : length y / 2 ≤ length t / 4 = omega (arith, h .size) in
-    record { room = table-room t y n c ok h R K (l .rows size c short few) (omega (arith, l .children size, half)) (l .small); few = l .few; links = l .links; new = new-few t y n c ok h }
+    record {
+      decode = record {
+        table = record {
+          sheet = rows-sheet t y n c ok h;
+          apart = rw (h .frames) (distinct-frames t n c ok);
+          new = new-few t y n c ok h;
+        };
+        room = table-room t y n c ok h R K (l .rows size c short few) (omega (arith, l .children size, half)) (l .small);
+        half = omega (arith, l .children size, half);
+      };
+      few = l .few;
+      links = l .links;
+    }
 
 -- ---- the table is read
 

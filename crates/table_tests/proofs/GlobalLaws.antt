@@ -11,25 +11,26 @@ use Rattle.hex.specs.Digits.{shortAt}
 use Rattle.kinds.specs.Kinds.{kindAt}
 use Rattle.indexing.specs.Index.{Proper}
 use Rattle.frame_keys.specs.Keys.{find}
+use Rattle.records.specs.Leaders.{leaderIn}
 use Rattle.model.specs.Tabulate.{tabulate}
 use Rattle.model.proofs.TabulateLaws.{tabulate-at, tabulate-length}
 use Rattle.running.specs.Tables.{classFrom, globalIn, tableIn}
 use Rattle.table_tests.specs.Globals.{GlobalsRead}
 
 -- no frame, or the class that it gives
-pub class-none : (l : List ℕ) → length l ≡ 0 → 0xffff ≡ classFrom l
-class-none [] h = refl
-class-none (b ∷ l) h = absurd (omega arith)
+pub class-none : (fs : List (List ℕ)) (l : List ℕ) → length l ≡ 0 → 0xffff ≡ classFrom fs l
+class-none fs [] h = refl
+class-none fs (b ∷ l) h = absurd (omega arith)
 
-pub class-read : (l : List ℕ) (r : ℕ) → (length l ≡ 0 → ⊥) → r ≡ shortAt l 2 → r ≡ classFrom l
-class-read [] r h e = absurd (h refl)
-class-read (b ∷ l) r h e = e
+pub class-read : (fs : List (List ℕ)) (l : List ℕ) (c r : ℕ) → (length l ≡ 0 → ⊥) → c ≡ shortAt l 2 → r ≡ leaderIn fs c → r ≡ classFrom fs l
+class-read fs [] c r h e q = absurd (h refl)
+class-read fs (b ∷ l) c r h e q = rw e at q
 
 pub global-proper : (g : ℕ) → Proper (0x32 ∷ g ∷ [])
 unfolding kindAt
 global-proper g = record { keyed = omega arith; whole = omega arith }
 
-pub class-found : (l : List ℕ) (fs : List (List ℕ)) (g r : ℕ) → l ≡ find (0x32 ∷ g ∷ []) fs → r ≡ classFrom l → r ≡ globalIn fs g
+pub class-found : (l : List ℕ) (fs : List (List ℕ)) (g r : ℕ) → l ≡ find (0x32 ∷ g ∷ []) fs → r ≡ classFrom fs l → r ≡ globalIn fs g
 class-found l fs g r p q = rw p at q
 
 -- the first g globals have their classes

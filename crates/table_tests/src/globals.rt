@@ -1,4 +1,4 @@
-// The classes of the globals, by the frames 32 of the table's sheet.
+// The classes of the globals, by the frames 32 of the table's sheet, and by their leaders.
 ghost use mathlib.Core.Path.{_≡_};
 ghost use lib.ListN.{length};
 ghost use Rattle.frames.specs.Sheet.{framesIn};
@@ -8,18 +8,20 @@ ghost use Rattle.table_tests.specs.Globals.{GlobalsRead};
 use hex::short_at;
 use indexing::index::find_by;
 use indexing::index::is_absent;
+use leaders::leader::leader;
 
 // No class has this number.
 const UNSET: u16 = 0xffff;
 
-// The class of a frame 32; unset where there is no frame.
-fn class_from(frame: &[u8]) -> u16
-    ensures { λ r. ⌜ r ≡ classFrom (now (frame .entry)) ⌝ }
+// The class of a frame 32, by its leader; unset where there is no frame.
+fn class_from(sheet: &[u8], index: &[u16], frame: &[u8]) -> u16
+    requires { ⌜ Indexed (now sheet) (now index) ⌝ }
+    ensures { λ r. ⌜ r ≡ classFrom (framesIn (now (sheet .entry))) (now (frame .entry)) ⌝ }
 {
     if frame.len() == 0 {
         return UNSET;
     }
-    short_at(frame, 2)
+    leader(sheet, index, short_at(frame, 2))
 }
 
 fn global_class(sheet: &[u8], index: &[u16], g: u8) -> u16
@@ -30,7 +32,7 @@ fn global_class(sheet: &[u8], index: &[u16], g: u8) -> u16
     if is_absent(index, &key) {
         return UNSET;
     }
-    class_from(find_by(sheet, index, &key))
+    class_from(sheet, index, find_by(sheet, index, &key))
 }
 
 // The class of each global, by the index of the table's sheet.

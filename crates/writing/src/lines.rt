@@ -4,9 +4,9 @@ ghost use mathlib.Core.List.{[], _∷_};
 ghost use Prim.Native.Nat.{_<_};
 ghost use Rattle.plans.specs.StepFrames.{headerOf};
 ghost use Rattle.output.specs.Written.{PutsFrames};
-use output::bytes::high_of;
-use output::bytes::low_of;
 use output::parts::put_line;
+use records::shorts::high_of;
+use records::shorts::low_of;
 
 // 3f variables globals literals steps(2) tallied(2) rejected(2)
 fn header_bytes(

@@ -1,4 +1,5 @@
-//! The sampler over a table, by the formulas of Note 3. Nodes are row numbers; a bucket holds rows of all operators, each once, in order.
+//! The sampler over a table, by the formulas of Note 3, and by leaders (Note 5). Nodes are numbers of the rows that stand; a bucket holds rows of all
+//! operators, each once, in order.
 use crate::index::FastMap;
 use crate::schedule::{CrossSampler, KeySite, ProbePath};
 use crate::table::{Row, Table};
@@ -6,24 +7,31 @@ use crate::table::{Row, Table};
 /// A longer bucket is read at so many places.
 const PROBE_SCAN_CAP: usize = 256;
 
-/// The buckets are made once, from the table's rows.
-pub struct IndexSampler<'a> {
-    rows: &'a [Row],
+/// The buckets are made once, from the rows that stand.
+pub struct IndexSampler {
+    rows: Vec<Row>,
     by_op: FastMap<u8, Vec<usize>>,
     by_child_pos: FastMap<(u16, usize), Vec<usize>>,
     by_contains: FastMap<u16, Vec<usize>>,
 }
 
-impl<'a> IndexSampler<'a> {
-    pub fn new(table: &'a Table) -> Self {
+impl IndexSampler {
+    pub fn new(table: &Table) -> Self {
         let mut sampler = IndexSampler {
-            rows: &table.rows,
+            rows: Vec::new(),
             by_op: FastMap::default(),
             by_child_pos: FastMap::default(),
             by_contains: FastMap::default(),
         };
-        table.rows.iter().enumerate().for_each(|(node, row)| sampler.file(node, row));
+        let rows = table.standing();
+        rows.iter().enumerate().for_each(|(node, row)| sampler.file(node, row));
+        sampler.rows = rows;
         sampler
+    }
+
+    /// The rows that stand.
+    pub fn rows(&self) -> &[Row] {
+        &self.rows
     }
 
     fn file(&mut self, node: usize, row: &Row) {
@@ -65,7 +73,7 @@ fn evenly(nodes: &[usize], take: usize) -> impl Iterator<Item = usize> {
     (0..take).map(move |j| nodes[j * nodes.len() / take])
 }
 
-impl CrossSampler<u8> for IndexSampler<'_> {
+impl CrossSampler<u8> for IndexSampler {
     fn driver_sample(&self, _atom: usize, op: u8, k: usize, out: &mut Vec<usize>) {
         out.clear();
         if let Some(nodes) = self.by_op.get(&op) {

@@ -1,7 +1,7 @@
 //! A table as the document's frames give it, and its text.
 use crate::parse::{Fields, each_frame};
 use crate::query::{count, join, line, words};
-use std::collections::BTreeMap;
+use std::collections::{BTreeMap, HashSet};
 
 #[derive(Clone, Debug, PartialEq, Eq, Hash)]
 pub enum Row {
@@ -19,6 +19,8 @@ pub struct Table {
     pub globals: BTreeMap<u8, u16>,
     /// Frame 33: the rows from this number on are new.
     pub new_rows: Option<u16>,
+    /// Frame 34: the leader of a class.
+    pub leaders: BTreeMap<u16, u16>,
 }
 
 impl Row {
@@ -42,6 +44,22 @@ impl Row {
         }
     }
 
+    /// The row with other classes.
+    fn mapped(&self, to: impl Fn(u16) -> u16) -> Row {
+        match self {
+            Row::Node { class, op, children } => Row::Node {
+                class: to(*class),
+                op: *op,
+                children: children.iter().map(|class| to(*class)).collect(),
+            },
+            Row::Literal { class, op, value } => Row::Literal {
+                class: to(*class),
+                op: *op,
+                value: *value,
+            },
+        }
+    }
+
     pub(crate) fn frame(&self) -> Vec<u8> {
         match self {
             Row::Node { class, op, children } => join(&[&[0x30], &class.to_be_bytes(), &[*op, count(children)], &words(children)]),
@@ -58,20 +76,32 @@ impl Table {
         Some(table)
     }
 
-    /// The table's text: rows, globals, the first new row.
+    /// The rows that stand, by leaders: of those that are equal the first.
+    pub fn standing(&self) -> Vec<Row> {
+        let leader = |class| self.leaders.get(&class).copied().unwrap_or(class);
+        let mut seen = HashSet::new();
+        let led = self.rows.iter().map(|row| row.mapped(leader));
+        led.filter(|row| seen.insert(row.clone())).collect()
+    }
+
+    /// The table's text: rows, globals, the first new row, leaders.
     pub fn to_text(&self) -> String {
         let rows = self.rows.iter().map(Row::frame);
         rows.chain(self.other_frames()).map(|frame| line(&frame)).collect()
     }
 
-    /// Frames 32 and 33.
+    /// Frames 32 to 34.
     pub(crate) fn other_frames(&self) -> Vec<Vec<u8>> {
         let globals = self
             .globals
             .iter()
             .map(|(global, class)| join(&[&[0x32, *global], &class.to_be_bytes()]));
         let new_rows = self.new_rows.map(|row| join(&[&[0x33], &row.to_be_bytes()]));
-        globals.chain(new_rows).collect()
+        let leaders = self
+            .leaders
+            .iter()
+            .map(|(class, leader)| join(&[&[0x34], &class.to_be_bytes(), &leader.to_be_bytes()]));
+        globals.chain(new_rows).chain(leaders).collect()
     }
 }
 
@@ -87,6 +117,7 @@ fn frame(table: &mut Table, kind: u8, f: &mut Fields) -> Option<()> {
         }
         0x32 => drop(table.globals.insert(f.byte()?, f.word()?)),
         0x33 => table.new_rows = Some(f.word()?),
+        0x34 => drop(table.leaders.insert(f.word()?, f.word()?)),
         _ => return None,
     }
     Some(())

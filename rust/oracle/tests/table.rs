@@ -1,4 +1,4 @@
-//! The words of Note 3, tried on the sampler over a table and on plans with frame 24.
+//! The words of Notes 3 and 5, tried on the sampler over a table and on plans with frame 24.
 use oracle::schedule::{CrossSampler, KeySite, ProbePath};
 use oracle::{IndexSampler, Row, Table, costs, parse, plan_text, to_text};
 
@@ -182,4 +182,17 @@ fn tables_that_give_nothing() {
     let without = SHARED.replace("24\n", "");
     assert_eq!(plan_text(without.as_bytes(), Some(b"99\n")).as_deref(), Some(says));
     assert_eq!(plan_text(SHARED.as_bytes(), None), None);
+}
+
+/// Note 5: rows equal by leaders stand once, and are sampled by leaders.
+#[test]
+fn rows_stand_by_leaders() {
+    let text = "30000101010005\n30000201010006\n3100030200000007\n3100040200000007\n30000101010007\n3400020001\n3400060005\n3400040003\n";
+    let table = Table::parse(text.as_bytes()).expect("a table");
+    assert_eq!(Table::parse(table.to_text().as_bytes()).as_ref(), Some(&table));
+    let literal = Row::Literal { class: 3, op: 2, value: 7 };
+    assert_eq!(table.standing(), [node(1, 1, &[5]), literal, node(1, 1, &[7])]);
+    let sampler = IndexSampler::new(&table);
+    assert_eq!(sampler.probe_len(5, ProbePath::Contains, 1), 1);
+    assert_eq!(sampler.probe_len(6, ProbePath::Contains, 1), 0);
 }

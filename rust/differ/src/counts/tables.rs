@@ -15,6 +15,8 @@ impl Counts {
         });
         self.one_if(text.len() == LONGEST, "  of 65,536 bytes in all");
         self.one_if(!query.from_table, "  that nothing asks for");
+        self.one_if(!table.leaders.is_empty(), "  with frames 34");
+        *self.at("rows passed over") += (table.rows.len() - table.standing().len()) as u64;
         *self.at("bytes of table texts") += text.len() as u64;
         self.rows(query, table);
         if query.from_table {
@@ -50,7 +52,7 @@ impl Counts {
         let (mut short, mut long) = (false, false);
         for probe in &run.asked.probes {
             let bucket = sampler.bucket(probe.class, probe.path);
-            self.bucket(table, probe, bucket);
+            self.bucket(sampler.rows(), probe, bucket);
             short |= bucket.len() <= 256;
             long |= bucket.len() > 256;
         }
@@ -58,7 +60,7 @@ impl Counts {
         self.one_if(long, "  that probe a bucket of more than 256 rows");
     }
 
-    fn bucket(&mut self, table: &Table, probe: &Probe, bucket: &[usize]) {
+    fn bucket(&mut self, rows: &[Row], probe: &Probe, bucket: &[usize]) {
         self.one(match probe.path {
             ProbePath::ChildPos(_) => "buckets probed by position",
             ProbePath::Contains => "buckets probed by containing",
@@ -72,7 +74,7 @@ impl Counts {
             1_000 => "  of 1,000 rows",
             _ => "  of other numbers above 256",
         });
-        let counted = bucket.iter().filter(|row| table.rows[**row].op() == probe.op).count();
+        let counted = bucket.iter().filter(|row| rows[**row].op() == probe.op).count();
         self.one_if(probe.length > 0, "  whose told length is above 0");
         self.one_if(probe.length != counted, "  whose told length is not the count");
     }

@@ -4,16 +4,18 @@ use super::texts::{LONGEST, table_size};
 use crate::query::Query;
 use crate::random::Random;
 use crate::table::{Row, Table};
-use std::collections::HashSet;
+use std::collections::{BTreeMap, HashSet};
 use std::iter::{repeat, repeat_n};
 
 /// The most rows, and the most children of a row.
 pub const ROWS: usize = 1_024;
 const CHILDREN: usize = 16;
-/// Bytes: of a row's line without its children, of a child, and of all frames 32 and 33 that there can be.
+/// The most frames 34.
+const LEADERS: usize = 24;
+/// Bytes: of a row's line without its children, of a child, and of all frames 32 to 34 that there can be.
 const ROW: usize = 11;
 const CHILD: usize = 4;
-const OTHERS: usize = 16 * 9 + 7;
+const OTHERS: usize = 16 * 9 + 7 + LEADERS * 11;
 
 /// From what rows are made.
 struct Making {
@@ -255,13 +257,32 @@ fn ordered(r: &mut Random, mut rows: Vec<Row>) -> Vec<Row> {
     rows
 }
 
-/// With frames 32 and 33, which no sample depends on.
+/// With frames 32 and 33, which no sample depends on, and some with frames 34.
 fn with_others(r: &mut Random, rows: Vec<Row>) -> Table {
     let globals = r.pick(&[0, 0, 1, 16]);
     let new_rows = r.chance(30).then(|| r.between(0, rows.len()) as u16);
     Table {
         globals: (0..globals).map(|global| (global, any_class(r))).collect(),
         new_rows,
+        leaders: leaders(r, &rows),
         rows,
     }
+}
+
+/// Leaders for some of the classes in the rows, mostly classes in the rows too; no leader has one.
+fn leaders(r: &mut Random, rows: &[Row]) -> BTreeMap<u16, u16> {
+    let mut classes: Vec<u16> = rows.iter().flat_map(|row| row.children().iter().copied().chain([row.class()])).collect();
+    classes.sort_unstable();
+    classes.dedup();
+    r.shuffle(&mut classes);
+    let most = r.pick(&[0, 0, 1, 3, 8, LEADERS]).min(classes.len() / 2);
+    let led = classes.split_off(classes.len() - most);
+    let to: Vec<u16> = classes.into_iter().take(r.between(1, 8)).collect();
+    let outside = |class: &u16| !led.contains(class);
+    led.iter()
+        .map(|class| {
+            let any = any_class(r);
+            (*class, if r.chance(90) || !outside(&any) { r.pick(&to) } else { any })
+        })
+        .collect()
 }

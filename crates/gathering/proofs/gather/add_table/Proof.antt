@@ -1,5 +1,5 @@
 -- `gathering::gather::add_table` meets its contract.
-use Rattle.gathering.proofs.GatherLaws.{table-refused, table-fits, table-cut, rows-room, table-behind}
+use Rattle.gathering.proofs.GatherLaws.{table-refused, table-laid, sampled-cut, rows-room, table-behind}
 use borrow.Author.Needs.{needs}
 use Rattle.gathering.proofs.gather.add_table.Statement.{statement}
 use Rattle.gathering.proofs.gather.add_table.Tie as tie
@@ -25,17 +25,20 @@ enum-known-lines c = search needs
 sheet-size-requires : tie.Need-sheet-size-requires
 sheet-size-requires c κs = search needs
 
-add-end : tie.Need-add-end
-add-end c = search needs
+add-last : tie.Need-add-last
+add-last c = search needs
+
+lay-sampled-requires : tie.Need-lay-sampled-requires
+lay-sampled-requires c κs = table-laid _ _ _ _ _ _ (c .before .before .before .before .before .before .before .before .before .before .before .before .before .before .before .before .before .before .pre) _ _ _ (c .before .before .before .before .before .before .before .before .before .before .read-indexed .ensures) _ _ _ (c .before .before .before .before .lines .given .1) (c .before .before .sheet-size .ensures)
 
 slice-reshare-prefix-index-table : tie.Need-slice-reshare-prefix-index-table
-slice-reshare-prefix-index-table c = table-fits _ _ _ _ _ _ (c .before .before .before .before .before .before .before .before .before .before .before .before .before .before .before .before .pre) _ _ _ (c .before .before .before .before .before .before .before .before .read-indexed .ensures) _ _ _ (c .before .before .lines .given .1) (c .sheet-size .ensures)
+slice-reshare-prefix-index-table c = (c .before .before .lay-sampled .ensures .fits)
 
 slice-aggregate-index-table : tie.Need-slice-aggregate-index-table
-slice-aggregate-index-table c = table-cut _ _ _ _ _ _ (c .before .before .before .before .before .before .before .before .before .before .before .before .before .before .before .before .before .pre) _ _ _ (c .before .before .before .before .before .before .before .before .before .read-indexed .ensures) _ _ _ (c .before .before .before .lines .given .1) (c .before .sheet-size .ensures)
+slice-aggregate-index-table c = sampled-cut _ _ _ _ _ _ (c .before .before .before .before .before .before .before .before .before .before .before .before .before .before .before .before .before .before .before .before .before .before .pre) _ _ _ (c .before .before .before .before .before .before .before .before .before .before .before .before .before .before .read-indexed .ensures) _ _ _ (c .before .before .before .before .before .before .before .before .lines .given .1) (c .before .before .before .before .before .before .sheet-size .ensures) _ _ (c .before .before .before .lay-sampled .ensures)
 
 index-table-requires : tie.Need-index-table-requires
-index-table-requires c κs = rows-room _ _ _ _ _ _ (c .before .before .before .before .before .before .before .before .before .before .before .before .before .before .before .before .before .before .pre) _ _ _ (c .before .before .before .before .before .before .before .before .before .before .read-indexed .ensures) _ _ _ (c .before .before .before .before .lines .given .1) (c .before .before .sheet-size .ensures)
+index-table-requires c κs = rows-room _ _ _ _ _ _ (c .before .before .before .before .before .before .before .before .before .before .before .before .before .before .before .before .before .before .before .before .before .before .before .pre) _ _ _ (c .before .before .before .before .before .before .before .before .before .before .before .before .before .before .before .read-indexed .ensures) _ _ _ (c .before .before .before .before .before .before .before .before .before .lines .given .1) (c .before .before .before .before .before .before .before .sheet-size .ensures) _ _ (c .before .before .before .before .lay-sampled .ensures)
 
 same-length : tie.Need-same-length
 same-length c = search needs
@@ -56,7 +59,7 @@ same-length-5 : tie.Need-same-length-5
 same-length-5 c = search needs
 
 returns-2 : tie.Need-returns-2
-returns-2 c = table-behind _ _ _ _ _ _ (c .before .before .before .before .before .before .before .before .before .before .before .before .before .before .before .before .before .before .before .before .before .pre) _ _ _ (c .before .before .before .before .before .before .before .before .before .before .before .before .before .read-indexed .ensures) _ _ _ (c .before .before .before .before .before .before .before .lines .given .1) (c .before .before .before .before .before .sheet-size .ensures) _ (c .before .before .index-table .ensures)
+returns-2 c = table-behind _ _ _ _ _ _ (c .before .before .before .before .before .before .before .before .before .before .before .before .before .before .before .before .before .before .before .before .before .before .before .before .before .before .pre) _ _ _ (c .before .before .before .before .before .before .before .before .before .before .before .before .before .before .before .before .before .before .read-indexed .ensures) _ _ _ (c .before .before .before .before .before .before .before .before .before .before .before .before .lines .given .1) (c .before .before .before .before .before .before .before .before .before .before .sheet-size .ensures) _ _ (c .before .before .before .before .before .before .before .lay-sampled .ensures) _ (c .before .before .index-table .ensures)
 
 pub add-table-spec : {M : Type 1} → statement M
 add-table-spec =
@@ -69,7 +72,8 @@ add-table-spec =
     enum-known-k
     enum-known-lines
     sheet-size-requires
-    add-end
+    add-last
+    lay-sampled-requires
     slice-reshare-prefix-index-table
     slice-aggregate-index-table
     index-table-requires

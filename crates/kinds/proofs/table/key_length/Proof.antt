@@ -61,7 +61,11 @@ unfolding kindAt kinds
 returns-14 c = rw (c .match .keys14)
 
 returns-15 : tie.Need-returns-15
-returns-15 c = keyless _ (c .match .rest)
+unfolding kindAt kinds
+returns-15 c = rw (c .match .keys15)
+
+returns-16 : tie.Need-returns-16
+returns-16 c = keyless _ (c .match .rest)
 
 pub key-length-spec : {M : Type 1} → statement M
 key-length-spec =
@@ -81,4 +85,5 @@ key-length-spec =
     returns-12
     returns-13
     returns-14
-    returns-15)
+    returns-15
+    returns-16)

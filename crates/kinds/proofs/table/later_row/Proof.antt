@@ -77,7 +77,11 @@ unfolding kindAt kinds
 returns-18 c = rw (c .match .keys18)
 
 returns-19 : tie.Need-returns-19
-returns-19 c = later-other _ (c .before .pre) (c .match .rest)
+unfolding kindAt kinds
+returns-19 c = rw (c .match .keys19)
+
+returns-20 : tie.Need-returns-20
+returns-20 c = later-other _ (c .before .pre) (c .match .rest)
 
 pub later-row-spec : {M : Type 1} → statement M
 later-row-spec =
@@ -101,4 +105,5 @@ later-row-spec =
     returns-16
     returns-17
     returns-18
-    returns-19)
+    returns-19
+    returns-20)

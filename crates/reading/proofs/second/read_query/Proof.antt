@@ -1,5 +1,5 @@
 -- `reading::second::read_query` meets its contract.
-use Rattle.reading.proofs.SecondLaws.{query-refuses, size-within, size-fits, blank-for, query-decides}
+use Rattle.reading.proofs.SecondLaws.{query-refuses, size-within, size-fits, blank-for, lead-for, query-decides}
 use borrow.Author.Needs.{needs}
 use Rattle.reading.proofs.second.read_query.Statement.{statement}
 use Rattle.reading.proofs.second.read_query.Tie as tie
@@ -32,7 +32,7 @@ slice-aggregate-read-again : tie.Need-slice-aggregate-read-again
 slice-aggregate-read-again c = size-fits _ _ _ _ _ (c .before .before .before .before .before .before .before .before .before .first-reading .ensures) _ _ (c .before .before .before .before .before .lines .given .1) _ (c .before .before .before .sheet-size .ensures)
 
 read-again-requires : tie.Need-read-again-requires
-read-again-requires c κs = blank-for _ _ _ _ _ (c .before .before .before .before .before .before .before .before .before .before .first-reading .ensures) _ _ (c .before .before .before .before .before .before .lines .given .1) _ (c .before .before .before .before .sheet-size .ensures) _ (c .before .before .before .before .before .before .before .before .before .before .before .before .before .before .before .pre)
+read-again-requires c κs = (blank-for _ _ _ _ _ (c .before .before .before .before .before .before .before .before .before .before .first-reading .ensures) _ _ (c .before .before .before .before .before .before .lines .given .1) _ (c .before .before .before .before .sheet-size .ensures) _ (c .before .before .before .before .before .before .before .before .before .before .before .before .before .before .before .pre), lead-for _ _ _ _ _ (c .before .before .before .before .before .before .before .before .before .before .first-reading .ensures) _ _ (c .before .before .before .before .before .before .lines .given .1) _ (c .before .before .before .before .sheet-size .ensures))
 
 same-length : tie.Need-same-length
 same-length c = search needs

@@ -1,0 +1,2 @@
+// Sets of classes, a bit for each class.
+pub mod set;

@@ -1,0 +1,2 @@
+// The rows of a table that are passed over.
+pub mod passed;

@@ -1,0 +1,2 @@
+// The frames of a table that samples are taken from.
+pub mod lay;
