@@ -36,7 +36,7 @@ uint8_t rimdovek_estimate_draws(const double *draws, size_t draws_len, size_t k,
 
 /* Plans a query text. Where `handed` holds, a table text stands beside it, from which frame 24 takes the samples; an empty text is a table. Without
    frame 24 it is not looked at. Accepted: bytes written in bits 48 to 62 (no plan is longer than 20,565), steps in 32 to 47, tallied in 16 to 31,
-   rejected in 0 to 15. A refusal is of the query (0) or of the table (2). It takes less than 360,000 bytes of stack, whatever the query. */
+   rejected in 0 to 15. A refusal is of the query (0) or of the table (2). It takes less than 380,000 bytes of stack, whatever the query. */
 uint64_t rimdovek_plan(const uint8_t *query, size_t query_len, bool handed, const uint8_t *table, size_t table_len, uint8_t *out,
                        size_t out_len);
 
@@ -54,8 +54,8 @@ uint64_t rimdovek_round_costs(const uint8_t *query, size_t query_len, bool hande
    tries the rows from the table's frame 33 on, Joins of lower atoms those before it; or RIMDOVEK_NO_ATOM. An atom without a Join is refused (12).
    Classes go by the leaders of the table's frames 34, and are told by them; a row that equals an earlier one so is not tried.
    Accepted: 0 done, 1 spent or 2 full in bits 32 and 33, the bytes written below, modulo 4,294,967,296: lend at most 4,294,967,295 bytes, so that
-   they are told whole. Tries and matches are set; a refusal sets 0. The run takes some 1,700 bytes of stack for a Join and 250,000 besides:
-   360,000 for a plan of the planner, which has at most 64 Joins, and less than 4,600,000 for the longest plan text that is accepted. */
+   they are told whole. Tries and matches are set; a refusal sets 0. The run takes some 1,700 bytes of stack for a Join and 290,000 besides:
+   400,000 for a plan of the planner, which has at most 64 Joins, and less than 4,700,000 for the longest plan text that is accepted. */
 uint64_t rimdovek_run(const uint8_t *plan, size_t plan_len, const uint8_t *table, size_t table_len, uint64_t allowance, uint64_t atom,
                       uint8_t *out, size_t out_len, uint64_t *tries, uint64_t *matches);
 

@@ -7,7 +7,7 @@ use oracle::schedule::{IndexLookup, KeySample, PricedKey, Step};
 use oracle::{Atom, Query, Run};
 
 /// The table's lines, in their order; lines that stay 0 are printed too.
-const LINES: [&str; 108] = [
+const LINES: [&str; 110] = [
     "queries",
     "  without atoms",
     "  of 1 to 8 atoms",

@@ -52,7 +52,7 @@ fn without_rows(case: &Case, place: usize, run: usize) -> Option<Case> {
     Some(case)
 }
 
-/// The query without its part of that number: atoms, the last items of atoms, single frames, entries; and the table's frames 32 and 33.
+/// The query without its part of that number: atoms, the last items of atoms, single frames, entries; and the table's frames 32 and 33, and its leaders.
 fn without(case: &Case, place: usize) -> Option<Case> {
     let mut case = case.clone();
     let query = &mut case.query;
@@ -64,7 +64,8 @@ fn without(case: &Case, place: usize) -> Option<Case> {
         Some(1) => query.by_repr = None,
         Some(2) => query.from_table = false,
         Some(3) => remove_others(case.table.as_mut()),
-        Some(entry) => remove_entry(query, entry - 4)?,
+        Some(4) => remove_leaders(case.table.as_mut()),
+        Some(entry) => remove_entry(query, entry - 5)?,
     }
     Some(case)
 }
@@ -73,6 +74,12 @@ fn remove_others(table: Option<&mut Table>) {
     if let Some(table) = table {
         table.globals.clear();
         table.new_rows = None;
+    }
+}
+
+fn remove_leaders(table: Option<&mut Table>) {
+    if let Some(table) = table {
+        table.leaders.clear();
     }
 }
 

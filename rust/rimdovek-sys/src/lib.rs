@@ -221,10 +221,10 @@ pub struct Ran {
     pub matches: u64,
 }
 
-/// A run takes some 1,700 bytes of stack a Join and 250,000 besides: a plan up to this long stays below 1.7 MB.
+/// A run takes some 1,700 bytes of stack a Join and 290,000 besides: a plan up to this long stays below 1.7 MB.
 const SHORT_PLAN: usize = 20 << 10;
 
-/// Enough for the longest plan text that is accepted, which takes less than 4.6 MB.
+/// Enough for the longest plan text that is accepted, which takes less than 4.7 MB.
 const STACK: usize = 8 << 20;
 
 /// A call that runs a plan: on a thread of its own where the plan is long.
