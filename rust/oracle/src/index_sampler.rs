@@ -3,29 +3,29 @@
 use crate::index::FastMap;
 use crate::schedule::{CrossSampler, KeySite, ProbePath};
 use crate::table::{Row, Table};
+use std::borrow::Cow;
 
 /// A longer bucket is read at so many places.
 const PROBE_SCAN_CAP: usize = 256;
 
 /// The buckets are made once, from the rows that stand.
-pub struct IndexSampler {
-    rows: Vec<Row>,
+pub struct IndexSampler<'a> {
+    rows: Cow<'a, [Row]>,
     by_op: FastMap<u8, Vec<usize>>,
     by_child_pos: FastMap<(u16, usize), Vec<usize>>,
     by_contains: FastMap<u16, Vec<usize>>,
 }
 
-impl IndexSampler {
-    pub fn new(table: &Table) -> Self {
+impl<'a> IndexSampler<'a> {
+    pub fn new(table: &'a Table) -> Self {
+        let rows = table.standing();
         let mut sampler = IndexSampler {
-            rows: Vec::new(),
+            rows: rows.clone(),
             by_op: FastMap::default(),
             by_child_pos: FastMap::default(),
             by_contains: FastMap::default(),
         };
-        let rows = table.standing();
         rows.iter().enumerate().for_each(|(node, row)| sampler.file(node, row));
-        sampler.rows = rows;
         sampler
     }
 
@@ -73,7 +73,7 @@ fn evenly(nodes: &[usize], take: usize) -> impl Iterator<Item = usize> {
     (0..take).map(move |j| nodes[j * nodes.len() / take])
 }
 
-impl CrossSampler<u8> for IndexSampler {
+impl CrossSampler<u8> for IndexSampler<'_> {
     fn driver_sample(&self, _atom: usize, op: u8, k: usize, out: &mut Vec<usize>) {
         out.clear();
         if let Some(nodes) = self.by_op.get(&op) {

@@ -90,7 +90,7 @@ impl<'a> Prepared<'a> {
     }
 }
 
-fn sampler(query: &Query, table: Option<&Table>) -> Box<dyn CrossSampler<u8>> {
+fn sampler<'a>(query: &Query, table: Option<&'a Table>) -> Box<dyn CrossSampler<u8> + 'a> {
     if query.from_table {
         return Box::new(IndexSampler::new(table.expect("a table for frame 24")));
     }

@@ -1,6 +1,7 @@
 //! A table as the document's frames give it, and its text.
 use crate::parse::{Fields, each_frame};
 use crate::query::{count, join, line, words};
+use std::borrow::Cow;
 use std::collections::{BTreeMap, HashSet};
 
 #[derive(Clone, Debug, PartialEq, Eq, Hash)]
@@ -76,12 +77,15 @@ impl Table {
         Some(table)
     }
 
-    /// The rows that stand, by leaders: of those that are equal the first.
-    pub fn standing(&self) -> Vec<Row> {
+    /// The rows that stand, by leaders: of those that are equal the first. Without frames 34 all of them.
+    pub fn standing(&self) -> Cow<'_, [Row]> {
+        if self.leaders.is_empty() {
+            return Cow::Borrowed(&self.rows);
+        }
         let leader = |class| self.leaders.get(&class).copied().unwrap_or(class);
         let mut seen = HashSet::new();
         let led = self.rows.iter().map(|row| row.mapped(leader));
-        led.filter(|row| seen.insert(row.clone())).collect()
+        led.filter(|row| seen.insert(row.clone())).collect::<Vec<Row>>().into()
     }
 
     /// The table's text: rows, globals, the first new row, leaders.

@@ -191,7 +191,7 @@ fn rows_stand_by_leaders() {
     let table = Table::parse(text.as_bytes()).expect("a table");
     assert_eq!(Table::parse(table.to_text().as_bytes()).as_ref(), Some(&table));
     let literal = Row::Literal { class: 3, op: 2, value: 7 };
-    assert_eq!(table.standing(), [node(1, 1, &[5]), literal, node(1, 1, &[7])]);
+    assert_eq!(*table.standing(), [node(1, 1, &[5]), literal, node(1, 1, &[7])]);
     let sampler = IndexSampler::new(&table);
     assert_eq!(sampler.probe_len(5, ProbePath::Contains, 1), 1);
     assert_eq!(sampler.probe_len(6, ProbePath::Contains, 1), 0);

@@ -271,7 +271,10 @@ fn with_others(r: &mut Random, rows: Vec<Row>) -> Table {
 
 /// Leaders for some of the classes in the rows, mostly classes in the rows too; no leader has one.
 fn leaders(r: &mut Random, rows: &[Row]) -> BTreeMap<u16, u16> {
-    let mut classes: Vec<u16> = rows.iter().flat_map(|row| row.children().iter().copied().chain([row.class()])).collect();
+    let mut classes: Vec<u16> = rows
+        .iter()
+        .flat_map(|row| row.children().iter().copied().chain([row.class()]))
+        .collect();
     classes.sort_unstable();
     classes.dedup();
     r.shuffle(&mut classes);
