@@ -1,4 +1,6 @@
 // The lines that tell an answer: a refused query, refused texts, the end of a run.
+#![tactic(auto)]
+
 ghost use Rattle.std.specs.Prelude.{◌≡◌, ◌+◌, ◌*◌, ◌/◌, ◌%◌, length};
 ghost use Rattle.hexadecimal.specs.Digits.{hex_digit};
 ghost use Rattle.answer_lines.specs.Lines.{line_of, refusal_line, run_refusal_line, end_line};

@@ -1,4 +1,6 @@
 // An argument of a program that is a number in decimal.
+#![tactic(auto)]
+
 ghost use Rattle.std.specs.Prelude.{◌≡◌, true, ◌+◌, ◌-◌, ◌*◌};
 ghost use Rattle.arguments.specs.Decimal.{fits as fits_of, decimal_of};
 

@@ -1,4 +1,6 @@
 // The numbers of the C functions: doubles go in and come out as their bits.
+#![tactic(auto)]
+
 ghost use Rattle.std.specs.Prelude.{◌≡◌};
 ghost use Rattle.splitmix.specs.SplitMix.{next_state, draw_at};
 ghost use Rattle.bit_patterns.specs.Answers.{fan_out, selectivity_bits, settings, told, estimate_answer, status_of, mean_left};

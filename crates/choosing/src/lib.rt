@@ -1,2 +1,4 @@
 // The choice of a round: the cheapest of the atoms that are left.
+#![tactic(auto)]
+
 pub mod choose;

@@ -1,2 +1,4 @@
 // Sets of classes, a bit for each class.
+#![tactic(auto)]
+
 pub mod set;

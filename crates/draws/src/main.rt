@@ -1,4 +1,6 @@
 // Writes the next five draws of each state on standard input, a line of 16 digits each, and stops at the first other line.
+#![tactic(auto)]
+
 ghost use Rattle.std.specs.Prelude.{◌≤◌, length};
 
 use number_lines::{LINE_SIZE, LINES_MOST, numbers};

@@ -1,3 +1,5 @@
 // The runner's two entries: plan text, table text and allowance in; the run with its lent output, or some match.
+#![tactic(auto)]
+
 pub mod run;
 pub mod some;

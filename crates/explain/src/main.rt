@@ -3,6 +3,7 @@
 // said how many rows it has and which of them are passed over. A refused text is explained by its number and line. The argument, a decimal number
 // below 2^64, is an atom: each Join then says which rows it tries in a run that names that atom as its new one, and a last line says where no Join
 // is of that atom. Any other arguments get a line of usage.
+#![tactic(auto)]
 
 mod accepted;
 mod costs;

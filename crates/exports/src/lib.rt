@@ -1,5 +1,7 @@
 // The C functions of the static library: the planner, the runner and their numbers, for programs outside the prover. None asks anything of
 // its caller. A double travels as its bits, but for the draws, an array of doubles.
+#![tactic(auto)]
+
 ghost use Rattle.std.specs.Prelude.{◌≡◌};
 ghost use Rattle.splitmix.specs.SplitMix.{next_state, draw_at};
 ghost use Rattle.sqrt.specs.Sqrt.{sqrt as sqrt_of};

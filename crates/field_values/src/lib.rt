@@ -1,2 +1,4 @@
 // The bytes of a field together: those that are not used are 00; and the bits of a real that is finite and not below 0.
+#![tactic(auto)]
+
 pub mod values;

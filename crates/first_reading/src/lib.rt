@@ -1,2 +1,4 @@
 // The first reading of a text, which lays its frames on a sheet.
+#![tactic(auto)]
+
 pub mod first;

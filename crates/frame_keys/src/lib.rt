@@ -1,2 +1,4 @@
 // The keys of frames: whether a frame begins with the key of another.
+#![tactic(auto)]
+
 pub mod keys;

@@ -1,4 +1,6 @@
 // Hexadecimal digits, and the fields of two, four and eight bytes of a raw frame, or of a line of digits.
+#![tactic(auto)]
+
 ghost use Rattle.std.specs.Prelude.{◌≡◌, ◌+◌, ◌*◌, ◌-◌, ◌%◌, ◌<◌, ◌≤◌, get_or};
 ghost use Rattle.hexadecimal.specs.Digits.{digit_value, hex_digit, short_at, word_at, long_at};
 

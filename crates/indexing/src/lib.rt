@@ -1,2 +1,4 @@
 // Frames found by their keys: an index of a sheet.
+#![tactic(auto)]
+
 pub mod index;

@@ -1,2 +1,4 @@
 // The lookups of a Join by the operands that are bound: how many, and their bytes.
+#![tactic(auto)]
+
 pub mod operands;

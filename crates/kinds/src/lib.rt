@@ -1,2 +1,4 @@
 // The table by kind.
+#![tactic(auto)]
+
 pub mod table;

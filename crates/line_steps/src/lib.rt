@@ -1,2 +1,4 @@
 // Where the first reading stands between two lines, and how a line moves it on or ends it.
+#![tactic(auto)]
+
 pub mod stand;

@@ -1,5 +1,7 @@
 // Runs the plan with the most Joins that a text can hold, 2,641, over a table of one row, and prints what the program `run` prints: so deep does
 // the recursion on the steps that remain go, and so much stack does it take.
+#![tactic(auto)]
+
 ghost use Rattle.std.specs.Prelude.{◌≤◌, length};
 
 use entries::run::run;

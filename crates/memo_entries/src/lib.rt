@@ -1,2 +1,4 @@
 // The entries of the memo: the number of a key with whether it gave a value, found again by its key.
+#![tactic(auto)]
+
 pub mod entry;

@@ -50,7 +50,7 @@ lower_vars B k (EqGlobal a g) l e = global_vars B a g (has B a) l refl e
 lower_vars B k (Pred g ds) l e = sym (ap (λ (m : Emitted). m.bound) (some-injective _ _ e))
 lower_vars B k (Variadic n o cs f) l e = sym (ap (λ (m : Emitted). m.bound) (some-injective _ _ e)) ∙ marks_all cs (add B n)
 
-pub plan_vars : {B : Bound} {ss : List Step} {B' : Bound} {at : ℕ → Atom} {ks : List ℕ} → Lowered at B ss B' ks → B' ≡ add_atoms vars_in B (map at ks)
+pub plan_vars : {at : ℕ → Atom} {B : Bound} {ss : List Step} {B' : Bound} {ks : List ℕ} → Lowered at B ss B' ks → B' ≡ add_atoms vars_in B (map at ks)
 unfolding add_atoms
 plan_vars done = refl
 plan_vars {at = at} (more {B} k l {ks} e r) = plan_vars r ∙ ap (λ C. add_atoms vars_in C (map at ks)) (lower_vars B k (at k) l e)
@@ -81,12 +81,12 @@ unfolding runs
 none_more W tb md K σ at v = finds_iff (finds_self σ Ext v) (λ α e. (e, λ k m. absurd (Memᴰ.not-nil m))) (λ α p. p.0)
 
 -- whatever order the costs choose: the run finds the assignments that agree with σ and under which all the atoms hold, and nothing else
-pub whole : (W : Type 0) (tb : Table) (md : Mode) → Proper tb → (W → Distinct tb) → {B B' : Bound} {ss : List Step} {at : ℕ → Atom} {ks : List ℕ} → Lowered at B ss B' ks
+pub whole : (W : Type 0) (tb : Table) (md : Mode) → Proper tb → (W → Distinct tb) → {at : ℕ → Atom} {B B' : Bound} {ss : List Step} {ks : List ℕ} → Lowered at B ss B' ks
     → ((k : ℕ) → Memᴰ k ks → Suits tb (at k)) → (W → (k : ℕ) → Memᴰ k ks → tame_atom (at k) ≡ true) → (L S : Bound) (σ : Env) → Inv (known B L S) σ
     → Finds W (Inv (known B' (add_atoms lits_in L (map at ks)) (add_atoms seqs_in S (map at ks)))) Ext (runs tb md ss σ) (λ α. Ext σ α × HoldAll tb md α at ks)
 unfolding add_atoms
 whole W tb md pr d {at = at} (done {B}) sh t L S σ v = none_more W tb md (known B L S) σ at v
-whole W tb md pr d {B' = B'} {at = at} (more {B} k l {ss} {ks} e r) sh t L S σ v =
+whole W tb md pr d {at = at} {B' = B'} (more {B} k l {ss} {ks} e r) sh t L S σ v =
     one_more W tb md l.steps ss (after (known B L S) (at k) l.bound) (known B' (add_atoms lits_in (add_all L (lits_in (at k))) (map at ks)) (add_atoms seqs_in (add_all S (seqs_in (at k))) (map at ks))) σ at k ks
     (group W tb md pr k (known B L S) σ v d (at k) l e (sh k (Memᴰ.head refl)) (λ w. t w k (Memᴰ.head refl)))
     (λ τ u. whole W tb md pr d r (λ j n. sh j (Memᴰ.tail n)) (λ w j n. t w j (Memᴰ.tail n)) (add_all L (lits_in (at k))) (add_all S (seqs_in (at k))) τ u)

@@ -1,4 +1,6 @@
 // Lines of one number each, for the programs that run vectors: 16 hexadecimal digits and byte 0a.
+#![tactic(auto)]
+
 ghost use Rattle.std.specs.Prelude.{◌≡◌, ◌≤◌, length, take};
 ghost use Rattle.number_lines.specs.Numbers.{number_of, numbers_of};
 

@@ -1,4 +1,6 @@
 // The answers of the C functions as one number each; what C reads out of them stands in specs/Unpacked.antt.
+#![tactic(auto)]
+
 ghost use Rattle.std.specs.Prelude.{◌≡◌};
 ghost use Rattle.packing.specs.Packed.{packed_refusal, packed_counts, packed_written, packed_choice};
 

@@ -1,2 +1,4 @@
 // The rows of a table that are passed over.
+#![tactic(auto)]
+
 pub mod passed;

@@ -1,2 +1,4 @@
 // The atoms of a sheet, and eager passes over them.
+#![tactic(auto)]
+
 pub mod eager;

@@ -1,5 +1,7 @@
 // Plans the query text on standard input, with the table in the file `table` beside it, or none where it is missing: prints the plan, or for a
 // refused query or table the line ff number line(2).
+#![tactic(auto)]
+
 use fitting::fit::PLAN_MOST;
 use gathering::beside::beside_if;
 use planner::entry::plan;

@@ -1,2 +1,4 @@
 // The text of a plan by the order of its atoms: its size, and its lines written.
+#![tactic(auto)]
+
 pub mod text;

@@ -1,4 +1,6 @@
 // What the programs share: room for a text, and answers on standard output.
+#![tactic(auto)]
+
 use answer_lines::{end_line, refusal_line, run_refusal_line};
 use entries::run::{Outcome, status_number};
 use fitting::fit::Planned;

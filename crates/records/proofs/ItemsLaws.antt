@@ -1,6 +1,6 @@
 -- How many items are read, those behind the first, and items as they were laid. Proved by induction over their number.
 use Prim.Native.Nat.{ℕ, zero, suc, ◌+◌, ◌-◌, ◌*◌, ◌<◌, ◌≤◌, min}
-use mathlib.Core.Path.{◌≡◌, refl, sym, ◌∙◌, ap}
+use mathlib.Core.Path.{◌≡◌, refl, sym, ◌∙◌, ap, subst}
 use mathlib.Core.List.{List, [], ◌∷◌, ◌++◌, flat_map, append_assoc, Memᴰ}
 use native.Mathlib.Nat.{add-zero, mul-suc}
 use native.Mathlib.Omega.{arith}
@@ -45,7 +45,8 @@ module _ {X : Type 0} (g : X → List ℕ) (w : ℕ) (wide : (x : X) → length 
   items_read read Q r (x ∷ xs) h p =
       let e : p ++ (g x ++ flat_map g xs) ≡ (p ++ g x) ++ flat_map g xs = sym (append_assoc p (g x) (flat_map g xs)) in
       let l : length p + w ≡ length (p ++ g x) = sym (length-append p (g x) ∙ ap (λ (m : ℕ). length p + m) (wide x)) in
-      rw (r x h.0 p (flat_map g xs), l, e, items_read read Q r xs h.1 (p ++ g x))
+      let rest : items_at read w (p ++ (g x ++ flat_map g xs)) (length (p ++ g x)) (length xs) ≡ xs = subst (λ (f : List ℕ). items_at read w f (length (p ++ g x)) (length xs) ≡ xs) (sym e) (items_read read Q r xs h.1 (p ++ g x)) in
+      rw (r x h.0 p (flat_map g xs), l, rest)
 
 -- the byte at p's end is the first of what follows p
 pub behind : (p r : List ℕ) → get_or (p ++ r) (length p) 0 ≡ get_or r 0 0

@@ -43,7 +43,10 @@ classes_back (suc n) p (a ∷ b ∷ r) h k =
     let l : length p + 2 ≡ length (p ++ a ∷ b ∷ []) = sym (length-append p (a ∷ b ∷ [])) in
     let u : (a * 0x100 + b) / 0x100 ≡ a = omega arith in
     let v : (a * 0x100 + b) % 0x100 ≡ b = omega arith in
-    rw (behind p (a ∷ b ∷ r), get_or-append-add p (a ∷ b ∷ r) 1 0, u, v, l, e, classes_back n (p ++ a ∷ b ∷ []) r (omega arith) (second (ltb b 256) (are_bytes r) q))
+    let past = p ++ a ∷ b ∷ [] in
+    let back = classes_back n past r (omega arith) (second (ltb b 256) (are_bytes r) q) in
+    let rest : flat_map class_bytes (items_at short_at 2 (p ++ a ∷ b ∷ r) (length past) n) ≡ r = subst (λ (f : List ℕ). flat_map class_bytes (items_at short_at 2 f (length past) n) ≡ r) (sym e) back in
+    rw (behind p (a ∷ b ∷ r), get_or-append-add p (a ∷ b ∷ r) 1 0, u, v, l, rest)
 
 node_back : (r : List ℕ) → length (0x30 ∷ r) ≡ frame_length (0x30 ∷ r) → are_bytes r ≡ true → row_frame (row_of (0x30 ∷ r)) ≡ 0x30 ∷ r
 unfolding kind_at kinds row_of

@@ -4,6 +4,8 @@
 // run that names an atom: allowance(8) atom(8), the rest as before; 06 a query with a table beside it: length(4), a query of that length and a
 // table, answered as 03 is. The answer of a run is what the program `run` prints, how many bytes behind the match
 // lines kept their value, and what the second entry answers as one number, with the line of its match.
+#![tactic(auto)]
+
 ghost use Rattle.std.specs.Prelude.{◌≡◌, ◌+◌, ◌≤◌, length, take};
 ghost use Rattle.hexadecimal.specs.Digits.{bytes_of};
 

@@ -1,2 +1,4 @@
 // The costs of a round, for whoever asks how the order came about.
+#![tactic(auto)]
+
 pub mod rounds;

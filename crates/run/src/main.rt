@@ -2,6 +2,8 @@
 // numbers below 2^64: the allowance, 1,000,000 without one, and the atom that the run names as its new one, none without one. Any other arguments
 // get a line of usage. Prints the match lines, then the line 51 0000 status(1) tries(8) matches(4) with status 00 done, 01 spent, 02 full; for
 // refused texts the line ff number line(2) text, text 01 the plan, 02 the table.
+#![tactic(auto)]
+
 use arguments::{Argument, decimal};
 use entries::run::run;
 use modes::mode::DeltaAtom;

@@ -1,2 +1,4 @@
 // The frames of a table that samples are taken from.
+#![tactic(auto)]
+
 pub mod lay;

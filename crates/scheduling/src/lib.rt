@@ -1,2 +1,4 @@
 // The greedy loop: eager rounds, and the cheapest atom behind each.
+#![tactic(auto)]
+
 pub mod schedule;

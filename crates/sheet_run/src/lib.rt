@@ -1,2 +1,4 @@
 // The run of a plan over a table on their sheets: tested, decoded and run.
+#![tactic(auto)]
+
 pub mod sheets;

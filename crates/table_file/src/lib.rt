@@ -1,4 +1,6 @@
 // The file `table` in the folder that a program is started in.
+#![tactic(auto)]
+
 ghost use Rattle.std.specs.Prelude.{◌≤◌, length};
 
 // Whether the file is there, and how many of its bytes were read.

@@ -1,2 +1,4 @@
 // The run of a plan on its sheet over a table text, with the arrays that are lent for the table.
+#![tactic(auto)]
+
 pub mod tables;

@@ -1,2 +1,4 @@
 // The next option of a Join, with the tries counted and the end of them noted.
+#![tactic(auto)]
+
 pub mod option;
