@@ -16,7 +16,7 @@ use recording::record::{record_atom, record_numbers};
 
 // The scheduler's state: the atoms lowered, the variables bound, the atoms that were lowered when emitters were last recorded, the
 // variables' emitters; the atoms lowered in order, and how many they are.
-#[derive(Drop)]
+#[derive(Clone, Copy)]
 pub struct Scheduler {
     pub used: [bool; 64],
     pub bound: [bool; 64],

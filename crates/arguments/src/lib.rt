@@ -4,7 +4,7 @@
 ghost use Rattle.std.specs.Prelude.{◌≡◌, true, ◌+◌, ◌-◌, ◌*◌};
 ghost use Rattle.arguments.specs.Decimal.{fits as fits_of, decimal_of};
 
-#[derive(Drop)]
+#[derive(Clone, Copy)]
 pub enum Argument {
     // a number below 2^64
     Number(u64),

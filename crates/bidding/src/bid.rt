@@ -11,7 +11,7 @@ use item_pricing::items::Costed;
 use lowering::atom::scans;
 
 // The cheapest atom so far, if one was found, its cost, and the tallies behind it.
-#[derive(Drop)]
+#[derive(Clone, Copy)]
 pub struct Best {
     pub found: bool,
     pub who: u8,

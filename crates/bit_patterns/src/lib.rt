@@ -8,7 +8,7 @@ ghost use Rattle.bit_patterns.specs.Answers.{fan_out, selectivity_bits, settings
 use measure::{Estimate, FanOut, SamplerConfig};
 
 // A mean by its bits; a mean that the guard rejects; or no measurement at all.
-#[derive(Drop)]
+#[derive(Clone, Copy)]
 pub enum Answer {
     Mean(u64),
     Unreliable,

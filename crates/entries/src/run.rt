@@ -8,14 +8,14 @@ ghost use Rattle.entries.specs.Outcomes.{status_of, status_by, outcome_result};
 use execution::texts::run_texts;
 use modes::mode::DeltaAtom;
 
-#[derive(Drop)]
+#[derive(Clone, Copy)]
 pub enum Status {
     Done,
     Spent,
     Full,
 }
 
-#[derive(Drop)]
+#[derive(Clone, Copy)]
 pub enum Outcome {
     // number, text (1 plan, 2 table) and line
     Refused(u8, u8, usize),

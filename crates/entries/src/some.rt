@@ -7,7 +7,7 @@ use bindings::env::Env;
 use execution::texts::run_texts;
 use modes::mode::DeltaAtom;
 
-#[derive(Drop)]
+#[derive(Clone, Copy)]
 pub struct Reply {
     // 0 none, 1 spent, 2 a match, whose bindings are `env`; 3 refused, with number, text and line
     pub kind: u8,

@@ -8,7 +8,7 @@ use field_values::values::{ends_fit, lookup_fits, path_fits, real_fits, rest_fit
 use hexadecimal::{byte_at, long_at, short_at};
 
 // The fields of the table by kind, as the definitions have them; the code has each by a number.
-#[derive(Drop)]
+#[derive(Clone, Copy)]
 pub enum Field {
     // that many bytes, whatever they are
     Free(u8),
@@ -71,7 +71,7 @@ const LOOKUP: u8 = 29;
 const ROW: u8 = 30;
 
 // How many variables, globals, literals, atoms and rows there are to name, and whether there is a table to take samples from.
-#[derive(Drop)]
+#[derive(Clone, Copy)]
 pub struct Counts {
     pub variables: u8,
     pub globals: u8,
@@ -242,7 +242,7 @@ pub fn field_real(code: u8, frame: &[u8], i: usize) -> bool
 }
 
 // Which of the tests is made.
-#[derive(Drop)]
+#[derive(Clone, Copy)]
 pub enum Test {
     Limits,
     Range,

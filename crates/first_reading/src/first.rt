@@ -12,7 +12,7 @@ use hex_lines::reader::{decode_next, position, reader_at};
 use line_steps::stand::{Stand, after_line, at_start};
 
 // What a reading finds.
-#[derive(Drop)]
+#[derive(Clone, Copy)]
 pub enum Reading {
     // how many lines there are, and how many of them are atoms or rows
     Accepted(usize, usize),

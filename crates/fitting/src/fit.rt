@@ -10,7 +10,7 @@ use plan_text::text::{plan_size, write_plan};
 use scheduling::schedule::Scheduled;
 use writing::steps::count_steps;
 
-#[derive(Drop)]
+#[derive(Clone, Copy)]
 pub enum Planned {
     // bytes written, steps, tallied, rejected
     Written(usize, usize, usize, usize),

@@ -8,7 +8,7 @@ use hexadecimal::byte_at;
 use kinds::table::{low_byte, row};
 
 // Which of the three texts is read.
-#[derive(Drop)]
+#[derive(Clone, Copy)]
 pub enum Text {
     Query,
     Plan,

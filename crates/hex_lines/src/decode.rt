@@ -5,7 +5,7 @@ ghost use Rattle.hex_lines.specs.Decoding.{Room, Decodes};
 
 use hexadecimal::digit_value;
 
-#[derive(Drop)]
+#[derive(Clone, Copy)]
 pub enum Found {
     At(usize),
     Nothing,

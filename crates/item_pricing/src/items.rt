@@ -18,7 +18,7 @@ use query::statistics::denominator;
 use samples::sampled::{Probe, sampled};
 
 // A cost, and what is remembered behind it.
-#[derive(Drop)]
+#[derive(Clone, Copy)]
 pub struct Costed {
     pub cost: f64,
     pub tallies: Sampling,

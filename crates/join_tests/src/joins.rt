@@ -8,7 +8,7 @@ use super::seen::{Seen, lookups_seen};
 use fields::field::wide;
 
 // A fault's number, or 0; and the operator of a Join's ByOp.
-#[derive(Drop)]
+#[derive(Clone, Copy)]
 pub struct Tested {
     pub fault: u8,
     pub op: u8,

@@ -9,7 +9,7 @@ use fields::field::wide;
 use hexadecimal::byte_at;
 
 // What the lookups ask.
-#[derive(Drop)]
+#[derive(Clone, Copy)]
 pub struct Seen {
     // how many are ByOp, and the operator of the first
     pub ops: usize,

@@ -7,7 +7,7 @@ use hexadecimal::byte_at;
 
 // Where the first reading stands: its places in the text and on the sheet, how many lines are passed and how many of them counted, where it
 // ends, and the test that the last line failed, or 0.
-#[derive(Drop)]
+#[derive(Clone, Copy)]
 pub struct Stand {
     pub at: usize,
     pub to: usize,

@@ -7,7 +7,7 @@ ghost use Rattle.number_lines.specs.Numbers.{number_of, numbers_of};
 use hexadecimal::long_at;
 use hex_lines::decode::{Found, decode_line};
 
-#[derive(Drop)]
+#[derive(Clone, Copy)]
 pub enum Line {
     Number(u64),
     Other,

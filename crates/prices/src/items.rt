@@ -9,7 +9,7 @@ use hexadecimal::byte_at;
 use kinds::table::{fixed_length, item_width};
 
 // The items of a frame: the byte of the first, the width and number of all, the atom's operator, and whether they are elements.
-#[derive(Drop)]
+#[derive(Clone, Copy)]
 pub struct Items {
     pub first: usize,
     pub width: usize,
@@ -19,7 +19,7 @@ pub struct Items {
 }
 
 // An item: its byte and its position, the atom's operator, whether it is an element, and whether it is bound.
-#[derive(Drop)]
+#[derive(Clone, Copy)]
 pub struct Item {
     pub at: usize,
     pub position: u8,

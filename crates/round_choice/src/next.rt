@@ -13,7 +13,7 @@ use choosing::choose::cheapest;
 use cost::memo::Sampling;
 
 // The state behind an eager round, and the cheapest of the atoms left.
-#[derive(Drop)]
+#[derive(Clone, Copy)]
 pub struct Round {
     pub state: Scheduler,
     pub best: Best,

@@ -27,7 +27,7 @@ use reading::second::{
     SHORT_TEXT, TINY_INDEX, TINY_SHEET, TINY_TEXT, read_query,
 };
 
-#[derive(Drop)]
+#[derive(Clone, Copy)]
 pub enum RoundCosts {
     // the atom chosen
     Chosen(u8),

@@ -9,7 +9,7 @@ use fields::field::{wide, wide_short};
 use hexadecimal::{byte_at, short_at};
 
 // What is asked of a row, by its path: an operator, a class at a place among the children, or a class anywhere among them.
-#[derive(Drop)]
+#[derive(Clone, Copy)]
 pub struct Want {
     pub path: u8,
     pub place: u8,

@@ -15,7 +15,7 @@ use measure::{FanOut, SamplerConfig};
 use memo_entries::entry::{entry_of, fan_at, fan_value, measured_fan, place_of};
 
 // A sampled fan-out, where there is one, and what is remembered behind it.
-#[derive(Drop)]
+#[derive(Clone, Copy)]
 pub struct Sample {
     pub fan: FanOut,
     pub tallies: Sampling,

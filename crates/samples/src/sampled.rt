@@ -18,7 +18,7 @@ use measure::FanOut;
 use query::statistics::Sampled;
 
 // A probe of a candidate atom: its operator, and the path and place of the key.
-#[derive(Drop)]
+#[derive(Clone, Copy)]
 pub struct Probe {
     pub op: u8,
     pub path: u8,

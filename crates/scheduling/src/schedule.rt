@@ -16,7 +16,7 @@ use query::statistics::Sampled;
 use round_choice::next::choose_next;
 
 // The atoms lowered in order, how many they are, the tallies, and the atom chosen in the last round, if one was found.
-#[derive(Drop)]
+#[derive(Clone, Copy)]
 pub struct Scheduled {
     pub order: [u8; 64],
     pub count: usize,

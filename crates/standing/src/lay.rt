@@ -9,7 +9,7 @@ use hexadecimal::byte_at;
 use indexing::index::{MANY_SLOTS, hash_of, key_given, note};
 
 // How many bytes are laid, and how many of the rows are old.
-#[derive(Drop)]
+#[derive(Clone, Copy)]
 pub struct Stood {
     pub bytes: usize,
     pub old: usize,

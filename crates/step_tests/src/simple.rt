@@ -9,7 +9,7 @@ use hexadecimal::byte_at;
 use join_tests::arrays::is_bound;
 
 // A step other than a Join, as far as the tests ask. The last field of some says whether the variable before it must be bound or unbound.
-#[derive(Drop)]
+#[derive(Clone, Copy)]
 pub enum Simple {
     // 41 and 42 with a local: parent, position, variable
     Child(u8, u8, u8, bool),

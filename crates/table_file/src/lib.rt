@@ -4,7 +4,7 @@
 ghost use Rattle.std.specs.Prelude.{◌≤◌, length};
 
 // Whether the file is there, and how many of its bytes were read.
-#[derive(Drop)]
+#[derive(Clone, Copy)]
 pub struct TableFile {
     pub found: bool,
     pub size: usize,

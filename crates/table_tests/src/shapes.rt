@@ -10,7 +10,7 @@ use frames::frame::frame_at;
 use hexadecimal::byte_at;
 
 // What the tests find.
-#[derive(Drop)]
+#[derive(Clone, Copy)]
 pub enum Verdict {
     Passed,
     // number, text and line

@@ -1,0 +1,6 @@
+-- `class_sets::set::add_class` meets its contract.
+use Rattle.class_sets.proofs.SetLaws.{class_added}
+use Rattle.class_sets.proofs.set.add_class.Goals as goal
+
+pub returns : goal.returns
+returns c = class_added _ _ _ c.wide_short-c.ensures.0 _ c.with_bit.ensures
