@@ -4,6 +4,8 @@
 ghost use Rattle.std.specs.Prelude.{◌≡◌, true, ◌+◌, ◌-◌, ◌*◌};
 ghost use Rattle.arguments.specs.Decimal.{fits as fits_of, decimal_of};
 
+pub mod words;
+
 #[derive(Clone, Copy)]
 pub enum Argument {
     // a number below 2^64

@@ -16,7 +16,8 @@ mod table;
 mod words;
 
 use accepted::explain_plan;
-use arguments::{Argument, decimal};
+use arguments::Argument;
+use arguments::words::{number_at, word_count};
 use hexadecimal::line::byte_at;
 use hex_lines::reader::line_from;
 use modes::mode::DeltaAtom;
@@ -32,9 +33,9 @@ fn explain_with(text: &[u8], found: bool, table: &[u8], n: usize, named: DeltaAt
     }
 }
 
-fn explain_beside(text: &[u8], named: DeltaAtom) {
+fn explain_beside(rt: &HostRuntime, text: &[u8], named: DeltaAtom) {
     let mut table = [0u8; TEXT_ROOM];
-    let file = read_table(&mut table);
+    let file = read_table(rt, &mut table);
     explain_with(text, file.found, &table, file.size, named);
 }
 
@@ -44,7 +45,7 @@ fn is_of_table(kind: u8) -> bool {
 }
 
 // A text is taken for a plan or for a table by its first byte.
-fn explain(text: &[u8], named: DeltaAtom) {
+fn explain(rt: &HostRuntime, text: &[u8], named: DeltaAtom) {
     let kind = byte_at(line_from(text, 0), 0);
     if kind == 0x3f {
         explain_plan(text, named);
@@ -54,33 +55,31 @@ fn explain(text: &[u8], named: DeltaAtom) {
         explain_table(text);
         return;
     }
-    explain_beside(text, named);
+    explain_beside(rt, text, named);
 }
 
-fn explain_input(named: DeltaAtom) {
+fn explain_input(rt: &HostRuntime, named: DeltaAtom) {
     let mut text = [0u8; TEXT_ROOM];
     let n = io::read_full(0, &mut text);
-    explain(&text[..n], named);
+    explain(rt, &text[..n], named);
 }
 
 // The atom that `count` words give, the program's name being the first.
-fn atom(count: usize) -> Argument {
+fn atom(rt: &HostRuntime, count: usize) -> Argument {
     if 2 < count {
         return Argument::Other;
     }
-    let mut word = io::buffer();
-    let n = os::arg(1, &mut word);
-    decimal(&word[..n])
+    number_at(rt, 1)
 }
 
-fn main() {
-    let count = os::arg_count();
+fn main(rt: HostRuntime) {
+    let count = word_count(&rt);
     if count < 2 {
-        explain_input(DeltaAtom::None);
+        explain_input(&rt, DeltaAtom::None);
         return;
     }
-    match atom(count) {
-        Argument::Number(a) => explain_input(DeltaAtom::Atom(a)),
+    match atom(&rt, count) {
+        Argument::Number(a) => explain_input(&rt, DeltaAtom::Atom(a)),
         Argument::Other => say(b"usage: explain [ATOM] < TEXT, ATOM in decimal, below 2^64\n"),
     }
 }

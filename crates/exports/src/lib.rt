@@ -13,32 +13,28 @@ pub mod runs;
 pub mod some;
 
 // The square root, from bit pattern to bit pattern.
-#[unsafe(no_mangle)]
-pub extern "C" fn rimdovek_sqrt(bits: u64) -> u64
+pub fn rimdovek_sqrt(bits: u64) -> u64
     ensures { result ≡ sqrt_of bits }
 {
     sqrt::sqrt(bits)
 }
 
 // The generator's state after `state`.
-#[unsafe(no_mangle)]
-pub extern "C" fn rimdovek_splitmix64_state(state: u64) -> u64
+pub fn rimdovek_splitmix64_state(state: u64) -> u64
     ensures { result ≡ next_state state }
 {
     bit_patterns::next_state(state)
 }
 
 // The number drawn at `state`.
-#[unsafe(no_mangle)]
-pub extern "C" fn rimdovek_splitmix64_draw(state: u64) -> u64
+pub fn rimdovek_splitmix64_draw(state: u64) -> u64
     ensures { result ≡ draw_at state }
 {
     bit_patterns::drawn(state)
 }
 
 // The selectivity of a path. `fanout` counts only where `measured` holds.
-#[unsafe(no_mangle)]
-pub extern "C" fn rimdovek_path_selectivity(measured: bool, fanout: u64, denom: u32) -> u64
+pub fn rimdovek_path_selectivity(measured: bool, fanout: u64, denom: u32) -> u64
     ensures { result ≡ selectivity_bits measured fanout denom }
 {
     bit_patterns::selectivity(measured, fanout, denom)
@@ -46,8 +42,7 @@ pub extern "C" fn rimdovek_path_selectivity(measured: bool, fanout: u64, denom: 
 
 // The measurement from its draws: 0, and `mean` is set; 1 where the guard rejects it; 2 without draws, with more than 64, or with more
 // than 256 resamples.
-#[unsafe(no_mangle)]
-pub extern "C" fn rimdovek_estimate_draws(
+pub fn rimdovek_estimate_draws(
     draws: &[f64],
     k: usize,
     bootstrap: usize,

@@ -22,8 +22,7 @@ fn packed(p: Planned) -> u64
 }
 
 // Plans a query text into a lent output, with a table text beside it where one is handed in.
-#[unsafe(no_mangle)]
-pub extern "C" fn rimdovek_plan(query: &[u8], handed: bool, table: &[u8], out: &mut [u8]) -> u64
+pub fn rimdovek_plan(query: &[u8], handed: bool, table: &[u8], out: &mut [u8]) -> u64
     ensures answer { result ≡ packed_answer (planned query.now (handed_if handed table.now) out.old).answer }
     ensures output { out.new ≡ (planned query.now (handed_if handed table.now) out.old).output }
 {

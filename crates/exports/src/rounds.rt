@@ -20,8 +20,7 @@ fn packed(r: RoundCosts) -> u64
 }
 
 // The costs of round number `round` of a query, from 0, as bits in a lent array.
-#[unsafe(no_mangle)]
-pub extern "C" fn rimdovek_round_costs(
+pub fn rimdovek_round_costs(
     query: &[u8],
     handed: bool,
     table: &[u8],

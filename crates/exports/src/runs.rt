@@ -10,8 +10,7 @@ use run_answers::runs::{matches_in, packed, tries_in};
 
 // Runs a plan over a table, with an allowance of tries and an atom named as the new one (the largest number names none), into a lent output.
 // Tries and matches are left behind the references.
-#[unsafe(no_mangle)]
-pub extern "C" fn rimdovek_run(
+pub fn rimdovek_run(
     plan: &[u8],
     table: &[u8],
     allowance: u64,

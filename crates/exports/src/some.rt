@@ -7,8 +7,7 @@ use run_answers::atoms::delta_atom;
 use run_answers::some::told;
 
 // Some match, under the named atom (the largest number names none): 0 none, 1 spent, 2 a match, whose line is written where it has room; 419 bytes always suffice.
-#[unsafe(no_mangle)]
-pub extern "C" fn rimdovek_some_match(
+pub fn rimdovek_some_match(
     plan: &[u8],
     table: &[u8],
     allowance: u64,

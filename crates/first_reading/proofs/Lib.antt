@@ -1,4 +1,3 @@
 pub mod FirstLaws
 pub mod StandLaws
-pub mod Lending
 pub mod ReadingLaws

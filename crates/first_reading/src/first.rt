@@ -7,8 +7,8 @@ ghost use Rattle.hexadecimal.specs.Digits.{short_at};
 use fields::field::wide_short;
 use frame_tests::tests::Text;
 use frames::frame::frame_at;
-use hexadecimal::short_at;
 use hex_lines::reader::{decode_next, position, reader_at};
+use hexadecimal::short_at;
 use line_steps::stand::{Stand, after_line, at_start};
 
 // What a reading finds.

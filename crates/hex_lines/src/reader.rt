@@ -8,7 +8,7 @@ ghost use Rattle.hex_lines.specs.Decoding.{Room, Passes};
 use super::decode::{Found, decode_line};
 use super::lines::line_at;
 
-#[derive(Drop)]
+#[derive(Clone, Copy)]
 pub struct Reader<'a> {
     pub text: &'a [u8],
     pub at: usize,

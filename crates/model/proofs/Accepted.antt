@@ -10,7 +10,7 @@ use lib.ListN.{length}
 use borrow.Author.Tests.{eqb-true, lt-ltb}
 use Rattle.set_model.specs.Lists.{one, Pairs}
 use Rattle.model.proofs.Bools.{both, first, second}
-use Rattle.model.specs.Atoms.{Operand, local, global, wild, A, Ac, ACI, is_run, Atom, Plain, Lit, LitBind, Eq, EqGlobal, Pred, Variadic, Lookup, ByChildPos, ByContains, ExpandA, DecomposeACI, Step, Join, Expand, ExtractLitVal, CheckLit, Row, Node, Literal, op_of, children, Table, rows}
+use Rattle.model.specs.Atoms.{Operand, local, global, wild, A, AC, ACI, is_run, Atom, Plain, Lit, LitBind, Eq, EqGlobal, Pred, Variadic, Lookup, ByChildPos, ByContains, ExpandA, DecomposeACI, Step, Join, Expand, ExtractLitVal, CheckLit, Row, Node, Literal, op_of, children, Table, rows}
 use Rattle.model.specs.Bound.{put, Bound, has, add}
 use Rattle.model.proofs.BoundLaws.{put_same}
 use Rattle.model.specs.Lowering.{pv_is_bound, pv_mark_bound, read_child, emit_read_children, child_lookups, contains_lookups, join_lookups, Emitted, lower_eq, lower_eq_global, lower, Lowered, done, more}
@@ -179,7 +179,7 @@ module _ (tb : Table) where
   atom_fits B k (Pred g ds) l ss e sh r O = absurd sh
   atom_fits B k (Variadic n o cs (A p s)) l ss e sh r O = subst (λ (m : Emitted). all_fit tb O (m.steps ++ ss) ≡ true) (some-injective _ _ e)
       (join_then B O n k o (contains_lookups B cs) (Expand n cs (ExpandA p s) ∷ ss) (elements_fit o B cs) (λ P q. both (ap (λ (c : ℕ). all_rows is_node c (rows tb)) q ∙ nodes o sh) (r P)))
-  atom_fits B k (Variadic n o cs (Ac ms q)) l ss e sh r O = absurd sh
+  atom_fits B k (Variadic n o cs (AC ms q)) l ss e sh r O = absurd sh
   atom_fits B k (Variadic n o cs (ACI q)) l ss e sh r O = subst (λ (m : Emitted). all_fit tb O (m.steps ++ ss) ≡ true) (some-injective _ _ e)
       (join_then B O n k o (contains_lookups B cs) (Expand n cs (DecomposeACI q) ∷ ss) (elements_fit o B cs) (λ P x. both (ap (λ (c : ℕ). all_rows is_node c (rows tb)) x ∙ nodes o (λ row m p. some_node row (sh row m p))) (r P)))
     where

@@ -18,7 +18,7 @@ use Rattle.model.proofs.TabulateLaws.{mem_tabulate, tabulate_mem}
 use Rattle.model.proofs.Bools.{first, second, true_false}
 use Rattle.model.specs.Equality.{same_class}
 use Rattle.model.proofs.EqualityLaws.{same_eq, eq_same}
-use Rattle.model.specs.Atoms.{Operand, local, global, wild, A, Ac, ACI, Atom, Plain, Lit, LitBind, Eq, EqGlobal, Pred, Variadic, lits_in, seqs_in, tame, all_tame, tame_atom, Lookup, ExpandA, DecomposeACI, Step, Join, ExtractChild, CheckChildEq, CheckEq, CheckEqGlobal, BindGlobal, CopyBinding, Expand, ExtractLitVal, CheckLit, Row, Node, Literal, op_of, children, value_of, unset, child_at, Table, rows, global_class}
+use Rattle.model.specs.Atoms.{Operand, local, global, wild, A, AC, ACI, Atom, Plain, Lit, LitBind, Eq, EqGlobal, Pred, Variadic, lits_in, seqs_in, tame, all_tame, tame_atom, Lookup, ExpandA, DecomposeACI, Step, Join, ExtractChild, CheckChildEq, CheckEq, CheckEqGlobal, BindGlobal, CopyBinding, Expand, ExtractLitVal, CheckLit, Row, Node, Literal, op_of, children, value_of, unset, child_at, Table, rows, global_class}
 use Rattle.model.specs.Bound.{Bound, has, add, add_all}
 use Rattle.model.specs.Lowering.{pv_is_bound, pv_mark_bound, mark_all, read_child, emit_read_children, child_lookups, contains_lookups, join_lookups, Emitted, lower_eq, lower_eq_global, lower}
 use Rattle.model.specs.Stores.{keep}
@@ -297,5 +297,5 @@ module _ (W : Type 0) (tb : Table) (md : Mode) (pr : Proper tb) where
     group (EqGlobal a g) l e sh t = eq_global_finds a g (has K.vars a) l sh.1 refl e
     group (Pred g ds) l e sh t = absurd sh.0
     group (Variadic n o cs (A p s)) l e sh t = subst (Right (Variadic n o cs (A p s))) (some-injective _ _ e) (seq_finds n o cs p s sh.0 t)
-    group (Variadic n o cs (Ac ms r)) l e sh t = absurd sh.0
+    group (Variadic n o cs (AC ms r)) l e sh t = absurd sh.0
     group (Variadic n o cs (ACI r)) l e sh t = subst (Right (Variadic n o cs (ACI r))) (some-injective _ _ e) (set_finds_in n o cs r sh t)

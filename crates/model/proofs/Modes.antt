@@ -12,7 +12,7 @@ use lib.ListN.{length}
 use borrow.Author.Tests.{lt-ltb, le-ltb, eq-eqb, ne_eqb}
 use Rattle.set_model.specs.Lists.{Pairs}
 use Rattle.set_model.specs.Steps.{SetHolds}
-use Rattle.model.specs.Atoms.{A, Ac, ACI, Atom, Plain, Lit, LitBind, Eq, EqGlobal, Pred, Variadic, tame_atom, Row, Table, rows}
+use Rattle.model.specs.Atoms.{A, AC, ACI, Atom, Plain, Lit, LitBind, Eq, EqGlobal, Pred, Variadic, tame_atom, Row, Table, rows}
 use Rattle.model.specs.Scheduling.{scans, atom_of}
 use Rattle.model.specs.Running.{Mode, join_rows}
 use Rattle.model.specs.Matching.{Assignment, Covers, Parts, HasRow, as_sets, Holds, InShape, Distinct, Line, Counts, assigned_by, HoldsIn, IsMatch}
@@ -48,7 +48,7 @@ holds_more tb R R' α (Eq a b) w h = h
 holds_more tb R R' α (EqGlobal a g) w h = h
 holds_more tb R R' α (Pred g ds) w h = h
 holds_more tb R R' α (Variadic n o cs (A p s)) w h = more_rows w h
-holds_more tb R R' α (Variadic n o cs (Ac ms r)) w h = h
+holds_more tb R R' α (Variadic n o cs (AC ms r)) w h = h
 holds_more tb R R' α (Variadic n o cs (ACI r)) w h = more_rows w h
 
 -- over all rows: by an old row, or by a new one
@@ -68,7 +68,7 @@ old_or_new tb α (Eq a b) h = inl h
 old_or_new tb α (EqGlobal a g) h = inl h
 old_or_new tb α (Pred g ds) h = inl h
 old_or_new tb α (Variadic n o cs (A p s)) h = split_rows tb.old tb.new (λ g. record { joined = refl; holds = g }) h
-old_or_new tb α (Variadic n o cs (Ac ms r)) h = inl h
+old_or_new tb α (Variadic n o cs (AC ms r)) h = inl h
 old_or_new tb α (Variadic n o cs (ACI r)) h = split_rows tb.old tb.new (λ g. record { joined = refl; holds = g }) h
 
 -- without wildcards not by both
@@ -83,7 +83,7 @@ old_not_new tb d α (Eq a b) sh t p q = true_false q.joined refl
 old_not_new tb d α (EqGlobal a g) sh t p q = true_false q.joined refl
 old_not_new tb d α (Pred g ds) sh t p q = p
 old_not_new tb d α (Variadic n o cs (A b c)) sh t p q = not_both tb d (λ r s m l x y. node_once (λ ds. Unit {0}) (Parts tb α b cs c) (λ ds es i j. parts_once tb α b cs c t ds es) (α.classes n) o r s (sh r m x.op) (sh s l y.op) x y) p q.holds
-old_not_new tb d α (Variadic n o cs (Ac ms r)) sh t p q = p
+old_not_new tb d α (Variadic n o cs (AC ms r)) sh t p q = p
 old_not_new tb d α (Variadic n o cs (ACI v)) sh t p q = not_both tb d (λ r s m l x y. node_once (Pairs ◌<◌) (λ ds. SetHolds tb.globals ds (as_sets α) cs v) (λ ds es. sets_once tb.globals (as_sets α) cs v t ds es) (α.classes n) o r s (sh r m x.op) (sh s l y.op) x y) p q.holds
 
 -- a match in the mode that names an atom with a Join

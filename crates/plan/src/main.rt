@@ -17,10 +17,10 @@ fn plan_beside(text: &[u8], found: bool, table: &[u8], n: usize) {
     print_planned(answer, &out);
 }
 
-fn main() {
+fn main(rt: HostRuntime) {
     let mut text = [0u8; TEXT_ROOM];
     let n = io::read_full(0, &mut text);
     let mut table = [0u8; TEXT_ROOM];
-    let file = read_table(&mut table);
+    let file = read_table(&rt, &mut table);
     plan_beside(&text[..n], file.found, &table, file.size);
 }

@@ -13,7 +13,7 @@ use Rattle.fields.specs.Limits.{items_most}
 use Rattle.fields.specs.declared.field.Counts.{Counts}
 use Rattle.set_model.specs.Lists.{one}
 use Rattle.model.proofs.TabulateLaws.{tabulate_mem}
-use Rattle.model.specs.Atoms.{Operand, local, global, wild, Form, A, Ac, ACI, Atom, Plain, Lit, LitBind, Eq, EqGlobal, Pred, Variadic, Lookup, ByChildPos, ByContains, Step, Join, CheckEq, CheckEqGlobal, BindGlobal, CopyBinding}
+use Rattle.model.specs.Atoms.{Operand, local, global, wild, Form, A, AC, ACI, Atom, Plain, Lit, LitBind, Eq, EqGlobal, Pred, Variadic, Lookup, ByChildPos, ByContains, Step, Join, CheckEq, CheckEqGlobal, BindGlobal, CopyBinding}
 use Rattle.model.specs.Bound.{Bound, has, add}
 use Rattle.model.specs.Lowering.{pv_is_bound, pv_mark_bound, read_child, emit_read_children, child_lookups, contains_lookups, join_lookups, Emitted, expansion_of, lower_eq, lower_eq_global, lower, Lowered, done, more}
 use Rattle.model.specs.Scheduling.{State, Chosen, Fair, atom_of, numbers, schedule}
@@ -58,7 +58,7 @@ each_mem P (y ∷ l) h x i = at (Memᴰ.cases_cons i) (λ j. each_mem P l h.1 x 
 
 expansion_fits : (cs : List Operand) (f : Form) → FormFits cs f → ExpansionFits cs (expansion_of f)
 expansion_fits cs (A pre suf) h = h
-expansion_fits cs (Ac ms rest) h = h
+expansion_fits cs (AC ms rest) h = h
 expansion_fits cs (ACI rest) h = h
 
 -- what holds of the steps given out holds of those emitted

@@ -6,7 +6,7 @@ use mathlib.Core.Option.{some}
 use mathlib.Core.List.{List, [], ◌∷◌, map}
 use native.Mathlib.Omega.{arith}
 use lib.ListN.{get_or}
-use Rattle.model.specs.Atoms.{Operand, local, global, wild, Form, A, Ac, ACI, Atom, Plain, Lit, LitBind, Eq, EqGlobal, Pred, Variadic, Step, Expand}
+use Rattle.model.specs.Atoms.{Operand, local, global, wild, Form, A, AC, ACI, Atom, Plain, Lit, LitBind, Eq, EqGlobal, Pred, Variadic, Step, Expand}
 use Rattle.model.specs.Bound.{Bound, has, add}
 use Rattle.model.specs.Lowering.{pv_is_bound, pv_mark_bound, read_child, emit_read_children, Emitted, expansion_of, lower}
 use Rattle.model.specs.Scheduling.{State, Chosen, Fair, atom_of, numbers, schedule}
@@ -40,7 +40,7 @@ reads_not v i B (c ∷ cs) = each_append StepNot (read_child v i (pv_is_bound B 
 expand_not : (v : ℕ) (cs : List Operand) (f : Form) → StepNot (Expand v cs (expansion_of f))
 unfolding frame_of
 expand_not v cs (A pre suf) e = absurd (omega arith)
-expand_not v cs (Ac ms rest) e = refl
+expand_not v cs (AC ms rest) e = refl
 expand_not v cs (ACI rest) e = absurd (omega arith)
 
 atom_not : (B : Bound) (k : ℕ) (a : Atom) (l : Emitted) → lower B k a ≡ some l → AllNot l.steps

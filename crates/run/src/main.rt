@@ -4,7 +4,8 @@
 // refused texts the line ff number line(2) text, text 01 the plan, 02 the table.
 #![tactic(auto)]
 
-use arguments::{Argument, decimal};
+use arguments::Argument;
+use arguments::words::{number_at, word_count};
 use entries::run::run;
 use modes::mode::DeltaAtom;
 use printing::{TEXT_ROOM, print_run};
@@ -17,22 +18,15 @@ fn say_usage() {
     );
 }
 
-// The number that argument i gives.
-fn number_at(i: usize) -> Argument {
-    let mut word = io::buffer();
-    let n = os::arg(i, &mut word);
-    decimal(&word[..n])
-}
-
 // The allowance that `count` words give, the program's name being the first.
-fn allowance(count: usize) -> Argument {
+fn allowance(rt: &HostRuntime, count: usize) -> Argument {
     if count < 2 {
         return Argument::Number(1_000_000);
     }
     if 3 < count {
         return Argument::Other;
     }
-    number_at(1)
+    number_at(rt, 1)
 }
 
 fn run_over(plan: &[u8], table: &[u8], n: usize, allowance: u64, named: DeltaAtom) {
@@ -44,30 +38,30 @@ fn run_over(plan: &[u8], table: &[u8], n: usize, allowance: u64, named: DeltaAto
     print_run(answer, &out);
 }
 
-fn run_with(allowance: u64, named: DeltaAtom) {
+fn run_with(rt: &HostRuntime, allowance: u64, named: DeltaAtom) {
     let mut plan = [0u8; TEXT_ROOM];
     let n = io::read_full(0, &mut plan);
     let mut table = [0u8; TEXT_ROOM];
-    let file = read_table(&mut table);
+    let file = read_table(rt, &mut table);
     run_over(&plan[..n], &table, file.size, allowance, named);
 }
 
 // Runs with the atom that a third word names.
-fn run_named(allowance: u64, count: usize) {
+fn run_named(rt: &HostRuntime, allowance: u64, count: usize) {
     if count < 3 {
-        run_with(allowance, DeltaAtom::None);
+        run_with(rt, allowance, DeltaAtom::None);
         return;
     }
-    match number_at(2) {
-        Argument::Number(atom) => run_with(allowance, DeltaAtom::Atom(atom)),
+    match number_at(rt, 2) {
+        Argument::Number(atom) => run_with(rt, allowance, DeltaAtom::Atom(atom)),
         Argument::Other => say_usage(),
     }
 }
 
-fn main() {
-    let count = os::arg_count();
-    match allowance(count) {
-        Argument::Number(a) => run_named(a, count),
+fn main(rt: HostRuntime) {
+    let count = word_count(&rt);
+    match allowance(&rt, count) {
+        Argument::Number(a) => run_named(&rt, a, count),
         Argument::Other => say_usage(),
     }
 }

@@ -1,4 +1,5 @@
 -- `kinds::table::key_length` meets its contract.
+use Rattle.kinds.specs.Kinds.{kinds, kind_at}
 use Rattle.kinds.proofs.KindLaws.{keyless}
 use Rattle.kinds.proofs.table.key_length.Goals as goal
 

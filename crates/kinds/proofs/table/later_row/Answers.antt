@@ -1,4 +1,5 @@
 -- `kinds::table::later_row` meets its contract.
+use Rattle.kinds.specs.Kinds.{kinds, kind_at}
 use Rattle.kinds.proofs.KindLaws.{later_other}
 use Rattle.kinds.proofs.table.later_row.Goals as goal
 

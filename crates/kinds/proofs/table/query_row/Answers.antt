@@ -1,4 +1,5 @@
 -- `kinds::table::query_row` meets its contract.
+use Rattle.kinds.specs.Kinds.{kinds, kind_at}
 use Rattle.kinds.proofs.KindLaws.{query_other}
 use Rattle.kinds.proofs.table.query_row.Goals as goal
 

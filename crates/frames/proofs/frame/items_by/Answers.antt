@@ -1,0 +1,13 @@
+-- `frames::frame::items_by` meets its contract.
+use Rattle.frames.proofs.FrameLaws.{items_none, items_some, fixed_some}
+use borrow.Author.Rules.{rules}
+use Rattle.frames.proofs.frame.items_by.Goals as goal
+
+pub returns-then-lengths-lt16 : goal.returns-then-lengths-lt16
+returns-then-lengths-lt16 c = (search items_none, search rules)
+
+pub overflow_sub-wide : goal.overflow_sub-wide
+overflow_sub-wide c = search fixed_some
+
+pub returns : goal.returns
+returns c = (search items_some, search rules)

@@ -1,0 +1,13 @@
+-- `frames::frame::items_fit` meets its contract.
+use Rattle.fields.specs.Fields.{field_fits}
+use Prim.Native.Nat.{◌-◌}
+use lib.ListN.{replicate}
+use Rattle.fields.specs.Codes.{decode}
+use Rattle.frames.proofs.FrameLaws.{Passing}
+use Rattle.frames.proofs.frame.items_fit.Given as goal
+
+abbrev pub invariant-loop-j : goal.invariant-loop-j
+invariant-loop-j l = Passing field_fits (replicate l.count (decode l.item)) l.frame l.initial.at l.at l.j
+
+abbrev pub decreases-loop-j : goal.decreases-loop-j
+decreases-loop-j l = l.count - l.j

@@ -1,0 +1,6 @@
+-- `frames::frame::reals_pass` meets its contract.
+use Rattle.frames.proofs.UnreadLaws.{reals_unread}
+use Rattle.frames.proofs.frame.reals_pass.Goals as goal
+
+pub returns-then-tests-eq0 : goal.returns-then-tests-eq0
+returns-then-tests-eq0 c = search reals_unread
