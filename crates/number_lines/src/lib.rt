@@ -4,8 +4,8 @@
 ghost use Rattle.std.specs.Prelude.{◌≡◌, ◌≤◌, length, take};
 ghost use Rattle.number_lines.specs.Numbers.{number_of, numbers_of};
 
-use hexadecimal::long_at;
 use hex_lines::decode::{Found, decode_line};
+use hexadecimal::long_at;
 
 #[derive(Clone, Copy)]
 pub enum Line {

@@ -36,13 +36,14 @@ use Rattle.model.specs.Scheduling.{unlowered, numbers}
 use Rattle.cost.specs.QueryAtoms.{atom_frames}
 use Rattle.cost.specs.Choice.{rounds, remembered}
 use Rattle.records.specs.Items.{Each}
+use Rattle.plans.specs.PlanText.{plan_counts}
 use Rattle.plans.specs.StepFrames.{AtomFits}
 use Rattle.lowering.specs.AtomLines.{AtomLine}
 use Rattle.placing.proofs.LocatedPlaces.{frames_length}
 use Rattle.lowering.proofs.AtomLaws.{by_kind}
 use Rattle.passes.proofs.AcceptedLaws.{atom_line}
 use Rattle.plan_facts.proofs.AtomFrames.{Good}
-use Rattle.plan_facts.specs.QueryPlans.{atoms_of}
+use Rattle.plan_facts.specs.QueryPlans.{atoms_of, count_at}
 use Rattle.plan_facts.proofs.QueryPlansLaws.{good, atoms_number, query_fits}
 use Rattle.plan_facts.proofs.Remembered.{FewOperands, FewKeys, rounds_items, rounds_few}
 
@@ -127,7 +128,7 @@ module _ (x : List ℕ) (n c : ℕ) (ok : reading Query x ≡ Accepted n c) wher
   atom_items k h = let g = atom_frame_lem (Good (counts_of Query x c)) (frames_of x) (good x n c ok) k h in items_few (get_or (atom_frames (frames_of x)) k []) g.0 g.1.limits
 
   pub atom_operands : Each FewOperands (atoms_of x)
-  atom_operands = each_few _ (atoms_of x) (query_fits x n c ok 0 0 (omega arith) (omega arith)).atoms
+  atom_operands = each_few (plan_counts (count_at x 1) (count_at x 2) (count_at x 3)) (atoms_of x) (query_fits x n c ok 0 0 (omega arith) (omega arith)).atoms
 
   -- so the memo has a key for each item of each atom at most, whatever is given beside the atoms
   pub rounds_memo : (fs : List (List ℕ)) (f : ℕ) → length (rounds fs (atoms_of x) f).memory.tally.memo ≤ items_most * length (atoms_of x)

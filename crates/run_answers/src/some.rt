@@ -7,8 +7,8 @@ ghost use Rattle.run_answers.specs.Replied.{placed, Tells};
 
 use bindings::env::Env;
 use entries::some::Reply;
-use hexadecimal::line::byte_at;
 use hex_lines::reader::line_from;
+use hexadecimal::line::byte_at;
 use match_lines::lines::{line_length, write_match};
 use packing::refusal;
 

@@ -1,5 +1,5 @@
 -- The frames that samples are taken from, in the table's place. Proved from the rows that stand.
-use Prim.Native.Nat.{ℕ, suc, ◌+◌, ◌-◌, ◌<◌, ◌≤◌}
+use Prim.Native.Nat.{ℕ, ◌+◌, ◌-◌, ◌<◌, ◌≤◌}
 use mathlib.Core.Path.{◌≡◌, refl, sym, ◌∙◌, ap, subst}
 use mathlib.Core.Bool.{Bool, true, false}
 use mathlib.Core.List.{List, [], ◌∷◌, ◌++◌, map, append-nil}
@@ -7,7 +7,7 @@ use native.Mathlib.Numerals.{add-one}
 use native.Mathlib.Omega.{arith}
 use lib.ListN.{length, get_or, take, drop, set, length-map, length-take}
 use lib.Seq.{take-suc}
-use Rattle.fields.specs.Limits.{items_most, rows_most}
+use Rattle.fields.specs.Limits.{items_most}
 use Rattle.kinds.specs.Kinds.{kinds, kind_at, table}
 use Rattle.frames.specs.Sheet.{frames_in}
 use Rattle.second_reading.specs.Leading.{has_leaders}

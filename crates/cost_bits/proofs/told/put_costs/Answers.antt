@@ -1,5 +1,4 @@
 -- `cost_bits::told::put_costs` meets its contract: the places before the one that is next are filled.
-use Prim.Native.Nat.{◌-◌}
 use native.Mathlib.Omega.{arith}
 use Rattle.cost_bits.proofs.BitLaws.{filling_none, filling_again, filled}
 use Rattle.cost_bits.proofs.told.put_costs.Goals as goal

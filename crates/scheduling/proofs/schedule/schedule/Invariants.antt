@@ -1,0 +1,9 @@
+-- `scheduling::schedule::schedule` meets its contract: the rounds left give what all give.
+use Rattle.scheduling.proofs.LoopLaws.{Rounding}
+use Rattle.scheduling.proofs.schedule.schedule.Given as goal
+
+abbrev pub invariant-loop-s : goal.invariant-loop-s
+invariant-loop-s l = Rounding l.sheet l.initial.s.how l.initial.keys l.initial.values l.initial.costs l.last l.d l.keys l.values l.costs l.s l.left
+
+abbrev pub decreases-loop-s : goal.decreases-loop-s
+decreases-loop-s l = l.left
