@@ -4,9 +4,9 @@ use mathlib.Core.List.{List, Memᴰ, map}
 use Rattle.model.specs.Atoms.{Atom}
 use Rattle.model.specs.Bound.{Bound, add, bound_most}
 use Rattle.model.specs.Scheduling.{emit_at, atom_of, numbers}
-use Rattle.cost.specs.QueryAtoms.{atom_of_frame}
-use Rattle.cost.specs.Emitters.{Emitters, decode, record_atom, record_emitters}
-use Rattle.passes.specs.Eager.{Went, LoweredEager, Ready, sheet_atoms}
+use Rattle.recording.specs.QueryAtoms.{atom_of_frame}
+use Rattle.recording.specs.Emitters.{Emitters, decode, record_atom, record_emitters}
+use Rattle.recording.specs.Eager.{Went, LoweredEager, Ready, sheet_atoms}
 use Rattle.advancing.specs.declared.advance.Scheduler.{Scheduler}
 
 -- the emitters of a scheduler

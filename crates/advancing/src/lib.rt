@@ -2,3 +2,5 @@
 #![tactic(auto)]
 
 pub mod advance;
+
+pub use recording::{cost, fields, passes, query};

@@ -10,22 +10,22 @@ use lib.Dec.{eqb}
 use borrow.Author.Tests.{eqb-true}
 use Rattle.base.specs.Choose.{pick}
 use Rattle.base.proofs.ChooseLaws.{both_hold}
-use Rattle.kinds.specs.Kinds.{kind_at, kinds, query, table}
-use Rattle.frames.specs.Frames.{frame_length}
-use Rattle.frames.specs.Sheet.{frames_in, frames_up_to, laid_out, Whole}
-use Rattle.frames.proofs.SheetLaws.{length_some, frame_before, frames_step}
-use Rattle.frame_keys.specs.Keys.{begins, find}
-use Rattle.frame_tests.specs.Faults.{is_atom, is_row, belongs, text_number}
-use Rattle.frame_tests.specs.declared.tests.Text.{Text}
-use Rattle.first_reading.specs.First.{frames_of}
-use Rattle.first_reading.specs.declared.first.Reading.TheVariants.{Accepted}
-use Rattle.second_reading.specs.Second.{reading}
+use Rattle.reading_facts.specs.Kinds.{kind_at, kinds, query, table}
+use Rattle.reading_facts.specs.Frames.{frame_length}
+use Rattle.reading_facts.specs.Sheet.{frames_in, frames_up_to, laid_out, Whole}
+use Rattle.reading_facts.proofs.SheetLaws.{length_some, frame_before, frames_step}
+use Rattle.reading_facts.specs.Keys.{begins, find}
+use Rattle.reading_facts.specs.Faults.{is_atom, is_row, belongs, text_number}
+use Rattle.reading_facts.specs.Text.{Text}
+use Rattle.reading_facts.specs.First.{frames_of}
+use Rattle.reading_facts.specs.Reading.TheVariants.{Accepted}
+use Rattle.reading_facts.specs.Second.{reading}
 use Rattle.reading_facts.proofs.Found.{begun_kind}
 use Rattle.reading_facts.proofs.Whole.{accepted}
-use Rattle.records.proofs.ItemsLaws.{each_by}
-use Rattle.records.specs.Rows.{rows_in}
-use Rattle.given.specs.Given.{QueryKey}
-use Rattle.cost.specs.QueryAtoms.{atom_frames, atoms_in}
+use Rattle.lowering.proofs.ItemsLaws.{each_by}
+use Rattle.lowering.specs.Rows.{rows_in}
+use Rattle.lowering.specs.Given.{QueryKey}
+use Rattle.lowering.specs.QueryAtoms.{atom_frames, atoms_in}
 use Rattle.lowering.proofs.AtomLaws.{by_kind}
 use Rattle.behind.specs.Behind.{FramesOf}
 

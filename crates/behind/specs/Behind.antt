@@ -1,7 +1,7 @@
 -- The frames of a text, by the text that their kinds belong to.
 use Rattle.std.specs.Prelude.{ℕ, ◌≡◌, List, get_or}
-use Rattle.kinds.specs.Kinds.{kind_at}
-use Rattle.records.specs.Items.{Each}
+use Rattle.reading_facts.specs.Kinds.{kind_at}
+use Rattle.lowering.specs.Items.{Each}
 
 -- each of the frames is of a kind of the text t
 abbrev pub FramesOf : ℕ → List (List ℕ) → Type 0

@@ -2,3 +2,5 @@
 #![tactic(auto)]
 
 pub mod bid;
+
+pub use item_pricing::{memo_entries, prices};

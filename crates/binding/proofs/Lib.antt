@@ -1,2 +1,11 @@
 pub mod SetLaws
 pub mod OperandLaws
+pub use Rattle.cost.proofs.ChoiceLaws
+pub use Rattle.cost.proofs.ItemsLaws
+pub use Rattle.cost.proofs.KeyLaws
+pub use Rattle.cost.proofs.LentLaws
+pub use Rattle.cost.proofs.Operands
+pub use Rattle.cost.proofs.QueryLaws
+pub use Rattle.cost.proofs.ReadLaws
+pub use Rattle.cost.proofs.SheetLaws
+pub use Rattle.cost.proofs.Tame

@@ -13,11 +13,11 @@ use Rattle.model.proofs.Bools.{first, second}
 use Rattle.model.specs.Lowering.{pv_is_bound, pv_mark_bound, mark_all}
 use Rattle.model.specs.Premises.{numbers_below}
 use Rattle.cost.specs.QueryAtoms.{operands_from, bytes_from}
-use Rattle.records.specs.Lookups.{operand_at}
+use Rattle.cost.specs.Lookups.{operand_at}
 use Rattle.cost.proofs.Operands.{local_at}
-use Rattle.fields.specs.Fields.{width}
-use Rattle.kinds.specs.Kinds.{kind_at, fixed_length, items_of}
-use Rattle.frames.specs.Frames.{kind_of}
+use Rattle.cost.specs.Fields.{width}
+use Rattle.cost.specs.Kinds.{kind_at, fixed_length, items_of}
+use Rattle.cost.specs.Frames.{kind_of}
 use Rattle.binding.specs.ItemOperands.{item_operands}
 use Rattle.binding.proofs.SetLaws.{add_size}
 

@@ -1,1 +1,35 @@
 pub mod ItemOperands
+pub use Rattle.cost.specs.Asks
+pub use Rattle.cost.specs.Buckets
+pub use Rattle.cost.specs.Choice
+pub use Rattle.cost.specs.Costs
+pub use Rattle.cost.specs.Counts
+pub use Rattle.cost.specs.Emitters
+pub use Rattle.cost.specs.Faults
+pub use Rattle.cost.specs.Field
+pub use Rattle.cost.specs.Fields
+pub use Rattle.cost.specs.First
+pub use Rattle.cost.specs.Frames
+pub use Rattle.cost.specs.Given
+pub use Rattle.cost.specs.GivenSampled as Sampled
+pub use Rattle.cost.specs.Index
+pub use Rattle.cost.specs.IndexedReading
+pub use Rattle.cost.specs.Items
+pub use Rattle.cost.specs.Keys
+pub use Rattle.cost.specs.Kinds
+pub use Rattle.cost.specs.Limits
+pub use Rattle.cost.specs.Lookups
+pub use Rattle.cost.specs.Memo
+pub use Rattle.cost.specs.QueryAtoms
+pub use Rattle.cost.specs.Reading
+pub use Rattle.cost.specs.RowIndex
+pub use Rattle.cost.specs.Rows
+pub use Rattle.cost.specs.Sampled as QuerySampled
+pub use Rattle.cost.specs.Sampling
+pub use Rattle.cost.specs.Second
+pub use Rattle.cost.specs.Sheet
+pub use Rattle.cost.specs.Statistics
+pub use Rattle.cost.specs.TableSamples
+pub use Rattle.cost.specs.Test
+pub use Rattle.cost.specs.Text
+pub use Rattle.cost.specs.Wanted

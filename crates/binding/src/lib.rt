@@ -3,3 +3,8 @@
 
 pub mod operands;
 pub mod sets;
+
+pub use cost::{
+    buckets, fields, first_reading, frame_tests, frames, given, kinds, query, reading, records,
+    second_reading,
+};

@@ -6,13 +6,13 @@ ghost use Rattle.model.specs.Bound.{has_all};
 ghost use Rattle.model.specs.Lowering.{pv_is_bound, pv_mark_bound, mark_all};
 ghost use Rattle.model.specs.Premises.{numbers_below};
 ghost use Rattle.cost.specs.QueryAtoms.{operands_from, bytes_from};
-ghost use Rattle.records.specs.Lookups.{operand_at};
+ghost use Rattle.cost.specs.Lookups.{operand_at};
 ghost use Rattle.binding.specs.ItemOperands.{item_operands};
 
 use super::sets::{is_set, set_bound};
-use frames::frame::items_of;
+use cost::frames::frame::items_of;
+use cost::kinds::table::{fixed_length, item_width};
 use hexadecimal::byte_at;
-use kinds::table::{fixed_length, item_width};
 
 // Whether an operand is bound: a global always is.
 pub fn pv_is_bound(frame: &[u8], i: usize, bound: &[bool]) -> bool

@@ -9,12 +9,12 @@ use lib.Dec.{eqb}
 use borrow.Author.Tests.{eq-eqb, ne_eqb, eqb-true, eqb-false}
 use Rattle.base.specs.Choose.{pick}
 use Rattle.field_values.specs.FieldValues.{child_path}
-use Rattle.frames.specs.Sheet.{frame_at}
+use Rattle.row_frames.specs.Sheet.{frame_at}
 use Rattle.model.specs.Atoms.{Row, op_of, children, child_at, unset}
 use Rattle.model.specs.Equality.{same_class}
 use Rattle.model.specs.Running.{among, no_row}
 use Rattle.model.proofs.EqualityLaws.{same_eq, eq_same}
-use Rattle.records.specs.Rows.{row_of}
+use Rattle.row_frames.specs.Rows.{row_of}
 use Rattle.row_frames.specs.declared.row.Want.{Want}
 use Rattle.row_frames.specs.Wanted.{op_path, has_at, wanted}
 use Rattle.buckets.specs.RowIndex.{heads_at, row_slots, row_at, next_at, head_at, chain_from, class_slot, op_slot, in_slot, slot_for, RowsIndexed}

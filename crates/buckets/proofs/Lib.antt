@@ -1,3 +1,9 @@
 pub mod NumberLaws
 pub mod IndexLaws
 pub mod SampleLaws
+pub use Rattle.row_frames.proofs.ItemsLaws
+pub use Rattle.row_frames.proofs.LentLaws
+pub use Rattle.row_frames.proofs.QueryLaws
+pub use Rattle.row_frames.proofs.ReadLaws
+pub use Rattle.row_frames.proofs.RowLaws
+pub use Rattle.row_frames.proofs.SheetLaws

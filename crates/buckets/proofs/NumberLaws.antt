@@ -12,7 +12,7 @@ use Rattle.model.specs.Atoms.{Row}
 use Rattle.model.specs.Running.{no_row}
 use Rattle.model.specs.Tabulate.{tabulate}
 use Rattle.model.proofs.TabulateLaws.{tabulate_at, tabulate_length}
-use Rattle.records.specs.Items.{Each}
+use Rattle.row_frames.specs.Items.{Each}
 use Rattle.buckets.specs.Buckets.{numbers_from, strided}
 
 -- ---- lists

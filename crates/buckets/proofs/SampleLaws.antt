@@ -13,8 +13,8 @@ use borrow.Author.Tests.{eq-eqb, ne_eqb, not-true, not-false}
 use Rattle.base.specs.Choose.{pick}
 use Rattle.model.specs.Atoms.{Row, op_of}
 use Rattle.model.specs.Running.{no_row}
-use Rattle.records.specs.Items.{Each}
-use Rattle.records.specs.Rows.{row_of}
+use Rattle.row_frames.specs.Items.{Each}
+use Rattle.row_frames.specs.Rows.{row_of}
 use Rattle.row_frames.specs.declared.row.Want.{Want}
 use Rattle.row_frames.specs.Wanted.{wanted}
 use Rattle.buckets.specs.Buckets.{numbers_from, strided, hits, StrideRoom, NumbersRoom}

@@ -4,7 +4,7 @@ use Rattle.base.specs.Choose.{pick}
 use Rattle.model.specs.Atoms.{Row, op_of}
 use Rattle.model.specs.Running.{no_row}
 use Rattle.model.specs.Tabulate.{tabulate}
-use Rattle.records.specs.Items.{Each}
+use Rattle.row_frames.specs.Items.{Each}
 
 -- the numbers of the rows that pass a test, in order, where the first row has number i
 unfoldable pub numbers_from : (Row → Bool) → ℕ → List Row → List ℕ

@@ -3,7 +3,7 @@ use Rattle.std.specs.Prelude.{ℕ, ◌≡◌, refl, [], ◌∷◌}
 use Rattle.model.specs.Equality.{same_class}
 use Rattle.model.specs.Running.{among}
 use Rattle.model.specs.Tabulate.{tabulate}
-use Rattle.records.specs.Examples.{table}
+use Rattle.row_frames.specs.Examples.{table}
 use Rattle.row_frames.specs.Wanted.{wanted}
 use Rattle.row_frames.specs.declared.row.Want.{Want}
 use Rattle.buckets.specs.Buckets.{numbers_from, strided, hits}

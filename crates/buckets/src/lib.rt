@@ -3,3 +3,8 @@
 
 pub mod index;
 pub mod sample;
+
+pub use row_frames;
+pub use row_frames::{
+    fields, first_reading, frame_tests, frames, indexing, kinds, reading, records, second_reading,
+};

@@ -5,12 +5,12 @@ use Rattle.model.specs.Atoms.{Atom}
 use Rattle.model.specs.Bound.{Bound}
 use Rattle.model.specs.Scheduling.{atom_of}
 use Rattle.model.specs.Cheapest.{Bid, Scan}
-use Rattle.query.specs.declared.statistics.Sampled.{Sampled}
-use Rattle.cost.specs.Emitters.{Emitters}
-use Rattle.cost.specs.Sampling.{Tally}
-use Rattle.cost.specs.Choice.{offer, offered}
-use Rattle.cost.specs.Memo.{tally_at}
-use Rattle.samples.specs.Remembering.{Remembers}
+use Rattle.advancing.specs.Sampled.{Sampled}
+use Rattle.advancing.specs.Emitters.{Emitters}
+use Rattle.advancing.specs.Sampling.{Tally}
+use Rattle.advancing.specs.Choice.{offer, offered}
+use Rattle.advancing.specs.Memo.{tally_at}
+use Rattle.bidding.specs.Remembering.{Remembers}
 use Rattle.bidding.specs.declared.bid.Best.{Best}
 use Rattle.cost_bits.specs.CostBits.{cost_bits}
 use Rattle.bidding.specs.Bidding.{bid_of, or_best}

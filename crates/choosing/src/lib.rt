@@ -2,3 +2,8 @@
 #![tactic(auto)]
 
 pub mod choose;
+
+pub use advancing;
+pub use advancing::{cost, query};
+pub use bidding;
+pub use bidding::{memo_entries, prices};

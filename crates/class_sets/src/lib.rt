@@ -2,3 +2,5 @@
 #![tactic(auto)]
 
 pub mod set;
+
+pub use fields;

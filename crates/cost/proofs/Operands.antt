@@ -10,7 +10,7 @@ use Rattle.model.specs.Atoms.{local, local_of}
 use Rattle.model.proofs.Bools.{first}
 use Rattle.model.specs.Premises.{numbers_below}
 use Rattle.cost.specs.QueryAtoms.{operands_from}
-use Rattle.records.specs.Lookups.{operand_at}
+use Rattle.samplers.specs.Lookups.{operand_at}
 
 pub operands_length : (f : List ℕ) (i w n : ℕ) → length (operands_from f i w n) ≡ n
 unfolding operands_from

@@ -7,9 +7,9 @@ use native.Mathlib.Omega.{arith}
 use lib.ListN.{length, get_or, drop}
 use borrow.Author.Tests.{not-true, not-false}
 use Rattle.base.specs.Choose.{pick}
-use Rattle.frame_tests.specs.Faults.{is_atom}
-use Rattle.frames.specs.Sheet.{frame_at, frames_in}
-use Rattle.frames.proofs.SheetLaws.{frames_end, frame_some, frame_within, frames_step}
+use Rattle.samplers.specs.Faults.{is_atom}
+use Rattle.samplers.specs.Sheet.{frame_at, frames_in}
+use Rattle.samplers.proofs.FramesSheetLaws.{frames_end, frame_some, frame_within, frames_step}
 use Rattle.cost.specs.QueryAtoms.{atom_frames}
 use Rattle.cost.specs.Sampling.{operator_of}
 use Rattle.cost.specs.Draws.{OperatorFor}

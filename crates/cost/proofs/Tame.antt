@@ -8,11 +8,11 @@ use mathlib.Core.Logic.{◌⊎◌, inl, inr}
 use lib.ListN.{get_or}
 use lib.Dec.{eqb}
 use Rattle.base.specs.Choose.{pick}
-use Rattle.frame_tests.specs.Faults.{is_atom}
+use Rattle.samplers.specs.Faults.{is_atom}
 use Rattle.model.proofs.Bools.{both}
 use Rattle.model.specs.Atoms.{local, global, Atom, tame, all_tame, tame_atom}
 use Rattle.cost.specs.QueryAtoms.{operands_from, atom_of_frame, atoms_in}
-use Rattle.records.specs.Lookups.{operand_at}
+use Rattle.samplers.specs.Lookups.{operand_at}
 
 pub operand_tame : (f : List ℕ) (i : ℕ) → tame (operand_at f i) ≡ true
 operand_tame f i = by (eqb (get_or f i 0) 0)

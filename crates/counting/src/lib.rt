@@ -2,3 +2,6 @@
 #![tactic(auto)]
 
 pub mod count;
+
+pub use match_lines;
+pub use match_lines::{bindings, chains, fields, frames};

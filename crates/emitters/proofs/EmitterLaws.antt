@@ -7,7 +7,7 @@ use native.Mathlib.Omega.{arith}
 use lib.ListN.{length, get_or, set, get_or-map}
 use borrow.Author.Tests.{eq-eqb, ne_eqb}
 use Rattle.model.specs.Bound.{put}
-use Rattle.records.specs.Lookups.{operand_at}
+use Rattle.cost.specs.Lookups.{operand_at}
 use Rattle.cost.specs.Emitters.{Emitters, decode, from, or_keep, set_emitter, set_operand, copy_emitter, emitter_of}
 
 pub packed_is : (a s p x y z : ℕ) → a < 256 → s < 4 → p < 256 → x ≡ a → y ≡ s → z ≡ p → decode (1 + (x * 4 + y) * 256 + z) ≡ from a s p

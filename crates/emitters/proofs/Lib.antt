@@ -1,1 +1,2 @@
 pub mod EmitterLaws
+pub use Rattle.cost.proofs.ChoiceLaws

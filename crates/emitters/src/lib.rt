@@ -2,3 +2,5 @@
 #![tactic(auto)]
 
 pub mod numbers;
+
+pub use cost;

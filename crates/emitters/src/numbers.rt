@@ -2,7 +2,7 @@
 ghost use Rattle.std.specs.Prelude.{◌≡◌, true, map, ◌+◌, ◌*◌, ◌<◌, length};
 ghost use Rattle.model.specs.Atoms.{local_of};
 ghost use Rattle.model.specs.Premises.{numbers_below};
-ghost use Rattle.records.specs.Lookups.{operand_at};
+ghost use Rattle.cost.specs.Lookups.{operand_at};
 ghost use Rattle.cost.specs.Emitters.{decode, from, emitter_of, set_emitter, set_operand, copy_emitter};
 
 use hexadecimal::byte_at;

@@ -1,1 +1,3 @@
 pub mod EmitLaws
+pub use Rattle.extracting.proofs.PlanRead
+pub use Rattle.extracting.proofs.PutLaws

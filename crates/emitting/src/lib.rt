@@ -2,3 +2,5 @@
 #![tactic(auto)]
 
 pub mod atom;
+
+pub use extracting::output;

@@ -3,8 +3,8 @@
 use Rattle.std.specs.Prelude.{ℕ, ◌≤◌, List, [], eqb}
 use Rattle.base.specs.Choose.{pick}
 use Rattle.model.specs.Limits.{Status, Done, Spent, Full}
-use Rattle.running.specs.Run.{Outcome, Refused, Ran, Result, Reply, Rejected, Match, None, Exhausted, match_line}
-use Rattle.bindings.specs.Envs.{env_of}
+use Rattle.execution.specs.Run.{Outcome, Refused, Ran, Result, Reply, Rejected, Match, None, Exhausted, match_line}
+use Rattle.execution.specs.Envs.{env_of}
 use Rattle.entries.specs.declared.run.Status.{Status as StatusAs}
 use Rattle.entries.specs.declared.run.Status.TheVariants.{Done as IsDone, Spent as IsSpent, Full as IsFull}
 use Rattle.entries.specs.declared.run.Outcome.{Outcome as OutcomeAs}

@@ -1,15 +1,15 @@
 // A table text in words: how many rows it has, and which of them are passed over.
 ghost use Rattle.std.specs.Prelude.{◌<◌};
-ghost use Rattle.indexing.specs.Index.{Indexed};
-ghost use Rattle.standing.specs.Stands.{RowsSheet};
+ghost use Rattle.passed_rows.specs.Index.{Indexed};
+ghost use Rattle.passed_rows.specs.Stands.{RowsSheet};
 
 use super::refusals::say_refusal;
 use super::words::{say, say_number};
-use first_reading::first::{Reading, sheet_size};
-use frame_tests::tests::Text;
-use frames::among::has_kinds;
+use passed_rows::first_reading::first::{Reading, sheet_size};
+use passed_rows::frame_tests::tests::Text;
+use passed_rows::frames::among::has_kinds;
 use passed_rows::passed::is_passed;
-use reading::second::{LONG_INDEX, LONG_SHEET, read_indexed, read_text};
+use passed_rows::reading::second::{LONG_INDEX, LONG_SHEET, read_indexed, read_text};
 
 // Row n, where it is passed over.
 fn say_row(sheet: &[u8], index: &[u16], n: usize)

@@ -5,13 +5,13 @@ use mathlib.Core.Bool.{Bool}
 use mathlib.Core.List.{List}
 use native.Mathlib.Omega.{arith}
 use borrow.Author.Tests.{ne_eqb}
-use Rattle.fitting.specs.Planner.{Result, plan}
+use Rattle.round_costs.specs.Planner.{Result, plan}
 use Rattle.planner.proofs.AnswerBounds.{Within, plan_within}
-use Rattle.fitting.specs.Entry.{planned_answer, planned_result}
-use Rattle.fitting.specs.declared.fit.Planned.{Planned}
-use Rattle.fitting.specs.declared.fit.Planned.TheVariants.{Written, Refused}
-use Rattle.gathering.specs.Handed.{is_table, handed_if, handed}
-use Rattle.gathering.specs.declared.beside.Beside.{Beside}
+use Rattle.round_costs.specs.Entry.{planned_answer, planned_result}
+use Rattle.round_costs.specs.Planned.{Planned}
+use Rattle.round_costs.specs.Planned.TheVariants.{Written, Refused}
+use Rattle.round_costs.specs.Handed.{is_table, handed_if, handed}
+use Rattle.round_costs.specs.Beside.{Beside}
 use Rattle.exports.specs.Plans.{packed_answer, packed_planned}
 
 -- the number of the case that was found

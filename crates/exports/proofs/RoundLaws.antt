@@ -5,8 +5,8 @@ use mathlib.Core.Bool.{Bool}
 use mathlib.Core.List.{List}
 use Rattle.round_costs.specs.Costs.{Result, round_answer, round_result, round_costs}
 use Rattle.round_costs.specs.declared.rounds.RoundCosts.{RoundCosts}
-use Rattle.gathering.specs.Handed.{is_table, handed_if, handed}
-use Rattle.gathering.specs.declared.beside.Beside.{Beside}
+use Rattle.round_costs.specs.Handed.{is_table, handed_if, handed}
+use Rattle.round_costs.specs.Beside.{Beside}
 use Rattle.exports.specs.Rounds.{packed_round}
 
 -- the number of the case that was found

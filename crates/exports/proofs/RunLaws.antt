@@ -3,9 +3,9 @@ use Prim.Native.Nat.{ℕ}
 use mathlib.Core.Path.{◌≡◌, ap, ◌∙◌}
 use mathlib.Core.List.{List}
 use Rattle.model.specs.Running.{Mode}
-use Rattle.running.specs.Run.{Outcome, Result, run}
-use Rattle.entries.specs.Outcomes.{outcome_of, outcome_result}
-use Rattle.entries.specs.declared.run.Outcome.{Outcome as OutcomeAs}
+use Rattle.run_answers.specs.Run.{Outcome, Result, run}
+use Rattle.run_answers.specs.Outcomes.{outcome_of, outcome_result}
+use Rattle.run_answers.specs.Outcome.{Outcome as OutcomeAs}
 
 module _ (p t o q : List ℕ) (md nd : Mode) (same : nd ≡ md) (A : ℕ) (r : OutcomeAs) (is : outcome_result r q ≡ run p t nd A o) where
   by_mode : outcome_result r q ≡ run p t md A o

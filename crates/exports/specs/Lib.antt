@@ -1,3 +1,11 @@
 pub mod Plans
 pub mod Rounds
 pub mod Unpacked
+pub use Rattle.bit_patterns.specs.Answers
+pub use Rattle.round_costs.specs.Costs
+pub use Rattle.round_costs.specs.Handed
+pub use Rattle.round_costs.specs.Planner
+pub use Rattle.run_answers.specs.Atoms
+pub use Rattle.run_answers.specs.Replied
+pub use Rattle.run_answers.specs.Run
+pub use Rattle.run_answers.specs.Runs

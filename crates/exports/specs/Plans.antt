@@ -1,10 +1,10 @@
 -- The planner's answer as one number.
 use Rattle.std.specs.Prelude.{ℕ, eqb}
 use Rattle.base.specs.Choose.{pick}
-use Rattle.packing.specs.Packed.{packed_refusal, packed_counts}
-use Rattle.fitting.specs.Planner.{Answer}
-use Rattle.fitting.specs.declared.fit.Planned.{Planned}
-use Rattle.fitting.specs.declared.fit.Planned.TheVariants.{Written, Refused}
+use Rattle.run_answers.specs.Packed.{packed_refusal, packed_counts}
+use Rattle.round_costs.specs.Planner.{Answer}
+use Rattle.round_costs.specs.Planned.{Planned}
+use Rattle.round_costs.specs.Planned.TheVariants.{Written, Refused}
 
 -- the counts where the query is planned, number 0; else the refusal, its text by number: 00 query, 01 plan, 02 table
 abbrev pub packed_answer : Answer → ℕ

@@ -12,6 +12,11 @@ pub mod rounds;
 pub mod runs;
 pub mod some;
 
+pub use planner;
+pub use round_costs::{fitting, gathering};
+pub use run_answers;
+pub use run_answers::{entries, first_reading, frame_tests, reading};
+
 // The square root, from bit pattern to bit pattern.
 pub fn rimdovek_sqrt(bits: u64) -> u64
     ensures { result ≡ sqrt_of bits }

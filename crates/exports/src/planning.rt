@@ -1,13 +1,13 @@
 // The planner for programs outside the prover: one call from query text to plan text.
 ghost use Rattle.std.specs.Prelude.{◌≡◌};
-ghost use Rattle.fitting.specs.Planner.{plan as planned};
-ghost use Rattle.gathering.specs.Handed.{handed_if};
+ghost use Rattle.round_costs.specs.Planner.{plan as planned};
+ghost use Rattle.round_costs.specs.Handed.{handed_if};
 ghost use Rattle.exports.specs.Plans.{packed_answer, packed_planned};
 
-use fitting::fit::Planned;
-use gathering::beside::beside_if;
 use packing::{counts, refusal};
 use planner::entry::plan;
+use round_costs::fitting::fit::Planned;
+use round_costs::gathering::beside::beside_if;
 
 // The answer as one number.
 fn packed(p: Planned) -> u64

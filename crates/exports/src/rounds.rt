@@ -1,11 +1,11 @@
 // The costs of a round for programs outside the prover.
 ghost use Rattle.std.specs.Prelude.{◌≡◌};
 ghost use Rattle.round_costs.specs.Costs.{round_answer, round_costs};
-ghost use Rattle.gathering.specs.Handed.{handed_if};
+ghost use Rattle.round_costs.specs.Handed.{handed_if};
 ghost use Rattle.exports.specs.Rounds.{packed_round};
 
-use gathering::beside::beside_if;
 use packing::{choice, refusal};
+use round_costs::gathering::beside::beside_if;
 use round_costs::rounds::{RoundCosts, round_costs};
 
 // The answer as one number.

@@ -1,11 +1,11 @@
 // The runner for programs outside the prover: one call from plan text and table text to match lines.
 ghost use Rattle.std.specs.Prelude.{◌≡◌};
-ghost use Rattle.running.specs.Run.{tries_in, matches_in, run as run_of};
+ghost use Rattle.run_answers.specs.Run.{tries_in, matches_in, run as run_of};
 ghost use Rattle.run_answers.specs.Atoms.{mode_from};
 ghost use Rattle.run_answers.specs.Runs.{packed_run};
 
-use entries::run::run;
 use run_answers::atoms::delta_atom;
+use run_answers::entries::run::run;
 use run_answers::runs::{matches_in, packed, tries_in};
 
 // Runs a plan over a table, with an allowance of tries and an atom named as the new one (the largest number names none), into a lent output.

@@ -2,16 +2,16 @@
 // travels as its bits, but for the draws, an array of doubles.
 #![tactic(auto)]
 
-ghost use Rattle.bit_patterns.specs.Answers.{selectivity_bits, settings, estimate_answer, status_of, mean_left};
+ghost use Rattle.exports.specs.Answers.{selectivity_bits, settings, estimate_answer, status_of, mean_left};
 ghost use Rattle.exports.specs.Plans.{packed_answer};
 ghost use Rattle.exports.specs.Rounds.{packed_round};
-ghost use Rattle.fitting.specs.Planner.{plan as planned};
-ghost use Rattle.gathering.specs.Handed.{handed_if};
-ghost use Rattle.round_costs.specs.Costs.{round_costs};
-ghost use Rattle.run_answers.specs.Atoms.{mode_from};
-ghost use Rattle.run_answers.specs.Replied.{TellsSome};
-ghost use Rattle.run_answers.specs.Runs.{packed_run};
-ghost use Rattle.running.specs.Run.{tries_in, matches_in, run as run_of};
+ghost use Rattle.exports.specs.Planner.{plan as planned};
+ghost use Rattle.exports.specs.Handed.{handed_if};
+ghost use Rattle.exports.specs.Costs.{round_costs};
+ghost use Rattle.exports.specs.Atoms.{mode_from};
+ghost use Rattle.exports.specs.Replied.{TellsSome};
+ghost use Rattle.exports.specs.Runs.{packed_run};
+ghost use Rattle.exports.specs.Run.{tries_in, matches_in, run as run_of};
 ghost use Rattle.splitmix.specs.SplitMix.{next_state, draw_at};
 ghost use Rattle.sqrt.specs.Sqrt.{sqrt as sqrt_of};
 ghost use Rattle.std.specs.Prelude.{◌≡◌};

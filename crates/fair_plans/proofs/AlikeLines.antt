@@ -10,10 +10,10 @@ use native.Mathlib.Omega.{arith}
 use lib.ListN.{get_or}
 use Rattle.base.specs.Choose.{pick}
 use Rattle.hexadecimal.specs.Digits.{bytes_of}
-use Rattle.frame_tests.specs.Faults.{is_atom}
-use Rattle.first_reading.specs.First.{frames_of, first_line}
+use Rattle.running.specs.Faults.{is_atom}
+use Rattle.running.specs.First.{frames_of, first_line}
 use Rattle.model.specs.Atoms.{Atom}
-use Rattle.cost.specs.QueryAtoms.{atom_of_frame, atoms_in}
+use Rattle.fitting.specs.QueryAtoms.{atom_of_frame, atoms_in}
 use Rattle.fair_plans.specs.Terms.{Alike}
 
 -- each line of an atom is one of the other text's

@@ -9,22 +9,22 @@ use native.Mathlib.Omega.{arith}
 use lib.Dec.{T, eqb}
 use lib.ListN.{length}
 use borrow.Author.Tests.{eqb-true}
-use Rattle.fields.specs.declared.field.Counts.{Counts}
-use Rattle.frame_tests.specs.declared.tests.Text.TheVariants.{Query, Table as TableText}
-use Rattle.first_reading.specs.declared.first.Reading.TheVariants.{Accepted}
-use Rattle.first_reading.specs.First.{frames_of}
-use Rattle.second_reading.specs.Second.{reading}
+use Rattle.running.specs.Counts.{Counts}
+use Rattle.running.specs.Text.TheVariants.{Query, Table as TableText}
+use Rattle.running.specs.Reading.TheVariants.{Accepted}
+use Rattle.running.specs.First.{frames_of}
+use Rattle.running.specs.Second.{reading}
 use Rattle.model.proofs.Bools.{either}
 use Rattle.model.specs.Atoms.{Operand, local, global, wild, local_of, Atom, Plain, Lit, LitBind, Eq, EqGlobal, Pred, Variadic, vars_in, lits_in, is_run}
 use Rattle.model.specs.Bound.{is_in}
 use Rattle.model.specs.Scheduling.{atom_of}
 use Rattle.model.proofs.Lines.{number_in}
 use Rattle.model.specs.Matching.{InShapes, GlobalsSet, mentions_seq, any, Given}
-use Rattle.records.specs.Items.{Each}
-use Rattle.plans.specs.StepFrames.{OperandFits, AtomFits}
-use Rattle.plan_facts.specs.QueryPlans.{atoms_of, count_at}
-use Rattle.plan_facts.proofs.QueryPlansLaws.{query_fits}
-use Rattle.cost.proofs.Tame.{atoms_tame}
+use Rattle.running.specs.Items.{Each}
+use Rattle.running.specs.StepFrames.{OperandFits, AtomFits}
+use Rattle.fitting.specs.QueryPlans.{atoms_of, count_at}
+use Rattle.fitting.proofs.QueryPlansLaws.{query_fits}
+use Rattle.fitting.proofs.Tame.{atoms_tame}
 use Rattle.running.specs.Tables.{table_of}
 use Rattle.running.proofs.DistinctRows.{distinct_rows}
 use Rattle.running.proofs.TableRows.{proper_rows}

@@ -11,7 +11,7 @@ use Rattle.model.specs.Atoms.{Atom, Plain, Lit, LitBind, Eq, EqGlobal, Pred, Var
 use Rattle.model.proofs.Scheduled.{mem_at}
 use Rattle.model.specs.Waiting.{is_eq, Unbound, unbound_eq}
 use Rattle.model.proofs.Unlowered.{never_lowered}
-use Rattle.plan_facts.specs.QueryPlans.{atoms_of}
+use Rattle.fitting.specs.QueryPlans.{atoms_of}
 use Rattle.fair_plans.specs.Terms.{EqualitiesLowered, Runs}
 
 no_deps : (a : Atom) → is_run a ≡ true → (d : ℕ) → Memᴰ d (deps_of a) → ⊥

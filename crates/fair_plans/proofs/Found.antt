@@ -8,12 +8,12 @@ use mathlib.Core.List.Memᴰ
 use mathlib.Core.List.{List, [], map, flat_map, Memᴰ}
 use native.Mathlib.Omega.{arith}
 use lib.ListN.{length}
-use Rattle.kinds.specs.Kinds.{plan, table}
-use Rattle.first_reading.specs.First.{frames_of}
-use Rattle.frame_tests.specs.declared.tests.Text.TheVariants.{Query, Plan, Table}
-use Rattle.first_reading.specs.declared.first.Reading.{Reading}
-use Rattle.first_reading.specs.declared.first.Reading.TheVariants.{Accepted, Refused}
-use Rattle.second_reading.specs.Second.{reading}
+use Rattle.running.specs.Kinds.{plan, table}
+use Rattle.running.specs.First.{frames_of}
+use Rattle.running.specs.Text.TheVariants.{Query, Plan, Table}
+use Rattle.running.specs.Reading.{Reading}
+use Rattle.running.specs.Reading.TheVariants.{Accepted, Refused}
+use Rattle.running.specs.Second.{reading}
 use Rattle.set_model.specs.Lists.{Pairs}
 use Rattle.model.proofs.ListsLaws.{pairs_map, pairs_of_map}
 use Rattle.model.specs.Atoms.{Step}
@@ -26,7 +26,7 @@ use Rattle.model.proofs.Carried.{EnvHas, runs_have}
 use Rattle.model.proofs.Lines.{number_in}
 use Rattle.model.proofs.Unlowered.{run_all_lowered}
 use Rattle.model.proofs.Guarantee.{made, all_of, schedule_runnable, schedule_exact, schedule_guaranteed}
-use Rattle.plan_facts.specs.QueryPlans.{atoms_of}
+use Rattle.fitting.specs.QueryPlans.{atoms_of}
 use Rattle.running.specs.Tables.{table_of, line_counts, plan_steps}
 use Rattle.running.specs.Validation.{Verdict, Passed, Invalid, and_then, of_reading, shapes_from, steps_pass, validation, named_joins, validation_with}
 use Rattle.running.specs.Run.{unbound, events, line_text, ran as result, run}

@@ -16,8 +16,8 @@ use Rattle.model.specs.Atoms.{Operand, local, global, wild, Atom, Plain, Lit, Li
 use Rattle.model.specs.Bound.{Bound, has, add}
 use Rattle.model.specs.Lowering.{pv_is_bound, pv_mark_bound, read_child, emit_read_children, child_lookups, join_lookups, Emitted, lower_eq, lower_eq_global, lower, Lowered, done, more}
 use Rattle.model.specs.Matching.{GlobalsSet}
-use Rattle.records.specs.Items.{Each}
-use Rattle.plans.proofs.Fitting.{each_append}
+use Rattle.running.specs.Items.{Each}
+use Rattle.running.proofs.Fitting.{each_append}
 use Rattle.running.specs.Validation.{global_of, lookup_globals, globals_of, all_given}
 use Rattle.fair_plans.specs.Terms.{atom_globals}
 

@@ -8,21 +8,21 @@ use native.Mathlib.Omega.{arith}
 use lib.ListN.{length, get_or}
 use Rattle.hexadecimal.specs.Digits.{bytes_of}
 use Rattle.hexadecimal.proofs.Bytes.{byte_back}
-use Rattle.first_reading.specs.First.{frames_of, first_line}
-use Rattle.frame_tests.specs.declared.tests.Text.TheVariants.{Query, Plan}
-use Rattle.first_reading.specs.declared.first.Reading.TheVariants.{Accepted}
-use Rattle.second_reading.specs.Second.{reading}
-use Rattle.reading_facts.proofs.Whole.{query_within}
+use Rattle.running.specs.First.{frames_of, first_line}
+use Rattle.running.specs.Text.TheVariants.{Query, Plan}
+use Rattle.running.specs.Reading.TheVariants.{Accepted}
+use Rattle.running.specs.Second.{reading}
+use Rattle.running.proofs.Whole.{query_within}
 use Rattle.model.specs.Atoms.{Step}
-use Rattle.plans.specs.StepFrames.{frame_of, header_of}
-use Rattle.plans.specs.PlanText.{plan_text}
-use Rattle.plans.proofs.Texts.{text_first}
-use Rattle.plan_facts.specs.QueryPlans.{atoms_of, count_at, ReadBack}
-use Rattle.plan_facts.proofs.QueryPlansLaws.{plan_read_back}
-use Rattle.cost.specs.Choice.{Memory, fresh, choose, planned}
-use Rattle.cost.proofs.ChoiceLaws.{choose_fair}
+use Rattle.running.specs.StepFrames.{frame_of, header_of}
+use Rattle.running.specs.PlanText.{plan_text}
+use Rattle.running.proofs.Texts.{text_first}
+use Rattle.fitting.specs.QueryPlans.{atoms_of, count_at, ReadBack}
+use Rattle.fitting.proofs.QueryPlansLaws.{plan_read_back}
+use Rattle.fitting.specs.Choice.{Memory, fresh, choose, planned}
+use Rattle.fitting.proofs.ChoiceLaws.{choose_fair}
 use Rattle.fitting.specs.Planner.{given, steps_of, tallied_of, rejected_of, plan_of}
-use Rattle.ordering.proofs.Accepted.{few_keys}
+use Rattle.fitting.proofs.Accepted.{few_keys}
 use Rattle.running.specs.Tables.{counts_in, line_counts, plan_steps, steps_in}
 use Rattle.fair_plans.specs.Terms.{plan_for, FairPlan, fair_steps, line_of}
 

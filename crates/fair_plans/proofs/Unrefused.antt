@@ -8,13 +8,13 @@ use mathlib.Core.List.{List, [], ◌∷◌, Memᴰ}
 use native.Mathlib.Omega.{arith}
 use lib.ListN.{replicate}
 use Rattle.base.specs.Choose.{pick}
-use Rattle.kinds.specs.Kinds.{plan, table}
-use Rattle.fields.specs.Limits.{variables_most}
-use Rattle.first_reading.specs.First.{frames_of}
-use Rattle.frame_tests.specs.declared.tests.Text.TheVariants.{Query, Table as TableText}
-use Rattle.first_reading.specs.declared.first.Reading.{Reading}
-use Rattle.first_reading.specs.declared.first.Reading.TheVariants.{Accepted, Refused}
-use Rattle.second_reading.specs.Second.{reading}
+use Rattle.running.specs.Kinds.{plan, table}
+use Rattle.running.specs.Limits.{variables_most}
+use Rattle.running.specs.First.{frames_of}
+use Rattle.running.specs.Text.TheVariants.{Query, Table as TableText}
+use Rattle.running.specs.Reading.{Reading}
+use Rattle.running.specs.Reading.TheVariants.{Accepted, Refused}
+use Rattle.running.specs.Second.{reading}
 use Rattle.model.proofs.Bools.{first, second}
 use Rattle.model.specs.Atoms.{Atom, Step, Row, Table, is_run}
 use Rattle.model.specs.Bound.{Bound, blank}
@@ -26,8 +26,8 @@ use Rattle.model.specs.Scheduling.{State, Chosen, Fair, atom_of, numbers, schedu
 use Rattle.model.proofs.Scheduled.{number_mem}
 use Rattle.model.proofs.Accepted.{plan_fits}
 use Rattle.model.proofs.Guarantee.{made, known_below, schedule_bound_first, schedule_runnable}
-use Rattle.records.specs.Items.{Each}
-use Rattle.plan_facts.specs.QueryPlans.{atoms_of}
+use Rattle.running.specs.Items.{Each}
+use Rattle.fitting.specs.QueryPlans.{atoms_of}
 use Rattle.running.specs.Tables.{table_of}
 use Rattle.running.specs.Validation.{Verdict, Passed, Invalid, and_then, of_reading, of_fault, row_fault, with_row, shapes_from, globals_of, all_given, steps_from, steps_pass, validation}
 use Rattle.fair_plans.specs.Terms.{FairPlan, fair_steps, atom_globals, GlobalsGiven, table_tests}

@@ -3,10 +3,10 @@
 use Rattle.std.specs.Prelude.{ℕ, ◌<◌, ◌≤◌, ◌≡◌, ◌≢◌, true, length, drop}
 use Rattle.std.proofs.Math.Option.{Option}
 use mathlib.Core.List.{List, [], ◌∷◌, ◌++◌, map, flat_map, Memᴰ}
-use Rattle.kinds.specs.Kinds.{table}
-use Rattle.first_reading.specs.First.{frames_of}
-use Rattle.frame_tests.specs.declared.tests.Text.TheVariants.{Table}
-use Rattle.second_reading.specs.Second.{reading}
+use Rattle.running.specs.Kinds.{table}
+use Rattle.running.specs.First.{frames_of}
+use Rattle.running.specs.Text.TheVariants.{Table}
+use Rattle.running.specs.Second.{reading}
 use Rattle.model.specs.Atoms.{Atom, Plain, Lit, LitBind, Eq, EqGlobal, Pred, Variadic, is_run, Step}
 use Rattle.model.specs.Waiting.{is_eq, Unbound}
 use Rattle.model.specs.Bound.{has}
@@ -15,7 +15,7 @@ use Rattle.model.specs.Scheduling.{State, Chosen, Fair, atom_of, numbers, schedu
 use Rattle.model.specs.Matching.{Line, Counts, Exact, SameAtoms}
 use Rattle.model.specs.Limits.{Done}
 use Rattle.model.specs.Running.{Mode, founds, attempts}
-use Rattle.plan_facts.specs.QueryPlans.{atoms_of, count_at, text_for}
+use Rattle.fitting.specs.QueryPlans.{atoms_of, count_at, text_for}
 use Rattle.fitting.specs.Planner.{plan_of}
 use Rattle.running.specs.Tables.{table_of}
 use Rattle.running.specs.Validation.{Verdict, and_then, of_reading, shapes_from, global_of, all_given}

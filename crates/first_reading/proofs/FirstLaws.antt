@@ -18,18 +18,18 @@ use Rattle.hex_lines.specs.Decoding.{Room, Decodes}
 use Rattle.hex_lines.proofs.Cuts.{HexLine, hex_found, all_rest, end_is, cut}
 use Rattle.hex_lines.specs.declared.decode.Found.{Found}
 use Rattle.hex_lines.specs.declared.decode.Found.TheVariants.{At, Nothing}
-use Rattle.frame_tests.specs.declared.tests.Text.{Text}
-use Rattle.frame_tests.specs.declared.tests.Text.TheVariants.{Query, Plan, Table}
+use Rattle.line_steps.specs.Text.{Text}
+use Rattle.line_steps.specs.Text.TheVariants.{Query, Plan, Table}
 use Rattle.first_reading.specs.declared.first.Reading.{Reading}
 use Rattle.first_reading.specs.declared.first.Reading.TheVariants.{Accepted, Refused}
-use Rattle.fields.specs.Limits.{text_most}
-use Rattle.frames.specs.Frames.{frame_length}
-use Rattle.frames.specs.Sheet.{frame_at, frames_in, laid_out, Whole}
-use Rattle.frame_tests.specs.Faults.{is_counted, counted, frame_fault}
+use Rattle.line_steps.specs.Limits.{text_most}
+use Rattle.line_steps.specs.Frames.{frame_length}
+use Rattle.line_steps.specs.Sheet.{frame_at, frames_in, laid_out, Whole}
+use Rattle.line_steps.specs.Faults.{is_counted, counted, frame_fault}
 use Rattle.first_reading.specs.First.{frames_of, line_fault, at_end, or_else, first_lines, first_from, first_line, steps_say, steps_right, empty_text, first_reading, sheet_size, SheetRoom, Sheet, Lays, LinesLaid, FirstLaid}
 use Rattle.first_reading.proofs.ReadingLaws.{or_stops}
-use Rattle.frame_tests.proofs.FaultLaws.{fault_long}
-use Rattle.frames.proofs.SheetLaws.{no_frames, frame_before, frames_laid, laid_more, whole_more}
+use Rattle.line_steps.proofs.FaultLaws.{fault_long}
+use Rattle.line_steps.proofs.SheetLaws.{no_frames, frame_before, frames_laid, laid_more, whole_more}
 
 -- ---- the lines in turn
 

@@ -10,11 +10,11 @@ use Rattle.hex_lines.specs.Lines.{hex_line_of}
 use Rattle.hex_lines.specs.Decoding.{Room, behind, Passes}
 use Rattle.hex_lines.specs.declared.decode.Found.{Found}
 use Rattle.hex_lines.specs.declared.decode.Found.TheVariants.{At, Nothing}
-use Rattle.frame_tests.specs.declared.tests.Text.{Text}
+use Rattle.line_steps.specs.Text.{Text}
 use Rattle.line_steps.specs.declared.stand.Stand.{Stand}
 use Rattle.first_reading.specs.declared.first.Reading.TheVariants.{Accepted, Refused}
-use Rattle.fields.specs.Limits.{text_most}
-use Rattle.frame_tests.specs.Faults.{counted, frame_fault}
+use Rattle.line_steps.specs.Limits.{text_most}
+use Rattle.line_steps.specs.Faults.{counted, frame_fault}
 use Rattle.first_reading.specs.First.{SheetRoom, LinesLaid}
 use Rattle.line_steps.specs.Steps.{at_start, by_fault, after_line, Few, LineRoom}
 use Rattle.first_reading.specs.Stands.{reading_of}

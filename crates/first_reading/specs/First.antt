@@ -3,11 +3,11 @@ use Rattle.std.specs.Prelude.{ℕ, zero, suc, ◌+◌, ◌-◌, ◌*◌, ◌/◌
 use Rattle.base.specs.Choose.{pick}
 use Rattle.hexadecimal.specs.Digits.{bytes_of, short_at}
 use Rattle.hex_lines.specs.Lines.{split, is_hex, end_of}
-use Rattle.fields.specs.Limits.{text_most}
-use Rattle.frames.specs.Sheet.{frame_at, frames_in, Whole}
-use Rattle.frame_tests.specs.declared.tests.Text.{Text}
-use Rattle.frame_tests.specs.declared.tests.Text.TheVariants.{Query, Plan, Table}
-use Rattle.frame_tests.specs.Faults.{counted, frame_fault}
+use Rattle.line_steps.specs.Limits.{text_most}
+use Rattle.line_steps.specs.Sheet.{frame_at, frames_in, Whole}
+use Rattle.line_steps.specs.Text.{Text}
+use Rattle.line_steps.specs.Text.TheVariants.{Query, Plan, Table}
+use Rattle.line_steps.specs.Faults.{counted, frame_fault}
 use Rattle.first_reading.specs.declared.first.Reading.{Reading}
 use Rattle.first_reading.specs.declared.first.Reading.TheVariants.{Accepted, Refused}
 

@@ -4,11 +4,11 @@ ghost use Rattle.first_reading.specs.First.{steps_right, empty_text, sheet_size,
 ghost use Rattle.first_reading.specs.Stands.{reading_of};
 ghost use Rattle.hexadecimal.specs.Digits.{short_at};
 
-use fields::field::wide_short;
-use frame_tests::tests::Text;
-use frames::frame::frame_at;
 use hex_lines::reader::{decode_next, position, reader_at};
 use hexadecimal::short_at;
+use line_steps::fields::field::wide_short;
+use line_steps::frame_tests::tests::Text;
+use line_steps::frames::frame::frame_at;
 use line_steps::stand::{Stand, after_line, at_start};
 
 // What a reading finds.

@@ -2,3 +2,5 @@
 #![tactic(auto)]
 
 pub mod first;
+
+pub use line_steps::frame_tests;

@@ -8,31 +8,31 @@ use lib.Dec.{leb}
 use lib.ListN.{length, get_or, take, drop}
 use lib.Seq.{sets-eq, get_or-take, length-take-le}
 use borrow.Author.Tests.{lt-ltb, le-ltb, leb-true, leb-false, le-leb, not-true, not-false}
-use Rattle.frames.specs.Sheet.{frames_in}
-use Rattle.frame_tests.specs.declared.tests.Text.TheVariants.{Query}
-use Rattle.first_reading.specs.declared.first.Reading.TheVariants.{Accepted}
-use Rattle.second_reading.specs.Second.{counts_in, reading}
+use Rattle.plan_text.specs.Sheet.{frames_in}
+use Rattle.plan_text.specs.Text.TheVariants.{Query}
+use Rattle.plan_text.specs.Reading.TheVariants.{Accepted}
+use Rattle.plan_text.specs.Second.{counts_in, reading}
 use Rattle.model.specs.Atoms.{Step}
 use Rattle.model.specs.Bound.{blank}
 use Rattle.model.proofs.ListsLaws.{get_d_mem}
 use Rattle.model.proofs.TabulateLaws.{tabulate_mem}
 use Rattle.model.specs.Scheduling.{State, atom_of, numbers}
-use Rattle.cost.specs.Choice.{planned, remembered}
-use Rattle.plans.specs.StepFrames.{frame_of, header_of}
-use Rattle.plans.specs.PlanText.{text_of, text_length, plan_text, plan_most}
-use Rattle.plans.proofs.PlanRead.{plan_length}
-use Rattle.passes.specs.Eager.{Located, sheet_atoms}
-use Rattle.placing.specs.Places.{Places}
-use Rattle.scheduling.specs.Rounds.{Scheduling}
-use Rattle.scheduling.specs.declared.schedule.Scheduled.{Scheduled}
-use Rattle.writing.specs.Steps.{steps_along, count_along, Ordered}
-use Rattle.writing.proofs.CountLaws.{lowered_steps, lowered_count}
-use Rattle.output.specs.Written.{written, PutsFrames}
+use Rattle.plan_text.specs.Choice.{planned, remembered}
+use Rattle.plan_text.specs.StepFrames.{frame_of, header_of}
+use Rattle.plan_text.specs.PlanText.{text_of, text_length, plan_text, plan_most}
+use Rattle.plan_text.proofs.PlanRead.{plan_length}
+use Rattle.plan_text.specs.Eager.{Located, sheet_atoms}
+use Rattle.gathering.specs.Places.{Places}
+use Rattle.gathering.specs.Rounds.{Scheduling}
+use Rattle.gathering.specs.Scheduled.{Scheduled}
+use Rattle.plan_text.specs.Steps.{steps_along, count_along, Ordered}
+use Rattle.plan_text.proofs.CountLaws.{lowered_steps, lowered_count}
+use Rattle.plan_text.specs.Written.{written, PutsFrames}
 use Rattle.fitting.specs.Planner.{Plan, plan_with, fitted}
 use Rattle.fitting.specs.Promised.{with_read_back}
 use Rattle.fitting.specs.Entry.{plan_on, planned_result}
-use Rattle.ordering.specs.Accepts.{Accepts}
-use Rattle.ordering.proofs.OrderLaws.{sheet_atoms_lem, sheet_items, sheet_keys, places_located}
+use Rattle.gathering.specs.Accepts.{Accepts}
+use Rattle.gathering.proofs.OrderLaws.{sheet_atoms_lem, sheet_items, sheet_keys, places_located}
 use Rattle.fitting.specs.declared.fit.Planned.TheVariants.{Written as Wrote, Refused as Refuses}
 
 -- the plan of a sheet is that of its query by all its frames

@@ -7,18 +7,18 @@ use mathlib.Core.Option.{Option, some}
 use mathlib.Core.List.{List, ◌++◌}
 use native.Mathlib.Omega.{arith}
 use Rattle.base.specs.Choose.{pick}
-use Rattle.kinds.specs.Kinds.{query, table}
-use Rattle.frames.specs.Sheet.{frames_in}
-use Rattle.frame_tests.specs.declared.tests.Text.TheVariants.{Query, Table}
-use Rattle.first_reading.specs.First.{frames_of, Sheet}
-use Rattle.first_reading.specs.declared.first.Reading.{Reading}
-use Rattle.first_reading.specs.declared.first.Reading.TheVariants.{Accepted, Refused}
-use Rattle.second_reading.specs.Second.{reading, query_reading}
-use Rattle.second_reading.proofs.QueryLaws.{query_accepted}
-use Rattle.reading_facts.proofs.AnswersLaws.{refused_number, query_number}
-use Rattle.reading_facts.proofs.FewLines.{few_lines, query_few_lines}
-use Rattle.given.specs.Asks.{asks_table}
-use Rattle.given.specs.Sampled.{sampled_from}
+use Rattle.plan_text.specs.Kinds.{query, table}
+use Rattle.plan_text.specs.Sheet.{frames_in}
+use Rattle.plan_text.specs.Text.TheVariants.{Query, Table}
+use Rattle.plan_text.specs.First.{frames_of, Sheet}
+use Rattle.plan_text.specs.Reading.{Reading}
+use Rattle.plan_text.specs.Reading.TheVariants.{Accepted, Refused}
+use Rattle.plan_text.specs.Second.{reading, query_reading}
+use Rattle.plan_text.proofs.QueryLaws.{query_accepted}
+use Rattle.gathering.proofs.AnswersLaws.{refused_number, query_number}
+use Rattle.gathering.proofs.FewLines.{few_lines, query_few_lines}
+use Rattle.plan_text.specs.Asks.{asks_table}
+use Rattle.plan_text.specs.Sampled.{sampled_from}
 use Rattle.gathering.specs.Handed.{handed_if}
 use Rattle.gathering.specs.Gathered.{Asks}
 use Rattle.fitting.specs.Planner.{is_handed, table_text, given, table_reading, or_refused, after_readings}

@@ -1,8 +1,8 @@
 -- The answers of the code, in document 01's numbers, and the plan of a sheet.
 use Rattle.std.specs.Prelude.{ℕ, List}
-use Rattle.frames.specs.Sheet.{frame_at, frames_in}
-use Rattle.cost.specs.QueryAtoms.{atoms_in}
-use Rattle.cost.specs.Choice.{planned, remembered}
+use Rattle.plan_text.specs.Sheet.{frame_at, frames_in}
+use Rattle.plan_text.specs.QueryAtoms.{atoms_in}
+use Rattle.plan_text.specs.Choice.{planned, remembered}
 use Rattle.fitting.specs.Planner.{Plan, plan_by, Answer, writes, refusal, Result}
 use Rattle.fitting.specs.declared.fit.Planned.{Planned}
 use Rattle.fitting.specs.declared.fit.Planned.TheVariants.{Written as Wrote, Refused}

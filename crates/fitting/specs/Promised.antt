@@ -2,19 +2,19 @@
 use Rattle.std.specs.Prelude.{ℕ, ◌≡◌, refl, true, List, []}
 use Rattle.std.proofs.Math.Option.{Option}
 use Rattle.std.proofs.Common.{arith}
-use Rattle.first_reading.specs.First.{frames_of}
-use Rattle.frame_tests.specs.declared.tests.Text.TheVariants.{Query}
-use Rattle.first_reading.specs.declared.first.Reading.TheVariants.{Accepted}
-use Rattle.second_reading.specs.Second.{reading}
+use Rattle.plan_text.specs.First.{frames_of}
+use Rattle.plan_text.specs.Text.TheVariants.{Query}
+use Rattle.plan_text.specs.Reading.TheVariants.{Accepted}
+use Rattle.plan_text.specs.Second.{reading}
 use Rattle.model.specs.Reading.{bound_first}
 use Rattle.model.proofs.Guarantee.{schedule_bound_first}
-use Rattle.cost.specs.QueryAtoms.{atoms_in}
-use Rattle.cost.specs.Choice.{fresh, choose, planned, remembered}
-use Rattle.cost.proofs.ChoiceLaws.{choose_fair}
-use Rattle.plan_facts.specs.QueryPlans.{ReadBack}
-use Rattle.plan_facts.proofs.QueryPlansLaws.{plan_read_back}
+use Rattle.plan_text.specs.QueryAtoms.{atoms_in}
+use Rattle.plan_text.specs.Choice.{fresh, choose, planned, remembered}
+use Rattle.plan_text.proofs.ChoiceLaws.{choose_fair}
+use Rattle.gathering.specs.QueryPlans.{ReadBack}
+use Rattle.gathering.proofs.QueryPlansLaws.{plan_read_back}
 use Rattle.fitting.specs.Planner.{given, steps_of, tallied_of, rejected_of}
-use Rattle.ordering.proofs.Accepted.{few_keys}
+use Rattle.gathering.proofs.Accepted.{few_keys}
 
 -- "no step of a plan reads a variable that no earlier step has bound", all 14 kinds
 pub bound_before_read : (x : List ℕ) (t : Option (List ℕ)) → bound_first [] [] (steps_of x t) ≡ true

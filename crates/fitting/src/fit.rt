@@ -1,14 +1,14 @@
 // The plan in the order that was found, where it fits.
 ghost use Rattle.std.specs.Prelude.{◌≡◌, length, leb};
-ghost use Rattle.placing.specs.Places.{Places};
-ghost use Rattle.scheduling.specs.Rounds.{Scheduling};
+ghost use Rattle.gathering.specs.Places.{Places};
+ghost use Rattle.gathering.specs.Rounds.{Scheduling};
 ghost use Rattle.fitting.specs.Planner.{fitted};
-ghost use Rattle.ordering.specs.Accepts.{Accepts};
+ghost use Rattle.gathering.specs.Accepts.{Accepts};
 ghost use Rattle.fitting.specs.Entry.{plan_on, planned_result};
 
+use gathering::scheduling::schedule::Scheduled;
 use plan_text::text::{plan_size, write_plan};
-use scheduling::schedule::Scheduled;
-use writing::steps::count_steps;
+use plan_text::writing::steps::count_steps;
 
 #[derive(Clone, Copy)]
 pub enum Planned {

@@ -2,3 +2,7 @@
 #![tactic(auto)]
 
 pub mod fit;
+
+pub use gathering;
+pub use gathering::{ordering, placing};
+pub use plan_text::{buckets, first_reading, given, reading};

@@ -1,1 +1,6 @@
 pub mod Keys
+pub use Rattle.frames.specs.Among
+pub use Rattle.frames.specs.Frames
+pub use Rattle.frames.specs.Kinds
+pub use Rattle.frames.specs.Rows
+pub use Rattle.frames.specs.Sheet

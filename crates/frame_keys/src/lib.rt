@@ -2,3 +2,6 @@
 #![tactic(auto)]
 
 pub mod keys;
+
+pub use frames;
+pub use frames::{fields, kinds};

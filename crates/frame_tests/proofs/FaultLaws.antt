@@ -8,8 +8,8 @@ use lib.ListN.{length, get_or}
 use lib.Dec.{eqb}
 use borrow.Author.Tests.{eq-eqb, ne_eqb, eqb-true, not-true, not-false}
 use Rattle.base.specs.Choose.{pick}
-use Rattle.fields.specs.declared.field.Test.TheVariants.{Limits}
-use Rattle.fields.specs.Fields.{field_passes, no_counts}
+use Rattle.frames.specs.Test.TheVariants.{Limits}
+use Rattle.frames.specs.Fields.{field_passes, no_counts}
 use Rattle.frames.specs.Frames.{frame_length, frame_passes}
 use Rattle.frame_tests.specs.declared.tests.Text.{Text}
 use Rattle.frame_tests.specs.Faults.{belongs, has_room, frame_fault}

@@ -1,10 +1,10 @@
 -- The tests 2, 3 and 4 of one frame of a query, a plan or a table.
 use Rattle.std.specs.Prelude.{ℕ, ◌+◌, List, Bool, true, false, not, length, get_or, ltb, leb, eqb}
 use Rattle.base.specs.Choose.{pick}
-use Rattle.fields.specs.Limits.{atoms_most, rows_most}
-use Rattle.fields.specs.Fields.{field_passes, no_counts}
-use Rattle.fields.specs.declared.field.Test.TheVariants.{Limits}
-use Rattle.kinds.specs.Kinds.{kind_at, query, plan, table}
+use Rattle.frames.specs.Limits.{atoms_most, rows_most}
+use Rattle.frames.specs.Fields.{field_passes, no_counts}
+use Rattle.frames.specs.Test.TheVariants.{Limits}
+use Rattle.frames.specs.Kinds.{kind_at, query, plan, table}
 use Rattle.frames.specs.Frames.{frame_length, frame_passes}
 use Rattle.frame_tests.specs.declared.tests.Text.{Text}
 use Rattle.frame_tests.specs.declared.tests.Text.TheVariants.{Query, Plan, Table}

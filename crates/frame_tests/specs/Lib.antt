@@ -1,1 +1,4 @@
 pub mod Faults
+pub use Rattle.frames.specs.Frames
+pub use Rattle.frames.specs.Limits
+pub use Rattle.frames.specs.Sheet

@@ -2,3 +2,6 @@
 #![tactic(auto)]
 
 pub mod tests;
+
+pub use frames;
+pub use frames::fields;

@@ -1,11 +1,11 @@
 // The tests 2, 3 and 4 of a frame: its kind and place, its length, its limits.
 ghost use Rattle.std.specs.Prelude.{◌≡◌, ◌<◌};
-ghost use Rattle.kinds.specs.Kinds.{kind_at};
+ghost use Rattle.frames.specs.Kinds.{kind_at};
 ghost use Rattle.frame_tests.specs.Faults.{text_number, is_header, header_first, in_place, belongs as belongs_to, is_atom, is_row, is_counted, counted_most, counted as counted_of, has_room, frame_fault};
 
 use frames::frame::{frame_length, limits_pass};
+use frames::kinds::table::{low_byte, row};
 use hexadecimal::byte_at;
-use kinds::table::{low_byte, row};
 
 // Which of the three texts is read.
 #[derive(Clone, Copy)]

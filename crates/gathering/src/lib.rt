@@ -3,3 +3,6 @@
 
 pub mod beside;
 pub mod gather;
+
+pub use ordering;
+pub use ordering::{placing, scheduling};

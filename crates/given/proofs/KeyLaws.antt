@@ -7,8 +7,8 @@ use native.Mathlib.Omega.{arith}
 use lib.ListN.{length, take}
 use lib.Dec.{leb, ltb}
 use borrow.Author.Tests.{ltb-true, leb-true, le-leb, lt-leb}
-use Rattle.kinds.specs.Kinds.{kind_at, query}
-use Rattle.frame_keys.specs.Keys.{find, is_found}
+use Rattle.buckets.specs.Kinds.{kind_at, query}
+use Rattle.buckets.specs.Keys.{find, is_found}
 use Rattle.buckets.specs.RowIndex.{rows_at}
 use Rattle.given.specs.Asks.{asks_table}
 use Rattle.given.specs.Given.{QueryKey, query_part}

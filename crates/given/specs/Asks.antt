@@ -1,6 +1,6 @@
 -- Note 3: "query frame 24, without fields, takes samples from a table text".
 use Rattle.std.specs.Prelude.{ℕ, Bool, List, [], ◌∷◌}
-use Rattle.frame_keys.specs.Keys.{find, is_found}
+use Rattle.buckets.specs.Keys.{find, is_found}
 
 -- the frames fs have it
 abbrev pub asks_table : List (List ℕ) → Bool

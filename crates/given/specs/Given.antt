@@ -1,9 +1,9 @@
 -- What a query is planned by: its frames, and behind them those of a table where frame 24 takes samples from it.
 use Rattle.std.specs.Prelude.{ℕ, ◌≡◌, true, List, length, get_or, take, leb}
 use Rattle.base.specs.Choose.{pick}
-use Rattle.kinds.specs.Kinds.{kind_at, query}
-use Rattle.frames.specs.Sheet.{frames_in}
-use Rattle.indexing.specs.Index.{Proper, Finds}
+use Rattle.buckets.specs.Kinds.{kind_at, query}
+use Rattle.buckets.specs.Sheet.{frames_in}
+use Rattle.buckets.specs.Index.{Proper, Finds}
 use Rattle.buckets.specs.RowIndex.{rows_at, RowsIndexed, rows_on}
 use Rattle.given.specs.Asks.{asks_table}
 

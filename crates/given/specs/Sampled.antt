@@ -1,9 +1,9 @@
 -- What samples are taken from. Note 5: classes are the same when their leaders are "in runs, matches and samples"; rows passed over are "unsampled".
 use Rattle.std.specs.Prelude.{ℕ, List, map}
 use Rattle.base.specs.Choose.{pick}
-use Rattle.second_reading.specs.Leading.{has_leaders}
-use Rattle.records.specs.Rows.{row_frame}
-use Rattle.records.specs.Leaders.{standing}
+use Rattle.buckets.specs.Leading.{has_leaders}
+use Rattle.buckets.specs.Rows.{row_frame}
+use Rattle.buckets.specs.Leaders.{standing}
 
 -- the frames of a table: as they are, and of one that has frames 34 those of the rows that stand, with leaders
 unfoldable pub sampled_from : List (List ℕ) → List (List ℕ)

@@ -2,3 +2,5 @@
 #![tactic(auto)]
 
 pub mod search;
+
+pub use buckets::fields;

@@ -1,12 +1,12 @@
 // A frame of the query, found by its key among all that is given.
 ghost use Rattle.std.specs.Prelude.{◌≡◌};
-ghost use Rattle.frames.specs.Sheet.{frames_in};
-ghost use Rattle.frame_keys.specs.Keys.{find as find_of};
+ghost use Rattle.buckets.specs.Sheet.{frames_in};
+ghost use Rattle.buckets.specs.Keys.{find as find_of};
 ghost use Rattle.given.specs.Asks.{asks_table as asks_table_of};
 ghost use Rattle.given.specs.Given.{QueryKey, query_part, Keyed, Given};
 
 use buckets::index::ROWS_AT;
-use indexing::index::find_where;
+use buckets::indexing::index::find_where;
 
 // Of an index the part for the query's frames.
 fn query_part(index: &[u16]) -> &[u16]

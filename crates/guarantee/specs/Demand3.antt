@@ -9,18 +9,18 @@ use Rattle.std.specs.Prelude.{ℕ, ◌≤◌, ◌≡◌, refl, ◌⊎◌, true, 
 use Rattle.std.proofs.Math.Option.{Option, none}
 use mathlib.Core.List.{List, ◌++◌, Memᴰ, Perm}
 use Rattle.std.proofs.Common.{le-ltb}
-use Rattle.kinds.specs.Kinds.{plan as plan_text}
-use Rattle.frame_tests.specs.declared.tests.Text.TheVariants.{Query}
-use Rattle.first_reading.specs.declared.first.Reading.TheVariants.{Accepted}
-use Rattle.second_reading.specs.Second.{reading, query_reading}
+use Rattle.fair_plans.specs.Kinds.{plan as plan_text}
+use Rattle.fair_plans.specs.Text.TheVariants.{Query}
+use Rattle.fair_plans.specs.Reading.TheVariants.{Accepted}
+use Rattle.fair_plans.specs.Second.{reading, query_reading}
 use Rattle.model.specs.Atoms.{Atom, is_run}
 use Rattle.model.specs.Matching.{InShapes}
 use Rattle.model.proofs.Alike.{alike, exact_same}
-use Rattle.plan_facts.specs.QueryPlans.{atoms_of}
-use Rattle.fitting.specs.Planner.{is_handed, table_reading, plan}
-use Rattle.running.specs.Tables.{table_of}
-use Rattle.running.specs.Validation.{Passed, Invalid, validation}
-use Rattle.running.specs.Run.{Result, run}
+use Rattle.fair_plans.specs.QueryPlans.{atoms_of}
+use Rattle.fair_plans.specs.Planner.{is_handed, table_reading, plan}
+use Rattle.fair_plans.specs.Tables.{table_of}
+use Rattle.fair_plans.specs.Validation.{Passed, Invalid, validation}
+use Rattle.fair_plans.specs.Run.{Result, run}
 use Rattle.fair_plans.specs.Terms.{plan_for, FairPlan, line_of, EqualitiesLowered, Runs, GlobalsGiven, table_tests, Enough, Finds, Alike}
 use Rattle.fair_plans.proofs.PlanBack.{planner_fair}
 use Rattle.fair_plans.proofs.Equalities.{equalities_lowered}

@@ -3,20 +3,20 @@
 use Rattle.std.specs.Prelude.{ℕ, ◌+◌, ◌*◌, ◌<◌, ◌≡◌, false, List, length, get_or}
 use Rattle.std.proofs.Common.{arith, ne_eqb, eq-eqb}
 use Rattle.std.proofs.lemmas.Bool.{lt-leb}
-use Rattle.kinds.specs.Kinds.{kinds, kind_at}
-use Rattle.fields.specs.Fields.{field_passes, field_fits}
-use Rattle.frames.specs.Frames.{frame_length, pass_all}
-use Rattle.frame_tests.specs.Faults.{frame_fault}
-use Rattle.frame_tests.specs.declared.tests.Text.TheVariants.{Query, Plan}
-use Rattle.first_reading.specs.First.{frames_of}
-use Rattle.first_reading.specs.declared.first.Reading.TheVariants.{Accepted}
-use Rattle.second_reading.specs.Second.{reading}
-use Rattle.records.specs.Items.{Each}
-use Rattle.plans.proofs.PlanRead.{plan_frames_lem}
-use Rattle.plans.proofs.Longest.{schedule_plan}
-use Rattle.plans.proofs.Idempotent.{schedule_not}
-use Rattle.plan_facts.specs.QueryPlans.{atoms_of, count_at}
-use Rattle.plan_facts.proofs.QueryPlansLaws.{query_fits}
+use Rattle.fair_plans.specs.Kinds.{kinds, kind_at}
+use Rattle.fair_plans.specs.Fields.{field_passes, field_fits}
+use Rattle.fair_plans.specs.Frames.{frame_length, pass_all}
+use Rattle.fair_plans.specs.Faults.{frame_fault}
+use Rattle.fair_plans.specs.Text.TheVariants.{Query, Plan}
+use Rattle.fair_plans.specs.First.{frames_of}
+use Rattle.fair_plans.specs.Reading.TheVariants.{Accepted}
+use Rattle.fair_plans.specs.Second.{reading}
+use Rattle.fair_plans.specs.Items.{Each}
+use Rattle.fair_plans.proofs.PlanRead.{plan_frames_lem}
+use Rattle.fair_plans.proofs.Longest.{schedule_plan}
+use Rattle.fair_plans.proofs.Idempotent.{schedule_not}
+use Rattle.fair_plans.specs.QueryPlans.{atoms_of, count_at}
+use Rattle.fair_plans.proofs.QueryPlansLaws.{query_fits}
 use Rattle.fair_plans.specs.Terms.{FairPlan, fair_steps}
 
 -- "00 for false, which the planner always writes": in every plan of an accepted query, whatever the costs and samples, the third byte of a frame 48

@@ -6,17 +6,17 @@
 use Rattle.std.specs.Prelude.{ℕ, ◌≡◌, true}
 use Rattle.std.proofs.Math.Option.{none, some}
 use mathlib.Core.List.{List, Memᴰ}
-use Rattle.frame_tests.specs.declared.tests.Text.TheVariants.{Query}
-use Rattle.first_reading.specs.declared.first.Reading.TheVariants.{Accepted}
-use Rattle.second_reading.specs.Second.{reading}
+use Rattle.fair_plans.specs.Text.TheVariants.{Query}
+use Rattle.fair_plans.specs.Reading.TheVariants.{Accepted}
+use Rattle.fair_plans.specs.Second.{reading}
 use Rattle.model.specs.Refusing.{has_join}
 use Rattle.model.specs.Matching.{InShapes, Line, IsMatch}
 use Rattle.model.specs.NewRows.{UsesNew}
 use Rattle.model.proofs.Modes.{some_atom, under_uses, under_match, one_atom}
-use Rattle.plan_facts.specs.QueryPlans.{atoms_of}
-use Rattle.running.specs.Tables.{table_of, plan_steps}
-use Rattle.running.specs.Validation.{Passed, validation}
-use Rattle.running.specs.Run.{run}
+use Rattle.fair_plans.specs.QueryPlans.{atoms_of}
+use Rattle.fair_plans.specs.Tables.{table_of, plan_steps}
+use Rattle.fair_plans.specs.Validation.{Passed, validation}
+use Rattle.fair_plans.specs.Run.{run}
 use Rattle.fair_plans.specs.Terms.{FairPlan, line_of, Runs, Enough, Finds}
 use Rattle.fair_plans.proofs.Found.{given, finds}
 use Rattle.fair_plans.proofs.NewRows.{named_joined, under, atom_join}

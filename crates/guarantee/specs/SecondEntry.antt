@@ -3,17 +3,17 @@
 -- the crate running.) Proved from the lines' exactness.
 use Rattle.std.specs.Prelude.{ℕ, ◌≤◌, ◌≡◌, refl, List, map}
 use Rattle.std.proofs.Common.{sym, ◌∙◌, ap, subst, arith}
-use Rattle.frame_tests.specs.declared.tests.Text.TheVariants.{Query}
-use Rattle.first_reading.specs.declared.first.Reading.TheVariants.{Accepted}
-use Rattle.second_reading.specs.Second.{reading}
+use Rattle.fair_plans.specs.Text.TheVariants.{Query}
+use Rattle.fair_plans.specs.Reading.TheVariants.{Accepted}
+use Rattle.fair_plans.specs.Second.{reading}
 use Rattle.model.specs.Running.{Mode, Env, Event, runs, trace, attempts}
 use Rattle.model.specs.Matching.{InShapes, Line, line, IsMatch, Exact}
 use Rattle.model.specs.Limits.{Answer, SomeMatch, NoMatch, OutOfTries, Answers}
 use Rattle.model.proofs.Answered.{none_to, none_back, some_is}
-use Rattle.plan_facts.specs.QueryPlans.{atoms_of}
-use Rattle.running.specs.Tables.{table_of}
-use Rattle.running.specs.Validation.{Passed, validation_with}
-use Rattle.running.specs.Run.{unbound, events, match_line, Match, None, replied, Replies, rejects, answers}
+use Rattle.fair_plans.specs.QueryPlans.{atoms_of}
+use Rattle.fair_plans.specs.Tables.{table_of}
+use Rattle.fair_plans.specs.Validation.{Passed, validation_with}
+use Rattle.fair_plans.specs.Run.{unbound, events, match_line, Match, None, replied, Replies, rejects, answers}
 use Rattle.fair_plans.specs.Terms.{FairPlan, fair_steps, line_of, Runs}
 use Rattle.fair_plans.proofs.PlanBack.{plan_steps_lem, plan_counts_lem}
 use Rattle.fair_plans.proofs.Found.{tests_passed, events_are, lines_exact}

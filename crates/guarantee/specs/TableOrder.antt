@@ -5,15 +5,15 @@ use mathlib.Core.List.{List, [], ◌++◌, flat_map}
 use Rattle.std.specs.Float.Ieee.{of_int, of_bits, lt, mul, div, add}
 use Rattle.measure.specs.Bootstrap.{sum_from, mean, rejected, estimate_of}
 use Rattle.hex_lines.specs.Lines.{split}
-use Rattle.fields.specs.Fields.{field_passes}
-use Rattle.kinds.specs.Kinds.{kind_at}
-use Rattle.frames.specs.Among.{has_kinds}
-use Rattle.frames.specs.Frames.{pass_all}
-use Rattle.first_reading.specs.First.{frames_of}
-use Rattle.first_reading.specs.declared.first.Reading.TheVariants.{Accepted}
-use Rattle.frame_keys.specs.Keys.{begins, find}
-use Rattle.second_reading.specs.Second.{query_reading}
-use Rattle.reading_facts.specs.Ascii.{ascii}
+use Rattle.fair_plans.specs.Fields.{field_passes}
+use Rattle.fair_plans.specs.Kinds.{kind_at}
+use Rattle.fair_plans.specs.Among.{has_kinds}
+use Rattle.fair_plans.specs.Frames.{pass_all}
+use Rattle.fair_plans.specs.First.{frames_of}
+use Rattle.fair_plans.specs.Reading.TheVariants.{Accepted}
+use Rattle.fair_plans.specs.Keys.{begins, find}
+use Rattle.fair_plans.specs.Second.{query_reading}
+use Rattle.fair_plans.specs.Ascii.{ascii}
 use Rattle.model.specs.Bound.{put, has_all, blank}
 use Rattle.model.specs.Equality.{same_class, same_list}
 use Rattle.model.specs.Firsts.{is_among, firsts_from}
@@ -21,22 +21,22 @@ use Rattle.model.specs.Tabulate.{tabulate}
 use Rattle.model.specs.Lowering.{mark_all, emit_read_children, child_lookups, lower}
 use Rattle.model.specs.Scheduling.{unlowered, eager_pass, passes_up_to, rounds_up_to, atom_of}
 use Rattle.model.specs.Cheapest.{scan, cheapest}
-use Rattle.records.specs.Items.{items_at}
-use Rattle.records.specs.Rows.{row_of, rows_in}
-use Rattle.records.specs.Leaders.{led_rows, standing}
-use Rattle.given.specs.Sampled.{sampled_from}
-use Rattle.row_frames.specs.Wanted.{wanted}
-use Rattle.buckets.specs.Buckets.{numbers_from, strided, hits}
-use Rattle.query.specs.Statistics.{op_card, atom_card, base_card, denominator, by_child_pos, settings}
-use Rattle.table_samples.specs.TableSamples.{table_drivers, table_classes, op_restricted, table_probe}
-use Rattle.cost.specs.QueryAtoms.{operands_from, bytes_from, atom_of_frame, atoms_in, atom_frames}
-use Rattle.cost.specs.Emitters.{set_children, record_atom, record_emitters}
-use Rattle.cost.specs.Sampling.{probe_sum, draws_of, measure, is_known, after_estimate}
-use Rattle.cost.specs.Costs.{child_costs, estimate_cost}
-use Rattle.cost.specs.Choice.{planned, remembered}
-use Rattle.plans.specs.StepFrames.{frame_of}
-use Rattle.plans.specs.PlanText.{text_of, plan_text}
-use Rattle.fitting.specs.Planner.{is_handed, steps_of, plan_of}
+use Rattle.fair_plans.specs.Items.{items_at}
+use Rattle.fair_plans.specs.Rows.{row_of, rows_in}
+use Rattle.fair_plans.specs.Leaders.{led_rows, standing}
+use Rattle.fair_plans.specs.Sampled.{sampled_from}
+use Rattle.fair_plans.specs.Wanted.{wanted}
+use Rattle.fair_plans.specs.Buckets.{numbers_from, strided, hits}
+use Rattle.fair_plans.specs.Statistics.{op_card, atom_card, base_card, denominator, by_child_pos, settings}
+use Rattle.fair_plans.specs.TableSamples.{table_drivers, table_classes, op_restricted, table_probe}
+use Rattle.fair_plans.specs.QueryAtoms.{operands_from, bytes_from, atom_of_frame, atoms_in, atom_frames}
+use Rattle.fair_plans.specs.Emitters.{set_children, record_atom, record_emitters}
+use Rattle.fair_plans.specs.Sampling.{probe_sum, draws_of, measure, is_known, after_estimate}
+use Rattle.fair_plans.specs.Costs.{child_costs, estimate_cost}
+use Rattle.fair_plans.specs.Choice.{planned, remembered}
+use Rattle.fair_plans.specs.StepFrames.{frame_of}
+use Rattle.fair_plans.specs.PlanText.{text_of, plan_text}
+use Rattle.fair_plans.specs.Planner.{is_handed, steps_of, plan_of}
 use Rattle.fair_plans.specs.Terms.{plan_for}
 
 -- operator 1 first; then 2 and 3, of as many rows, over its child

@@ -3,14 +3,14 @@
 use Rattle.std.specs.Prelude.{ℕ, ◌≡◌, refl}
 use Rattle.std.proofs.Math.Option.{Option, none}
 use mathlib.Core.List.{List, Perm}
-use Rattle.frame_tests.specs.declared.tests.Text.TheVariants.{Query}
-use Rattle.first_reading.specs.declared.first.Reading.TheVariants.{Accepted}
-use Rattle.second_reading.specs.Second.{reading}
+use Rattle.fair_plans.specs.Text.TheVariants.{Query}
+use Rattle.fair_plans.specs.Reading.TheVariants.{Accepted}
+use Rattle.fair_plans.specs.Second.{reading}
 use Rattle.model.specs.Matching.{InShapes}
-use Rattle.plan_facts.specs.QueryPlans.{atoms_of}
-use Rattle.running.specs.Tables.{table_of}
-use Rattle.running.specs.Validation.{Passed, validation}
-use Rattle.running.specs.Run.{run}
+use Rattle.fair_plans.specs.QueryPlans.{atoms_of}
+use Rattle.fair_plans.specs.Tables.{table_of}
+use Rattle.fair_plans.specs.Validation.{Passed, validation}
+use Rattle.fair_plans.specs.Run.{run}
 use Rattle.fair_plans.specs.Terms.{plan_for, Runs, Enough, Finds, Alike}
 use Rattle.guarantee.specs.Demand3.{demand3, same_lines}
 

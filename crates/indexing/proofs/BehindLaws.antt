@@ -5,9 +5,9 @@ use mathlib.Core.List.{List, ◌++◌}
 use native.Mathlib.Omega.{arith}
 use lib.ListN.{length, drop, length-drop, length-append}
 use lib.Seq.{drop-append-le}
-use Rattle.frames.specs.Frames.{frame_length}
-use Rattle.frames.specs.Sheet.{frames_in}
-use Rattle.frames.proofs.SheetLaws.{length_some, length_before, frame_behind}
+use Rattle.frame_keys.specs.Frames.{frame_length}
+use Rattle.frame_keys.specs.Sheet.{frames_in}
+use Rattle.frame_keys.proofs.SheetLaws.{length_some, length_before, frame_behind}
 use Rattle.frame_keys.specs.Keys.{find, is_found}
 use Rattle.indexing.specs.Index.{slots_for, slot_of, Proper, place_of, older_of, latest, searched, found, Indexes, Indexed}
 use Rattle.indexing.proofs.SlotLaws.{slots_some, slot_below}

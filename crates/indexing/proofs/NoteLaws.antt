@@ -10,9 +10,9 @@ use lib.Seq.{get_or-set_same, get_or-set_other}
 use lib.Dec.{leb, eqb}
 use borrow.Author.Tests.{eq-eqb, ne_eqb, eqb-true, eqb-false, leb-true, leb-false}
 use Rattle.base.specs.Choose.{pick}
-use Rattle.frames.specs.Sheet.{frame_at}
-use Rattle.kinds.specs.Kinds.{kind_at}
-use Rattle.frames.specs.Frames.{kind_of, frame_length}
+use Rattle.frame_keys.specs.Sheet.{frame_at}
+use Rattle.frame_keys.specs.Kinds.{kind_at}
+use Rattle.frame_keys.specs.Frames.{kind_of, frame_length}
 use Rattle.frame_keys.specs.Keys.{begins, find, is_found, key_of, key_given}
 use Rattle.indexing.specs.Index.{slots_for, hashed, hash_of, slot_of, Slotted, Proper, place_of, older_of, latest, searched, found, Falling, given_by, entered, noted, entries_with, Indexes}
 use Rattle.indexing.proofs.SlotLaws.{slot_below, slotted_some, proper_slotted, begins_first, begins_hash, begins_part, key_slotted}

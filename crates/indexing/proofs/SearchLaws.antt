@@ -8,9 +8,9 @@ use lib.ListN.{length, get_or, take, drop, get_or-eq_default}
 use lib.Dec.{leb, ltb, eqb}
 use borrow.Author.Tests.{eq-eqb, ne_eqb, eqb-true, le-leb, not-true, not-false}
 use Rattle.base.specs.Choose.{pick}
-use Rattle.frames.specs.Sheet.{frame_at, frames_in}
-use Rattle.frames.specs.Frames.{frame_length}
-use Rattle.kinds.specs.Kinds.{kind_at}
+use Rattle.frame_keys.specs.Sheet.{frame_at, frames_in}
+use Rattle.frame_keys.specs.Frames.{frame_length}
+use Rattle.frame_keys.specs.Kinds.{kind_at}
 use Rattle.frame_keys.specs.Keys.{begins, find, is_found}
 use Rattle.indexing.specs.Index.{slots_for, hash_of, place_of, older_of, searched, found, Falling, given_by, Proper, Indexed}
 use Rattle.indexing.proofs.SlotLaws.{take_least, key_hash}

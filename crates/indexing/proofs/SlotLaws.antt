@@ -13,10 +13,10 @@ use borrow.Author.Tests.{lt-ltb, le-ltb, eq-eqb, ne_eqb, le-leb, lt-leb, eqb-tru
 use Rattle.base.specs.Choose.{pick}
 use Rattle.base.proofs.ChooseLaws.{pick_elim}
 use Rattle.base.specs.Table.{all}
-use Rattle.kinds.specs.Kinds.{Kind, kinds, kind_at, fixed_length}
-use Rattle.frames.specs.Frames.{kind_of, frame_length}
-use Rattle.fields.proofs.MatchLaws.{covers}
-use Rattle.kinds.proofs.KindLaws.{held, no_arm}
+use Rattle.frame_keys.specs.Kinds.{Kind, kinds, kind_at, fixed_length}
+use Rattle.frame_keys.specs.Frames.{kind_of, frame_length}
+use Rattle.frame_keys.proofs.MatchLaws.{covers}
+use Rattle.frame_keys.proofs.KindLaws.{held, no_arm}
 use Rattle.frame_keys.specs.Keys.{begins, key_of}
 use Rattle.indexing.specs.Index.{few_slots, many_slots, large_index, slots_for, hashes, hashed, mixed, hash_of, slot_of, Slotted, Proper}
 

@@ -3,9 +3,9 @@
 -- behind the slots: where its frame begins, and the number of the entry before it in its slot. A short index has few slots.
 use Rattle.std.specs.Prelude.{ℕ, zero, suc, ◌+◌, ◌*◌, ◌%◌, ◌<◌, ◌≤◌, ◌≡◌, Bool, false, List, [], ◌∷◌, length, get_or, take, drop, set, leb, ltb, eqb}
 use Rattle.base.specs.Choose.{pick}
-use Rattle.frames.specs.Sheet.{frame_at, frames_in}
-use Rattle.kinds.specs.Kinds.{kind_at}
-use Rattle.frames.specs.Frames.{kind_of, frame_length}
+use Rattle.frame_keys.specs.Sheet.{frame_at, frames_in}
+use Rattle.frame_keys.specs.Kinds.{kind_at}
+use Rattle.frame_keys.specs.Frames.{kind_of, frame_length}
 use Rattle.frame_keys.specs.Keys.{begins, find, is_found, key_of}
 
 -- few slots or many, and the numbers of the shortest index that has many

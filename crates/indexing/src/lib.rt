@@ -2,3 +2,6 @@
 #![tactic(auto)]
 
 pub mod index;
+
+pub use frame_keys;
+pub use frame_keys::{frames, kinds};

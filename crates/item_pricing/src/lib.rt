@@ -2,3 +2,7 @@
 #![tactic(auto)]
 
 pub mod items;
+
+pub use prices;
+pub use prices::{binding, lowering};
+pub use samples::{cost, memo_entries};

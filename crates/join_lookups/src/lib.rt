@@ -2,3 +2,6 @@
 #![tactic(auto)]
 
 pub mod operands;
+
+pub use step_bytes;
+pub use step_bytes::{binding, kinds, output};

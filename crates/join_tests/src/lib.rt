@@ -4,3 +4,5 @@
 pub mod arrays;
 pub mod joins;
 pub mod seen;
+
+pub use records::{fields, frame_tests, frames, indexing};

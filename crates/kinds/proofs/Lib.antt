@@ -1,1 +1,3 @@
 pub mod KindLaws
+pub use Rattle.fields.proofs.FieldLaws
+pub use Rattle.fields.proofs.MatchLaws

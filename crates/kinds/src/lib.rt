@@ -2,3 +2,5 @@
 #![tactic(auto)]
 
 pub mod table;
+
+pub use fields;

@@ -2,3 +2,5 @@
 #![tactic(auto)]
 
 pub mod leader;
+
+pub use records;

@@ -1,1 +1,5 @@
 pub mod EntryLaws
+pub use Rattle.fitting.proofs.Accepted
+pub use Rattle.fitting.proofs.GivenLaws
+pub use Rattle.fitting.proofs.LentLaws
+pub use Rattle.fitting.proofs.ReadingsLaws

@@ -2,3 +2,6 @@
 #![tactic(auto)]
 
 pub mod accepted;
+
+pub use fitting;
+pub use fitting::{gathering, reading};

@@ -2,3 +2,6 @@
 #![tactic(auto)]
 
 pub mod stand;
+
+pub use frame_tests;
+pub use frame_tests::{fields, frames};

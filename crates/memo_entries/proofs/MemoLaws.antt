@@ -11,8 +11,8 @@ use native.Mathlib.Numerals.{add-one}
 use borrow.Author.Tests.{eqb-true, lt-ltb, le-ltb}
 use Rattle.base.specs.Choose.{pick}
 use Rattle.model.proofs.Bools.{first, second}
-use Rattle.cost.specs.Sampling.{same_key, is_known}
-use Rattle.cost.specs.Memo.{unpack_key, entry_key, memo_at}
+use Rattle.plan_facts.specs.Sampling.{same_key, is_known}
+use Rattle.plan_facts.specs.Memo.{unpack_key, entry_key, memo_at}
 use Rattle.plan_facts.proofs.Remembered.{same_self}
 use Rattle.memo_entries.specs.Remembered.{Placed}
 

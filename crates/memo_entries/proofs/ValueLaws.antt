@@ -8,8 +8,8 @@ use borrow.Author.Tests.{eq-eqb, ne_eqb}
 use Rattle.base.proofs.Lists.{any_default}
 use Rattle.measure.specs.Selectivity.{zero64}
 use Rattle.measure.specs.declared.FanOut.TheVariants.{Measured, Unmeasured}
-use Rattle.cost.specs.Memo.{has_value}
-use Rattle.cost.specs.Costs.{or_measured}
+use Rattle.plan_facts.specs.Memo.{has_value}
+use Rattle.plan_facts.specs.Costs.{or_measured}
 use Rattle.memo_entries.specs.Remembered.{memo_value}
 
 module _ (ks : List ℕ) (xs : List Float) (i : ℕ) where

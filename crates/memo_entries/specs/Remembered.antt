@@ -4,10 +4,10 @@ use Rattle.std.proofs.Math.Option.{Option, none, some}
 use Rattle.measure.specs.Selectivity.{zero64}
 use Rattle.measure.specs.declared.FanOut.{FanOut}
 use Rattle.measure.specs.declared.FanOut.TheVariants.{Measured, Unmeasured}
-use Rattle.cost.specs.Sampling.{is_known}
-use Rattle.cost.specs.Memo.{unpack_key, memo_at}
-use Rattle.cost.specs.declared.draws.Measurement.{Measurement}
-use Rattle.cost.specs.declared.draws.Measurement.TheVariants.{NoDraws, Accepted, Rejected}
+use Rattle.plan_facts.specs.Sampling.{is_known}
+use Rattle.plan_facts.specs.Memo.{unpack_key, memo_at}
+use Rattle.plan_facts.specs.Measurement.{Measurement}
+use Rattle.plan_facts.specs.Measurement.TheVariants.{NoDraws, Accepted, Rejected}
 
 abbrev pub memo_value : Bool → Float → Option Float
 memo_value true x = some x

@@ -2,12 +2,12 @@
 ghost use Rattle.std.specs.Prelude.{◌≡◌, ◌*◌, ◌<◌, ◌≤◌, length, get_or};
 ghost use Rattle.measure.specs.Selectivity.{zero64};
 ghost use Rattle.measure.specs.declared.FanOut.TheVariants.{Unmeasured};
-ghost use Rattle.cost.specs.Memo.{has_value};
-ghost use Rattle.cost.specs.Costs.{or_measured};
+ghost use Rattle.plan_facts.specs.Memo.{has_value};
+ghost use Rattle.plan_facts.specs.Costs.{or_measured};
 ghost use Rattle.memo_entries.specs.Remembered.{memo_value, Placed, measured_fan, entry_of, fan_value};
 
-use cost::draws::Measurement;
 use measure::FanOut;
+use plan_facts::cost::draws::Measurement;
 
 // The most keys: 64 atoms of 16 items.
 pub const KEYS_MOST: usize = 1024;

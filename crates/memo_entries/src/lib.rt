@@ -2,3 +2,5 @@
 #![tactic(auto)]
 
 pub mod entry;
+
+pub use plan_facts::{cost, fields, query};

@@ -1,1 +1,3 @@
 pub mod NamedLaws
+pub use Rattle.modes.proofs.ModeLaws
+pub use Rattle.validation.proofs.PlanLaws

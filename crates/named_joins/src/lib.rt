@@ -2,3 +2,5 @@
 #![tactic(auto)]
 
 pub mod joins;
+
+pub use modes;

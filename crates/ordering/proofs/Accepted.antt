@@ -11,41 +11,41 @@ use lib.Dec.{eqb}
 use Rattle.base.specs.Choose.{pick}
 use Rattle.base.proofs.ChooseLaws.{both_hold}
 use Rattle.hexadecimal.specs.Digits.{short_at}
-use Rattle.fields.specs.Limits.{atoms_most, items_most, k_most, bootstrap_most}
-use Rattle.fields.specs.Fields.{field_passes, field_fits, no_counts}
-use Rattle.kinds.specs.Kinds.{kinds, kind_at, items_of}
-use Rattle.frames.specs.Frames.{kind_of, frame_passes}
-use Rattle.frame_tests.specs.Faults.{is_atom}
-use Rattle.first_reading.specs.First.{frames_of}
-use Rattle.fields.specs.declared.field.Counts.{Counts}
-use Rattle.fields.specs.declared.field.Field.{Field}
-use Rattle.fields.specs.declared.field.Test.TheVariants.{Limits}
-use Rattle.frame_tests.specs.declared.tests.Text.TheVariants.{Query}
-use Rattle.first_reading.specs.declared.first.Reading.TheVariants.{Accepted}
-use Rattle.frame_keys.specs.Keys.{begins, find, is_found}
-use Rattle.second_reading.specs.Second.{counts_of, reading}
-use Rattle.reading_facts.proofs.Passes.{frame_field}
-use Rattle.reading_facts.proofs.Whole.{accepted, query_within}
-use Rattle.reading_facts.proofs.Lookups.{find_some}
+use Rattle.behind.specs.Limits.{atoms_most, items_most, k_most, bootstrap_most}
+use Rattle.behind.specs.Fields.{field_passes, field_fits, no_counts}
+use Rattle.behind.specs.Kinds.{kinds, kind_at, items_of}
+use Rattle.behind.specs.Frames.{kind_of, frame_passes}
+use Rattle.behind.specs.Faults.{is_atom}
+use Rattle.behind.specs.First.{frames_of}
+use Rattle.behind.specs.Counts.{Counts}
+use Rattle.behind.specs.Field.{Field}
+use Rattle.behind.specs.Test.TheVariants.{Limits}
+use Rattle.behind.specs.Text.TheVariants.{Query}
+use Rattle.behind.specs.Reading.TheVariants.{Accepted}
+use Rattle.behind.specs.Keys.{begins, find, is_found}
+use Rattle.behind.specs.Second.{counts_of, reading}
+use Rattle.behind.proofs.Passes.{frame_field}
+use Rattle.behind.proofs.Whole.{accepted, query_within}
+use Rattle.behind.proofs.Lookups.{find_some}
 use Rattle.measure.specs.declared.SamplerConfig.{SamplerConfig}
-use Rattle.query.specs.Statistics.{sampled_of, settings}
-use Rattle.query.specs.declared.statistics.Sampled.TheVariants.{On}
+use Rattle.behind.specs.Statistics.{sampled_of, settings}
+use Rattle.behind.specs.QuerySampled.TheVariants.{On}
 use Rattle.model.specs.Atoms.{Atom, Plain, Lit, LitBind, Eq, EqGlobal, Pred, Variadic}
 use Rattle.model.specs.Bound.{blank}
 use Rattle.model.specs.Scheduling.{unlowered, numbers}
-use Rattle.cost.specs.QueryAtoms.{atom_frames}
-use Rattle.cost.specs.Choice.{rounds, remembered}
-use Rattle.records.specs.Items.{Each}
-use Rattle.plans.specs.PlanText.{plan_counts}
-use Rattle.plans.specs.StepFrames.{AtomFits}
-use Rattle.lowering.specs.AtomLines.{AtomLine}
+use Rattle.behind.specs.QueryAtoms.{atom_frames}
+use Rattle.behind.specs.Choice.{rounds, remembered}
+use Rattle.behind.specs.Items.{Each}
+use Rattle.scheduling.specs.PlanText.{plan_counts}
+use Rattle.scheduling.specs.StepFrames.{AtomFits}
+use Rattle.behind.specs.AtomLines.{AtomLine}
 use Rattle.placing.proofs.LocatedPlaces.{frames_length}
-use Rattle.lowering.proofs.AtomLaws.{by_kind}
-use Rattle.passes.proofs.AcceptedLaws.{atom_line}
-use Rattle.plan_facts.proofs.AtomFrames.{Good}
-use Rattle.plan_facts.specs.QueryPlans.{atoms_of, count_at}
-use Rattle.plan_facts.proofs.QueryPlansLaws.{good, atoms_number, query_fits}
-use Rattle.plan_facts.proofs.Remembered.{FewOperands, FewKeys, rounds_items, rounds_few}
+use Rattle.behind.proofs.AtomLaws.{by_kind}
+use Rattle.placing.proofs.AcceptedLaws.{atom_line}
+use Rattle.scheduling.proofs.AtomFrames.{Good}
+use Rattle.scheduling.specs.QueryPlans.{atoms_of, count_at}
+use Rattle.scheduling.proofs.QueryPlansLaws.{good, atoms_number, query_fits}
+use Rattle.scheduling.proofs.Remembered.{FewOperands, FewKeys, rounds_items, rounds_few}
 
 -- ---- the frames of atoms among frames
 

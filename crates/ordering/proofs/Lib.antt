@@ -1,2 +1,3 @@
 pub mod OrderLaws
 pub mod Accepted
+pub use Rattle.scheduling.proofs.QueryPlansLaws

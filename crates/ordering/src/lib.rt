@@ -2,3 +2,6 @@
 #![tactic(auto)]
 
 pub mod order;
+
+pub use placing;
+pub use scheduling;

@@ -5,7 +5,7 @@ ghost use Rattle.plans.specs.StepFrames.{word_bytes};
 ghost use Rattle.output.specs.Written.{Puts, PutsBytes};
 
 use hexadecimal::hex_digit;
-use records::shorts::{high_of, low_of};
+use plans::records::shorts::{high_of, low_of};
 
 pub fn put_end(out: &mut [u8], at: usize) -> usize
     requires { at < 0x8000_0000 }

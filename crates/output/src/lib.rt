@@ -3,3 +3,5 @@
 
 pub mod bytes;
 pub mod parts;
+
+pub use plans::{fields, frames, kinds};

@@ -15,9 +15,9 @@ use Rattle.model.specs.Atoms.{Row}
 use Rattle.model.specs.Firsts.{is_among, firsts}
 use Rattle.model.proofs.Bools.{true_false, either, bool_ext}
 use Rattle.model.proofs.FirstLaws.{first_mem, mem_first}
-use Rattle.records.specs.Leaders.{leader_in, led_row, led_rows, same_row, standing_below}
-use Rattle.records.specs.Rows.{rows_in}
-use Rattle.records.proofs.RowFrames.{equal_rows}
+use Rattle.standing.specs.Leaders.{leader_in, led_row, led_rows, same_row, standing_below}
+use Rattle.standing.specs.Rows.{rows_in}
+use Rattle.standing.proofs.RowFrames.{equal_rows}
 use Rattle.standing.proofs.FirstLaws.{firsts_old, firsts_new}
 use Rattle.passed_rows.specs.Passed.{is_passed}
 

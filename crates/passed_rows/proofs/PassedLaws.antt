@@ -4,15 +4,15 @@ use mathlib.Core.Path.{◌≡◌, sym, ◌∙◌}
 use mathlib.Core.List.{List}
 use native.Mathlib.Omega.{arith}
 use lib.ListN.{length, take}
-use Rattle.frame_tests.specs.declared.tests.Text.TheVariants.{Table}
-use Rattle.first_reading.specs.First.{sheet_size}
-use Rattle.first_reading.specs.declared.first.Reading.{Reading}
-use Rattle.first_reading.specs.declared.first.Reading.TheVariants.{Accepted}
-use Rattle.indexing.specs.Index.{Indexed}
-use Rattle.second_reading.specs.Second.{reading}
-use Rattle.reading.specs.IndexedReading.{ReadIndexed}
-use Rattle.reading.proofs.ReadLaws.{read_sheet, read_index}
-use Rattle.reading_facts.proofs.Whole.{table_rows}
+use Rattle.standing.specs.Text.TheVariants.{Table}
+use Rattle.standing.specs.First.{sheet_size}
+use Rattle.standing.specs.Reading.{Reading}
+use Rattle.standing.specs.Reading.TheVariants.{Accepted}
+use Rattle.standing.specs.Index.{Indexed}
+use Rattle.standing.specs.Second.{reading}
+use Rattle.standing.specs.IndexedReading.{ReadIndexed}
+use Rattle.standing.proofs.ReadLaws.{read_sheet, read_index}
+use Rattle.standing.proofs.Whole.{table_rows}
 use Rattle.standing.specs.Stands.{RowsSheet}
 use Rattle.standing.proofs.AcceptedLaws.{rows_sheet}
 

@@ -2,3 +2,5 @@
 #![tactic(auto)]
 
 pub mod passed;
+
+pub use standing::{fields, first_reading, frame_tests, frames, kinds, reading};

@@ -13,18 +13,18 @@ use borrow.Author.Tests.{eq-eqb, ne_eqb, eqb-true, eqb-false, not-true, not-fals
 use Rattle.base.specs.Choose.{pick}
 use lib.ListN.{length, get_or, take, drop, set, length-set, length-append}
 use lib.Seq.{take-suc, take-suc-set, take-length}
-use Rattle.frames.proofs.SheetLaws.{frame_part}
-use Rattle.frames.specs.Sheet.{frame_at}
+use Rattle.lowering.proofs.SheetLaws.{frame_part}
+use Rattle.lowering.specs.Sheet.{frame_at}
 use Rattle.model.specs.Atoms.{Atom, Step}
 use Rattle.model.proofs.TabulateLaws.{tabulate_at, tabulate_length}
 use Rattle.model.specs.Bound.{Bound, has, add, add_all, bound_most}
 use Rattle.model.specs.Lowering.{Emitted, lower, Lowered, done, more}
 use Rattle.model.specs.Scheduling.{State, is_free, unlowered, try_at, eager_pass, lower_eager, atom_of, numbers}
 use Rattle.model.proofs.Scheduled.{unlowered_lt, lower_eager_is}
-use Rattle.cost.specs.QueryAtoms.{atom_of_frame}
+use Rattle.lowering.specs.QueryAtoms.{atom_of_frame}
 use Rattle.lowering.specs.AtomLines.{lowers, bound_behind, Lowers}
 use Rattle.passes.specs.Eager.{state, Went, Tries, sheet_atoms, Lined, Located, Ready, Passed, LoweredEager}
-use Rattle.binding.proofs.SetLaws.{add_size}
+use Rattle.lowering.proofs.SetLaws.{add_size}
 use Rattle.passes.proofs.LocatedLaws.{number_among}
 
 -- ---- composition

@@ -4,7 +4,7 @@ use mathlib.Core.Path.{◌≡◌}
 use mathlib.Core.List.{List, Memᴰ}
 use native.Mathlib.Omega.{arith}
 use lib.ListN.{length, get_or}
-use Rattle.frames.specs.Sheet.{frame_at}
+use Rattle.lowering.specs.Sheet.{frame_at}
 use Rattle.model.specs.Bound.{bound_most}
 use Rattle.model.proofs.TabulateLaws.{mem_tabulate}
 use Rattle.model.specs.Scheduling.{numbers}

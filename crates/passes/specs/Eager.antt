@@ -1,12 +1,12 @@
 -- Eager passes over the atoms of a sheet: what is lowered, what is bound, and in which order.
 use Rattle.std.specs.Prelude.{ℕ, ◌+◌, ◌<◌, ◌≤◌, ◌≡◌, length, get_or, take}
 use mathlib.Core.List.{List, ◌++◌, Memᴰ}
-use Rattle.frames.specs.Sheet.{frame_at, frames_in}
+use Rattle.lowering.specs.Sheet.{frame_at, frames_in}
 use Rattle.model.specs.Atoms.{Atom, Step}
 use Rattle.model.specs.Bound.{Bound, add_all, bound_most}
 use Rattle.model.specs.Lowering.{Lowered}
 use Rattle.model.specs.Scheduling.{State, unlowered, try_at, eager_pass, lower_eager, atom_of, numbers}
-use Rattle.cost.specs.QueryAtoms.{atom_of_frame, atoms_in}
+use Rattle.lowering.specs.QueryAtoms.{atom_of_frame, atoms_in}
 use Rattle.lowering.specs.AtomLines.{AtomLine}
 
 abbrev pub state : Bound → Bound → List Step → State

@@ -2,3 +2,9 @@
 #![tactic(auto)]
 
 pub mod eager;
+
+pub use lowering;
+pub use lowering::{
+    binding, buckets, fields, first_reading, frame_tests, frames, given, kinds, query, reading,
+    records, second_reading,
+};

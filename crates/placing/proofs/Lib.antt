@@ -1,2 +1,3 @@
 pub mod PlaceLaws
 pub mod LocatedPlaces
+pub use Rattle.passes.proofs.AcceptedLaws

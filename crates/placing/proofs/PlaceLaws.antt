@@ -10,11 +10,11 @@ use lib.ListN.{length, get_or, drop, set, length-set, length-drop}
 use lib.Seq.{drop-cons, get_or-set_same, get_or-set_other}
 use borrow.Author.Tests.{le-leb, lt-leb}
 use Rattle.base.specs.Choose.{pick}
-use Rattle.frames.specs.Sheet.{frame_at, frames_in}
-use Rattle.frame_tests.specs.Faults.{is_atom}
-use Rattle.frames.proofs.SheetLaws.{frames_end, frame_some, frame_within, frames_step}
+use Rattle.passes.specs.Sheet.{frame_at, frames_in}
+use Rattle.passes.specs.Faults.{is_atom}
+use Rattle.passes.proofs.SheetLaws.{frames_end, frame_some, frame_within, frames_step}
 use Rattle.model.specs.Bound.{bound_most}
-use Rattle.cost.specs.QueryAtoms.{atom_frames}
+use Rattle.passes.specs.QueryAtoms.{atom_frames}
 use Rattle.passes.specs.Eager.{Lined}
 use Rattle.placing.specs.Places.{Places, Noted}
 

@@ -12,20 +12,20 @@ use Rattle.base.specs.Choose.{pick}
 use Rattle.base.proofs.ChooseLaws.{both_hold}
 use Rattle.hexadecimal.specs.Digits.{word_at}
 use Rattle.hexadecimal.proofs.Bytes.{byte_at}
-use Rattle.fields.specs.Limits.{items_most}
-use Rattle.fields.specs.Fields.{width, field_passes, field_fits, field_in, operand_in, no_counts}
-use Rattle.kinds.specs.Kinds.{kinds, kind_at, fixed_length}
-use Rattle.frames.specs.Frames.{kind_of, pass_all, item_fields, frame_passes}
-use Rattle.frame_tests.specs.Faults.{is_atom}
-use Rattle.fields.specs.declared.field.Field.{Field}
-use Rattle.fields.specs.declared.field.Field.TheVariants.{Operand as OperandField, Element as ElementField, Atom as AtomField}
-use Rattle.fields.specs.declared.field.Counts.{Counts}
-use Rattle.fields.specs.declared.field.Test.TheVariants.{Limits, Range}
+use Rattle.reading_facts.specs.Limits.{items_most}
+use Rattle.reading_facts.specs.Fields.{width, field_passes, field_fits, field_in, operand_in, no_counts}
+use Rattle.reading_facts.specs.Kinds.{kinds, kind_at, fixed_length}
+use Rattle.reading_facts.specs.Frames.{kind_of, pass_all, item_fields, frame_passes}
+use Rattle.reading_facts.specs.Faults.{is_atom}
+use Rattle.reading_facts.specs.Field.{Field}
+use Rattle.reading_facts.specs.Field.TheVariants.{Operand as OperandField, Element as ElementField, Atom as AtomField}
+use Rattle.reading_facts.specs.Counts.{Counts}
+use Rattle.reading_facts.specs.Test.TheVariants.{Limits, Range}
 use Rattle.model.specs.Atoms.{local, global}
 use Rattle.cost.specs.QueryAtoms.{operands_from, bytes_from, atom_of_frame}
-use Rattle.records.specs.Lookups.{operand_at}
+use Rattle.cost.specs.Lookups.{operand_at}
 use Rattle.cost.proofs.Operands.{operands_length}
-use Rattle.records.specs.Items.{Each}
+use Rattle.plans.specs.Items.{Each}
 use Rattle.plans.specs.StepFrames.{Byte, OperandFits, OperandsFit, AtomFits}
 
 -- ---- the fields one by one

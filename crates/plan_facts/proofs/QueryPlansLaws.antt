@@ -10,18 +10,18 @@ use lib.ListN.{length, get_or}
 use lib.Pow.{are_bytes}
 use Rattle.base.specs.Choose.{pick}
 use Rattle.base.proofs.ChooseLaws.{is_true}
-use Rattle.fields.specs.Limits.{atoms_most}
-use Rattle.frame_tests.specs.Faults.{is_atom}
-use Rattle.first_reading.specs.First.{frames_of}
-use Rattle.fields.specs.declared.field.Counts.{Counts}
-use Rattle.frame_tests.specs.declared.tests.Text.TheVariants.{Query}
-use Rattle.first_reading.specs.declared.first.Reading.TheVariants.{Accepted}
-use Rattle.second_reading.specs.Second.{counts_of, reading}
+use Rattle.reading_facts.specs.Limits.{atoms_most}
+use Rattle.reading_facts.specs.Faults.{is_atom}
+use Rattle.reading_facts.specs.First.{frames_of}
+use Rattle.reading_facts.specs.Counts.{Counts}
+use Rattle.reading_facts.specs.Text.TheVariants.{Query}
+use Rattle.reading_facts.specs.Reading.TheVariants.{Accepted}
+use Rattle.reading_facts.specs.Second.{counts_of, reading}
 use Rattle.reading_facts.proofs.Whole.{count_from, accepted, query_within, frame_bytes}
 use Rattle.model.specs.Atoms.{Atom}
 use Rattle.model.specs.Scheduling.{State, Chosen, Fair, atom_of, numbers, schedule}
 use Rattle.cost.specs.QueryAtoms.{atom_of_frame, atoms_in}
-use Rattle.records.specs.Items.{Each}
+use Rattle.plans.specs.Items.{Each}
 use Rattle.plans.proofs.PlanRead.{plan_length}
 use Rattle.plans.specs.StepFrames.{AtomFits}
 use Rattle.plans.proofs.Fitting.{atom_more}

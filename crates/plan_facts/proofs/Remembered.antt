@@ -13,13 +13,13 @@ use borrow.Author.Tests.{eq-eqb}
 use lib.Ieee.{lt}
 use Rattle.base.specs.Choose.{pick}
 use Rattle.base.proofs.ChooseLaws.{pick_elim}
-use Rattle.fields.specs.Limits.{items_most, atoms_most}
+use Rattle.reading_facts.specs.Limits.{items_most, atoms_most}
 use Rattle.measure.specs.declared.SamplerConfig.{SamplerConfig}
 use Rattle.measure.specs.declared.Estimate.{Estimate}
 use Rattle.measure.specs.declared.Estimate.TheVariants.{Accepted, Rejected}
-use Rattle.query.specs.Statistics.{settings}
-use Rattle.query.specs.declared.statistics.Sampled.{Sampled}
-use Rattle.query.specs.declared.statistics.Sampled.TheVariants.{On, Off}
+use Rattle.cost.specs.Statistics.{settings}
+use Rattle.cost.specs.Sampled.{Sampled}
+use Rattle.cost.specs.Sampled.TheVariants.{On, Off}
 use Rattle.model.specs.Atoms.{Operand, local, global, wild, Atom, Plain, Lit, LitBind, Eq, EqGlobal, Pred, Variadic}
 use Rattle.model.proofs.Bools.{both, true_false}
 use Rattle.set_model.specs.Lists.{Pairs}
@@ -33,7 +33,7 @@ use Rattle.cost.specs.Emitters.{Emitter, Emitters, emitter_of}
 use Rattle.cost.specs.Sampling.{Tally, same_key, is_known, measure, tally_of, after_estimate}
 use Rattle.cost.specs.Costs.{Costed, sampled, sampled_by, estimate, child_costs, element_costs, estimate_cost}
 use Rattle.cost.specs.Choice.{Memory, fresh, recorded, cost, emitted_by, by_cost, choose, rounds_from, rounds}
-use Rattle.records.specs.Items.{Each}
+use Rattle.plans.specs.Items.{Each}
 use Rattle.plan_facts.proofs.Emitted.{Keeps, atom_keeps, record_keeps}
 use Rattle.plan_facts.proofs.Pigeonhole.{no_longer}
 use Rattle.cost.specs.Memo.{keys_most}

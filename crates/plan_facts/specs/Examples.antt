@@ -10,7 +10,7 @@ use Rattle.model.specs.Lowering.{mark_all, emit_read_children, child_lookups, lo
 use Rattle.model.specs.Scheduling.{State, unlowered, Chosen, Fair, eager_pass, passes_up_to, rounds_up_to, atom_of, numbers, schedule}
 use Rattle.model.specs.Cheapest.{Priced, scan, cheapest}
 use Rattle.model.proofs.CheapestLaws.{cheapest_fair}
-use Rattle.records.specs.Items.{Each}
+use Rattle.plans.specs.Items.{Each}
 use Rattle.plans.specs.StepFrames.{frame_of, AtomFits}
 use Rattle.plans.specs.PlanText.{text_length, plan_text, plan_counts, plan_most, QueryFits}
 use Rattle.plans.proofs.PlanRead.{plan_length}

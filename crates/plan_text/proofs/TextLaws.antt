@@ -5,16 +5,16 @@ use mathlib.Core.Bool.{false}
 use mathlib.Core.List.{List, [], ◌∷◌, map}
 use native.Mathlib.Omega.{arith}
 use lib.ListN.{replicate}
-use Rattle.frame_tests.specs.declared.tests.Text.TheVariants.{Query}
-use Rattle.second_reading.specs.Second.{counts_in}
+use Rattle.writing.specs.Text.TheVariants.{Query}
+use Rattle.writing.specs.Second.{counts_in}
 use Rattle.model.specs.Bound.{blank}
 use Rattle.model.specs.Scheduling.{atom_of}
-use Rattle.plans.specs.StepFrames.{frame_of, header_of}
-use Rattle.plans.specs.PlanText.{text_length}
-use Rattle.passes.specs.Eager.{sheet_atoms}
+use Rattle.writing.specs.StepFrames.{frame_of, header_of}
+use Rattle.writing.specs.PlanText.{text_length}
+use Rattle.writing.specs.Eager.{sheet_atoms}
 use Rattle.writing.specs.Steps.{steps_along, PutsSteps}
-use Rattle.output.specs.Written.{PutsFrames}
-use Rattle.output.proofs.PutLaws.{frames_then}
+use Rattle.writing.specs.Written.{PutsFrames}
+use Rattle.writing.proofs.PutLaws.{frames_then}
 
 pub size_is : (x ks o p : List ℕ) (r : ℕ) → PutsSteps x (replicate 64 false) ks o 21 p r → r ≡ 21 + text_length (map frame_of (steps_along (atom_of (sheet_atoms x)) blank ks))
 unfolding blank

@@ -2,3 +2,6 @@
 #![tactic(auto)]
 
 pub mod text;
+
+pub use writing;
+pub use writing::{buckets, first_reading, given, reading};

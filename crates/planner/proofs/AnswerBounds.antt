@@ -8,14 +8,14 @@ use native.Mathlib.Omega.{arith}
 use lib.ListN.{length}
 use lib.Dec.{ltb}
 use Rattle.base.proofs.ChooseLaws.{pick_elim}
-use Rattle.kinds.specs.Kinds.{query}
-use Rattle.frame_tests.specs.declared.tests.Text.TheVariants.{Query}
-use Rattle.first_reading.specs.declared.first.Reading.TheVariants.{Accepted}
-use Rattle.second_reading.specs.Second.{reading}
-use Rattle.fitting.specs.Planner.{Answer, Result, given, plan, plan_of, steps_of, written, fitted, refused_with}
-use Rattle.ordering.proofs.Accepted.{few_keys}
-use Rattle.fitting.specs.Promised.{read_back}
-use Rattle.fitting.proofs.ReadingsLaws.{readings_hold}
+use Rattle.lent_planning.specs.Kinds.{query}
+use Rattle.lent_planning.specs.Text.TheVariants.{Query}
+use Rattle.lent_planning.specs.Reading.TheVariants.{Accepted}
+use Rattle.lent_planning.specs.Second.{reading}
+use Rattle.lent_planning.specs.Planner.{Answer, Result, given, plan, plan_of, steps_of, written, fitted, refused_with}
+use Rattle.lent_planning.proofs.Accepted.{few_keys}
+use Rattle.lent_planning.specs.Promised.{read_back}
+use Rattle.lent_planning.proofs.ReadingsLaws.{readings_hold}
 
 pub record Within (a : Answer) : Type 0 where
   pub number : a.number ≤ 14

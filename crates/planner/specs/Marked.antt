@@ -11,26 +11,26 @@ use Rattle.sqrt.specs.Sqrt.{whole_root, sqrt}
 use Rattle.measure.specs.Selectivity.{path_selectivity}
 use Rattle.measure.specs.declared.FanOut.TheVariants.{Measured}
 use Rattle.hex_lines.specs.Lines.{split}
-use Rattle.fields.specs.Fields.{field_passes}
-use Rattle.kinds.specs.Kinds.{kind_at, query as query_text}
-use Rattle.frames.specs.Frames.{pass_all}
-use Rattle.first_reading.specs.First.{frames_of}
-use Rattle.frame_keys.specs.Keys.{begins, find}
-use Rattle.second_reading.specs.Second.{query_reading}
-use Rattle.reading_facts.specs.Ascii.{ascii}
+use Rattle.lent_planning.specs.Fields.{field_passes}
+use Rattle.lent_planning.specs.Kinds.{kind_at, query as query_text}
+use Rattle.lent_planning.specs.Frames.{pass_all}
+use Rattle.lent_planning.specs.First.{frames_of}
+use Rattle.lent_planning.specs.Keys.{begins, find}
+use Rattle.lent_planning.specs.Second.{query_reading}
+use Rattle.lent_planning.specs.Ascii.{ascii}
 use Rattle.model.specs.Bound.{put, has_all, blank}
 use Rattle.model.specs.Tabulate.{tabulate}
 use Rattle.model.specs.Lowering.{mark_all, emit_read_children, child_lookups, lower}
 use Rattle.model.specs.Scheduling.{unlowered, eager_pass, passes_up_to, rounds_up_to, atom_of}
 use Rattle.model.specs.Cheapest.{scan, cheapest}
-use Rattle.query.specs.Statistics.{op_card, atom_card, base_card, denominator, by_child_pos, settings}
-use Rattle.cost.specs.QueryAtoms.{operands_from, bytes_from, atom_of_frame, atoms_in}
-use Rattle.cost.specs.Emitters.{set_children, record_atom, record_emitters}
-use Rattle.cost.specs.Costs.{child_costs, estimate_cost}
-use Rattle.cost.specs.Choice.{planned, remembered}
-use Rattle.plans.specs.StepFrames.{frame_of}
-use Rattle.plans.specs.PlanText.{text_of, plan_text}
-use Rattle.fitting.specs.Planner.{Answer, writes, refusal, Result, steps_of, plan_of, plan}
+use Rattle.lent_planning.specs.Statistics.{op_card, atom_card, base_card, denominator, by_child_pos, settings}
+use Rattle.lent_planning.specs.QueryAtoms.{operands_from, bytes_from, atom_of_frame, atoms_in}
+use Rattle.lent_planning.specs.Emitters.{set_children, record_atom, record_emitters}
+use Rattle.lent_planning.specs.Costs.{child_costs, estimate_cost}
+use Rattle.lent_planning.specs.Choice.{planned, remembered}
+use Rattle.lent_planning.specs.StepFrames.{frame_of}
+use Rattle.lent_planning.specs.PlanText.{text_of, plan_text}
+use Rattle.lent_planning.specs.Planner.{Answer, writes, refusal, Result, steps_of, plan_of, plan}
 
 -- a query without a table beside it, a lent output, the answer, and the output then
 pub record PlanCase : Type 0 where

@@ -1,13 +1,13 @@
 // The entry: a query text, a table text or none, and a lent output.
 ghost use Rattle.std.specs.Prelude.{◌≡◌};
-ghost use Rattle.fitting.specs.Planner.{plan as planned};
-ghost use Rattle.fitting.specs.Entry.{planned_result};
-ghost use Rattle.gathering.specs.Handed.{handed};
+ghost use Rattle.lent_planning.specs.Planner.{plan as planned};
+ghost use Rattle.lent_planning.specs.Entry.{planned_result};
+ghost use Rattle.lent_planning.specs.Handed.{handed};
 
-use fitting::fit::Planned;
-use gathering::beside::{Beside, is_handed};
 use lent_planning::accepted::plan_by;
-use reading::second::{
+use lent_planning::fitting::fit::Planned;
+use lent_planning::gathering::beside::{Beside, is_handed};
+use lent_planning::reading::second::{
     LONG_INDEX, LONG_SHEET, MIDDLE_INDEX, MIDDLE_SHEET, MIDDLE_TEXT, SHORT_INDEX, SHORT_SHEET,
     SHORT_TEXT, TINY_INDEX, TINY_SHEET, TINY_TEXT,
 };

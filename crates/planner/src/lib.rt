@@ -2,3 +2,5 @@
 #![tactic(auto)]
 
 pub mod entry;
+
+pub use lent_planning::{fitting, gathering};

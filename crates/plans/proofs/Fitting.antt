@@ -9,8 +9,8 @@ use mathlib.Core.List.Memᴰ
 use mathlib.Core.List.{List, [], ◌∷◌, ◌++◌, Memᴰ}
 use native.Mathlib.Omega.{arith}
 use lib.ListN.{length}
-use Rattle.fields.specs.Limits.{items_most}
-use Rattle.fields.specs.declared.field.Counts.{Counts}
+use Rattle.records.specs.Limits.{items_most}
+use Rattle.records.specs.Counts.{Counts}
 use Rattle.set_model.specs.Lists.{one}
 use Rattle.model.proofs.TabulateLaws.{tabulate_mem}
 use Rattle.model.specs.Atoms.{Operand, local, global, wild, Form, A, AC, ACI, Atom, Plain, Lit, LitBind, Eq, EqGlobal, Pred, Variadic, Lookup, ByChildPos, ByContains, Step, Join, CheckEq, CheckEqGlobal, BindGlobal, CopyBinding}

@@ -4,9 +4,9 @@ use mathlib.Core.Path.{◌≡◌, refl, sym, ◌∙◌, ap}
 use mathlib.Core.Bool.{Bool, true}
 use mathlib.Core.List.{List, [], ◌∷◌, ◌++◌, flat_map, append_assoc}
 use lib.ListN.{length, replicate, length-append}
-use Rattle.fields.specs.Fields.{width}
-use Rattle.frames.specs.Frames.{pass_all}
-use Rattle.fields.specs.declared.field.Field.{Field}
+use Rattle.records.specs.Fields.{width}
+use Rattle.records.specs.Frames.{pass_all}
+use Rattle.records.specs.Field.{Field}
 use Rattle.records.specs.Items.{Each}
 
 -- each item passes a test where its bytes do, whatever stands around them

@@ -6,3 +6,10 @@ pub mod PlanRead
 pub mod StepsPass
 pub mod StepsRead
 pub mod Texts
+pub use Rattle.records.proofs.BehindLaws
+pub use Rattle.records.proofs.ItemsLaws
+pub use Rattle.records.proofs.LeaderLaws
+pub use Rattle.records.proofs.LentLaws
+pub use Rattle.records.proofs.QueryLaws
+pub use Rattle.records.proofs.RowFrames
+pub use Rattle.records.proofs.SheetLaws

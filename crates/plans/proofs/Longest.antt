@@ -9,11 +9,11 @@ use native.Mathlib.Omega.{arith}
 use native.Mathlib.Nat.{mul-le-mul_left, mul-suc}
 use lib.ListN.{length, drop}
 use Rattle.base.specs.Choose.{pick}
-use Rattle.first_reading.specs.First.{frames_of}
-use Rattle.fields.specs.declared.field.Counts.{Counts}
-use Rattle.frame_tests.specs.declared.tests.Text.TheVariants.{Plan}
-use Rattle.first_reading.specs.declared.first.Reading.TheVariants.{Accepted}
-use Rattle.second_reading.specs.Second.{reading}
+use Rattle.records.specs.First.{frames_of}
+use Rattle.records.specs.Counts.{Counts}
+use Rattle.records.specs.Text.TheVariants.{Plan}
+use Rattle.records.specs.Reading.TheVariants.{Accepted}
+use Rattle.records.specs.Second.{reading}
 use Rattle.model.proofs.TabulateLaws.{tabulate_length}
 use Rattle.model.specs.Atoms.{Operand, local, global, wild, Atom, Plain, Lit, LitBind, Eq, EqGlobal, Pred, Variadic, Lookup, Expansion, ExpandA, DecomposeAC, DecomposeACI, Step, Join, Expand}
 use Rattle.model.specs.Bound.{Bound, has, add}

@@ -10,17 +10,17 @@ use lib.Seq.{get_or-append-add}
 use lib.Dec.{leb, ltb}
 use lib.Pow.{are_bytes}
 use borrow.Author.Tests.{lt-ltb, le-leb}
-use Rattle.fields.specs.Limits.{items_most, lookups_most, idempotent_most}
-use Rattle.fields.specs.Fields.{field_fits, field_in, field_real, field_passes, operand_in, lookup_in}
+use Rattle.records.specs.Limits.{items_most, lookups_most, idempotent_most}
+use Rattle.records.specs.Fields.{field_fits, field_in, field_real, field_passes, operand_in, lookup_in}
 use Rattle.field_values.specs.FieldValues.{lookup_fits, ends_fit, rest_fits}
-use Rattle.kinds.specs.Kinds.{kinds, kind_at}
-use Rattle.frames.specs.Frames.{frame_length, pass_all, frame_passes}
-use Rattle.frame_tests.specs.Faults.{belongs}
-use Rattle.fields.specs.declared.field.Field.TheVariants.{Operand as OperandField, Element as ElementField, Lookup as LookupField}
-use Rattle.fields.specs.declared.field.Counts.{Counts}
-use Rattle.fields.specs.declared.field.Test.TheVariants.{Limits, Range, Reals}
-use Rattle.frame_tests.specs.declared.tests.Text.TheVariants.{Plan}
-use Rattle.frame_keys.specs.Keys.{key_given}
+use Rattle.records.specs.Kinds.{kinds, kind_at}
+use Rattle.records.specs.Frames.{frame_length, pass_all, frame_passes}
+use Rattle.records.specs.Faults.{belongs}
+use Rattle.records.specs.Field.TheVariants.{Operand as OperandField, Element as ElementField, Lookup as LookupField}
+use Rattle.records.specs.Counts.{Counts}
+use Rattle.records.specs.Test.TheVariants.{Limits, Range, Reals}
+use Rattle.records.specs.Text.TheVariants.{Plan}
+use Rattle.records.specs.Keys.{key_given}
 use Rattle.model.proofs.Bools.{both, first, second}
 use Rattle.model.specs.Atoms.{Operand, local, global, wild, Lookup, ByOp, ByChildPos, ByRepr, ByContains, ExpandA, DecomposeAC, DecomposeACI, Step, Join, ExtractChild, CheckChildEq, CheckEq, CheckEqGlobal, BindGlobal, CopyBinding, Expand, ExtractLitVal, CheckLit, CheckPred}
 use Rattle.model.proofs.Lengths.{flat_length}

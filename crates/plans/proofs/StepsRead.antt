@@ -11,7 +11,7 @@ use lib.Dec.{eqb, leb}
 use borrow.Author.Tests.{ne_eqb}
 use Rattle.base.specs.Choose.{pick}
 use Rattle.hexadecimal.specs.Digits.{word_at}
-use Rattle.fields.specs.declared.field.Counts.{Counts}
+use Rattle.records.specs.Counts.{Counts}
 use Rattle.model.specs.Atoms.{Operand, local, global, wild, Lookup, ByOp, ByChildPos, ByRepr, ByContains, ExpandA, DecomposeAC, DecomposeACI, Step, Join, ExtractChild, CheckChildEq, CheckEq, CheckEqGlobal, BindGlobal, CopyBinding, Expand, ExtractLitVal, CheckLit, CheckPred, is_join}
 use Rattle.records.specs.Items.{items_at, Each}
 use Rattle.records.specs.Lookups.{operand_at, lookup_at}

@@ -1,2 +1,4 @@
 pub mod Items
 pub mod Prices
+pub use Rattle.passes.specs.AtomLines
+pub use Rattle.passes.specs.ItemOperands

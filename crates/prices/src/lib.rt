@@ -3,3 +3,5 @@
 
 pub mod items;
 pub mod table;
+
+pub use passes::{binding, lowering};

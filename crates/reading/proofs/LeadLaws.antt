@@ -10,16 +10,16 @@ use borrow.Author.Tests.{leb-true}
 use Rattle.base.specs.Choose.{pick}
 use Rattle.base.proofs.ChooseLaws.{both_hold}
 use Rattle.base.proofs.Lists.{blank_at}
-use Rattle.class_sets.specs.Sets.{set_words}
+use Rattle.second_reading.specs.Sets.{set_words}
 use Rattle.hex_lines.specs.Lines.{split}
-use Rattle.kinds.specs.Kinds.{kinds, kind_at}
-use Rattle.frames.specs.Among.{is_between, has_kinds}
-use Rattle.frames.specs.Sheet.{frames_in}
-use Rattle.frame_tests.specs.Faults.{belongs}
-use Rattle.frame_tests.specs.declared.tests.Text.{Text}
-use Rattle.frame_tests.specs.declared.tests.Text.TheVariants.{Query, Plan, Table}
-use Rattle.first_reading.specs.First.{frames_of, first_reading, Sheet}
-use Rattle.first_reading.specs.declared.first.Reading.TheVariants.{Accepted}
+use Rattle.second_reading.specs.Kinds.{kinds, kind_at}
+use Rattle.second_reading.specs.Among.{is_between, has_kinds}
+use Rattle.second_reading.specs.Sheet.{frames_in}
+use Rattle.second_reading.specs.Faults.{belongs}
+use Rattle.second_reading.specs.Text.{Text}
+use Rattle.second_reading.specs.Text.TheVariants.{Query, Plan, Table}
+use Rattle.second_reading.specs.First.{frames_of, first_reading, Sheet}
+use Rattle.second_reading.specs.Reading.TheVariants.{Accepted}
 use Rattle.second_reading.specs.Leading.{has_leaders}
 use Rattle.second_reading.specs.Rereading.{LeadersFor}
 use Rattle.reading.specs.IndexedReading.{TablesLead}

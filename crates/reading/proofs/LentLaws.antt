@@ -5,8 +5,8 @@ use mathlib.Core.List.{List}
 use native.Mathlib.Omega.{arith}
 use lib.ListN.{length, replicate, length-replicate}
 use Rattle.base.proofs.Lists.{blank_at}
-use Rattle.fields.specs.Limits.{text_most}
-use Rattle.indexing.specs.Index.{slots_for}
+use Rattle.second_reading.specs.Limits.{text_most}
+use Rattle.second_reading.specs.Index.{slots_for}
 use Rattle.reading.specs.IndexedReading.{sheet_for, index_for, Lent}
 
 -- arrays of zeros serve every text of up to `most` bytes, where the index is as long as its slots ask

@@ -4,10 +4,10 @@ use mathlib.Core.Path.{◌≡◌, sym}
 use mathlib.Core.List.{List}
 use lib.ListN.{length, take}
 use lib.Seq.{length-take-le}
-use Rattle.first_reading.specs.First.{sheet_size, Sheet}
-use Rattle.first_reading.specs.declared.first.Reading.{Reading}
-use Rattle.first_reading.specs.declared.first.Reading.TheVariants.{Accepted}
-use Rattle.indexing.specs.Index.{Indexed}
+use Rattle.second_reading.specs.First.{sheet_size, Sheet}
+use Rattle.second_reading.specs.Reading.{Reading}
+use Rattle.second_reading.specs.Reading.TheVariants.{Accepted}
+use Rattle.second_reading.specs.Index.{Indexed}
 use Rattle.reading.specs.IndexedReading.{ReadIndexed}
 
 module _ (w : Reading) (x s i : List ℕ) (r : Reading) (p : ReadIndexed w x s i r) (n c : ℕ) (e : r ≡ Accepted n c) (z : ℕ) (u : z ≡ sheet_size (length x) n) where

@@ -12,22 +12,22 @@ use Rattle.base.specs.Choose.{pick}
 use Rattle.base.proofs.ChooseLaws.{pick_elim}
 use Rattle.hexadecimal.specs.Digits.{bytes_of, short_at}
 use Rattle.hex_lines.specs.Lines.{split, is_hex}
-use Rattle.fields.specs.Limits.{text_most}
-use Rattle.fields.specs.Fields.{field_passes, no_counts}
-use Rattle.frames.specs.Among.{is_between, has_kinds}
-use Rattle.frames.specs.Frames.{frame_passes, frame_length}
-use Rattle.frame_tests.specs.Faults.{belongs, has_room, counted, frame_fault}
-use Rattle.first_reading.specs.First.{frames_of, line_fault, or_else, first_lines, first_from, steps_say, steps_right, first_reading}
-use Rattle.fields.specs.declared.field.Counts.{Counts}
-use Rattle.fields.specs.declared.field.Test.TheVariants.{Limits, Range, Reals}
-use Rattle.frame_tests.specs.declared.tests.Text.{Text}
-use Rattle.frame_tests.specs.declared.tests.Text.TheVariants.{Query, Plan, Table}
-use Rattle.first_reading.specs.declared.first.Reading.{Reading}
-use Rattle.first_reading.specs.declared.first.Reading.TheVariants.{Accepted, Refused}
-use Rattle.frame_keys.specs.Keys.{key_given}
-use Rattle.second_reading.specs.FromTable.{takes_table, table_for}
-use Rattle.second_reading.specs.Leading.{leads, has_leaders, leader_led, is_leader}
-use Rattle.second_reading.specs.Second.{counts_by, second_fault, second_from, second, reading_by, reading, query_reading}
+use Rattle.reading.specs.Limits.{text_most}
+use Rattle.reading.specs.Fields.{field_passes, no_counts}
+use Rattle.reading.specs.Among.{is_between, has_kinds}
+use Rattle.reading.specs.Frames.{frame_passes, frame_length}
+use Rattle.reading.specs.Faults.{belongs, has_room, counted, frame_fault}
+use Rattle.reading.specs.First.{frames_of, line_fault, or_else, first_lines, first_from, steps_say, steps_right, first_reading}
+use Rattle.reading.specs.Counts.{Counts}
+use Rattle.reading.specs.Test.TheVariants.{Limits, Range, Reals}
+use Rattle.reading.specs.Text.{Text}
+use Rattle.reading.specs.Text.TheVariants.{Query, Plan, Table}
+use Rattle.reading.specs.Reading.{Reading}
+use Rattle.reading.specs.Reading.TheVariants.{Accepted, Refused}
+use Rattle.reading.specs.Keys.{key_given}
+use Rattle.reading.specs.FromTable.{takes_table, table_for}
+use Rattle.reading.specs.Leading.{leads, has_leaders, leader_led, is_leader}
+use Rattle.reading.specs.Second.{counts_by, second_fault, second_from, second, reading_by, reading, query_reading}
 use Rattle.reading.proofs.LeadLaws.{leaders_table}
 
 -- ---- "line 0 for an empty query or plan (2), a text too long (4)"

@@ -12,19 +12,19 @@ use borrow.Author.Tests.{lt-ltb, le-ltb, eq-eqb, ne_eqb, eqb-false}
 use Rattle.base.specs.Choose.{pick}
 use Rattle.hexadecimal.specs.Digits.{bytes_of}
 use Rattle.hex_lines.specs.Lines.{split, is_hex}
-use Rattle.fields.specs.Limits.{text_most}
-use Rattle.frames.specs.Frames.{kind_of}
-use Rattle.frame_tests.specs.Faults.{is_counted, counted_most, counted, has_room}
-use Rattle.first_reading.specs.First.{frames_of, line_fault, first_lines, first_from, steps_say, steps_right, first_reading}
-use Rattle.fields.specs.declared.field.Counts.{Counts}
-use Rattle.frame_tests.specs.declared.tests.Text.{Text}
-use Rattle.frame_tests.specs.declared.tests.Text.TheVariants.{Query, Plan, Table}
-use Rattle.first_reading.specs.declared.first.Reading.{Reading}
-use Rattle.first_reading.specs.declared.first.Reading.TheVariants.{Accepted}
-use Rattle.frame_keys.specs.Keys.{begins, find, is_found, key_of, key_given}
-use Rattle.second_reading.specs.FromTable.{takes_table}
-use Rattle.second_reading.specs.Leading.{chained}
-use Rattle.second_reading.specs.Second.{counts_of, second_from, reading}
+use Rattle.reading.specs.Limits.{text_most}
+use Rattle.reading.specs.Frames.{kind_of}
+use Rattle.reading.specs.Faults.{is_counted, counted_most, counted, has_room}
+use Rattle.reading.specs.First.{frames_of, line_fault, first_lines, first_from, steps_say, steps_right, first_reading}
+use Rattle.reading.specs.Counts.{Counts}
+use Rattle.reading.specs.Text.{Text}
+use Rattle.reading.specs.Text.TheVariants.{Query, Plan, Table}
+use Rattle.reading.specs.Reading.{Reading}
+use Rattle.reading.specs.Reading.TheVariants.{Accepted}
+use Rattle.reading.specs.Keys.{begins, find, is_found, key_of, key_given}
+use Rattle.reading.specs.FromTable.{takes_table}
+use Rattle.reading.specs.Leading.{chained}
+use Rattle.reading.specs.Second.{counts_of, second_from, reading}
 use Rattle.reading_facts.proofs.Whole.{Formed, Named, count_from, Whole, frames_length}
 
 -- ---- the first reading

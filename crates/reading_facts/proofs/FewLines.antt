@@ -10,16 +10,16 @@ use borrow.Author.Tests.{le-ltb, ne_eqb, ltb-true, ltb-false}
 use Rattle.base.proofs.ChooseLaws.{pick_elim}
 use Rattle.hexadecimal.specs.Digits.{bytes_of}
 use Rattle.hex_lines.specs.Lines.{Split, split, with_line, with_byte}
-use Rattle.fields.specs.Limits.{text_most}
-use Rattle.frame_tests.specs.Faults.{counted}
-use Rattle.first_reading.specs.First.{frames_of, line_fault, or_else, first_lines, first_from, steps_say, steps_right}
-use Rattle.fields.specs.declared.field.Counts.{Counts}
-use Rattle.frame_tests.specs.declared.tests.Text.{Text}
-use Rattle.frame_tests.specs.declared.tests.Text.TheVariants.{Query, Plan, Table}
-use Rattle.first_reading.specs.declared.first.Reading.{Reading}
-use Rattle.first_reading.specs.declared.first.Reading.TheVariants.{Accepted, Refused}
-use Rattle.second_reading.specs.FromTable.{table_for}
-use Rattle.second_reading.specs.Second.{counts_by, second_fault, second_from, second, reading_by, reading, query_reading}
+use Rattle.reading.specs.Limits.{text_most}
+use Rattle.reading.specs.Faults.{counted}
+use Rattle.reading.specs.First.{frames_of, line_fault, or_else, first_lines, first_from, steps_say, steps_right}
+use Rattle.reading.specs.Counts.{Counts}
+use Rattle.reading.specs.Text.{Text}
+use Rattle.reading.specs.Text.TheVariants.{Query, Plan, Table}
+use Rattle.reading.specs.Reading.{Reading}
+use Rattle.reading.specs.Reading.TheVariants.{Accepted, Refused}
+use Rattle.reading.specs.FromTable.{table_for}
+use Rattle.reading.specs.Second.{counts_by, second_fault, second_from, second, reading_by, reading, query_reading}
 use Rattle.reading_facts.proofs.AnswersLaws.{too_long, empty_query, empty_plan, empty_table}
 use Rattle.reading_facts.proofs.Whole.{accepted}
 

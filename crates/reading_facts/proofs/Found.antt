@@ -9,7 +9,7 @@ use lib.Dec.{eqb}
 use borrow.Author.Tests.{eqb-true}
 use Rattle.base.specs.Choose.{pick}
 use Rattle.base.proofs.ChooseLaws.{both_hold}
-use Rattle.frame_keys.specs.Keys.{begins, find, is_found}
+use Rattle.reading.specs.Keys.{begins, find, is_found}
 
 no_truth : false ≡ true → ⊥
 no_truth e = let y : ◌≡◌ {A = ℕ} 0 1 = cc in omega arith

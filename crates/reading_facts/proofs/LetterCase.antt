@@ -8,14 +8,14 @@ use lib.Dec.{eqb}
 use Rattle.hexadecimal.specs.Digits.{bytes_of}
 use Rattle.hex_lines.specs.Lines.{split, end_of}
 use Rattle.hex_lines.proofs.Case.{lowered, lower, bytes_lower, length_lower, hex_lower, end_lowered, split_lower}
-use Rattle.frame_tests.specs.Faults.{counted}
-use Rattle.first_reading.specs.First.{frames_of, line_fault, first_lines, first_from, first_line, steps_right, first_reading}
-use Rattle.frame_tests.specs.declared.tests.Text.{Text}
-use Rattle.frame_tests.specs.declared.tests.Text.TheVariants.{Query, Plan, Table}
-use Rattle.first_reading.specs.declared.first.Reading.{Reading}
-use Rattle.first_reading.specs.declared.first.Reading.TheVariants.{Accepted, Refused}
-use Rattle.second_reading.specs.FromTable.{table_for}
-use Rattle.second_reading.specs.Second.{counts_by, second, reading_by, reading, query_reading}
+use Rattle.reading.specs.Faults.{counted}
+use Rattle.reading.specs.First.{frames_of, line_fault, first_lines, first_from, first_line, steps_right, first_reading}
+use Rattle.reading.specs.Text.{Text}
+use Rattle.reading.specs.Text.TheVariants.{Query, Plan, Table}
+use Rattle.reading.specs.Reading.{Reading}
+use Rattle.reading.specs.Reading.TheVariants.{Accepted, Refused}
+use Rattle.reading.specs.FromTable.{table_for}
+use Rattle.reading.specs.Second.{counts_by, second, reading_by, reading, query_reading}
 
 line_lower : (t : Text) (first : Bool) (c : ℕ) (l : List ℕ) → line_fault t first c (lower l) ≡ line_fault t first c l
 unfolding line_fault

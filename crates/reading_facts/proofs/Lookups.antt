@@ -6,7 +6,7 @@ use mathlib.Core.List.{List, [], ◌∷◌}
 use native.Mathlib.Omega.{arith}
 use lib.ListN.{length, get_or}
 use Rattle.base.specs.Choose.{pick}
-use Rattle.frame_keys.specs.Keys.{begins, find, is_found}
+use Rattle.reading.specs.Keys.{begins, find, is_found}
 
 -- what is found stands in the text
 pub record Place (key : List ℕ) (fs : List (List ℕ)) : Type 0 where

@@ -7,10 +7,10 @@ use native.Mathlib.Omega.{arith}
 use native.Mathlib.Nat.{add-zero, add_assoc, mul-suc}
 use lib.ListN.{length, get_or, take, replicate}
 use Rattle.base.proofs.ChooseLaws.{both_hold}
-use Rattle.fields.specs.Fields.{width}
-use Rattle.kinds.specs.Kinds.{none, widths, fixed_length, items_of}
-use Rattle.frames.specs.Frames.{kind_of, pass_all, frame_passes}
-use Rattle.fields.specs.declared.field.Field.{Field}
+use Rattle.reading.specs.Fields.{width}
+use Rattle.reading.specs.Kinds.{none, widths, fixed_length, items_of}
+use Rattle.reading.specs.Frames.{kind_of, pass_all, frame_passes}
+use Rattle.reading.specs.Field.{Field}
 
 module _ (P : Field → List ℕ → ℕ → Bool) (f : List ℕ) where
   pub field_passes_lem : (xs : List Field) (i : ℕ) → pass_all P xs f i ≡ true → (j : ℕ) → j < length xs → P (get_or xs j none) f (i + widths (take j xs)) ≡ true

@@ -17,24 +17,24 @@ use Rattle.hexadecimal.specs.Digits.{bytes_of}
 use Rattle.hexadecimal.proofs.Bytes.{digits_bytes}
 use Rattle.hex_lines.specs.Lines.{split, is_hex, end_of}
 use Rattle.hex_lines.proofs.Cuts.{cut, end_is, all_rest}
-use Rattle.fields.specs.Limits.{text_most, variables_most, globals_most, literals_most, atoms_most, rows_most}
-use Rattle.fields.specs.Fields.{field_passes, no_counts}
-use Rattle.kinds.specs.Kinds.{kind_at, query, plan}
-use Rattle.frames.specs.Frames.{kind_of, pass_all, frame_passes}
-use Rattle.frame_tests.specs.Faults.{is_header, belongs, counted_most}
-use Rattle.first_reading.specs.First.{frames_of, first_line, steps_say, first_reading}
-use Rattle.fields.specs.declared.field.Counts.{Counts}
-use Rattle.fields.specs.declared.field.Test.TheVariants.{Limits, Range, Reals}
-use Rattle.frame_tests.specs.declared.tests.Text.{Text}
-use Rattle.frame_tests.specs.declared.tests.Text.TheVariants.{Query, Plan, Table}
-use Rattle.first_reading.specs.declared.first.Reading.{Reading}
-use Rattle.first_reading.specs.declared.first.Reading.TheVariants.{Accepted, Refused}
-use Rattle.frame_keys.specs.Keys.{begins, find, is_found, key_of, key_given}
+use Rattle.reading.specs.Limits.{text_most, variables_most, globals_most, literals_most, atoms_most, rows_most}
+use Rattle.reading.specs.Fields.{field_passes, no_counts}
+use Rattle.reading.specs.Kinds.{kind_at, query, plan}
+use Rattle.reading.specs.Frames.{kind_of, pass_all, frame_passes}
+use Rattle.reading.specs.Faults.{is_header, belongs, counted_most}
+use Rattle.reading.specs.First.{frames_of, first_line, steps_say, first_reading}
+use Rattle.reading.specs.Counts.{Counts}
+use Rattle.reading.specs.Test.TheVariants.{Limits, Range, Reals}
+use Rattle.reading.specs.Text.{Text}
+use Rattle.reading.specs.Text.TheVariants.{Query, Plan, Table}
+use Rattle.reading.specs.Reading.{Reading}
+use Rattle.reading.specs.Reading.TheVariants.{Accepted, Refused}
+use Rattle.reading.specs.Keys.{begins, find, is_found, key_of, key_given}
 pub use Rattle.reading.proofs.Formed.{Formed, count_from}
-use Rattle.first_reading.proofs.ReadingLaws.{or_passes}
+use Rattle.reading.proofs.ReadingLaws.{or_passes}
 use Rattle.reading.proofs.Formed.{passes, Passed, lines_pass, lines_hex, First, first_accepted}
-use Rattle.second_reading.specs.Leading.{chained}
-use Rattle.second_reading.specs.Second.{counts_of, second_fault, second_from, second, reading}
+use Rattle.reading.specs.Leading.{chained}
+use Rattle.reading.specs.Second.{counts_of, second_fault, second_from, second, reading}
 
 -- ---- what is said of an accepted text
 

@@ -1,8 +1,8 @@
 -- "A refusal returns number, text (query, plan, table) and line from 1": a reading's answer in the document's terms. Assumes nothing.
 use Rattle.std.specs.Prelude.{ℕ}
-use Rattle.frame_tests.specs.declared.tests.Text.{Text}
-use Rattle.first_reading.specs.declared.first.Reading.{Reading}
-use Rattle.first_reading.specs.declared.first.Reading.TheVariants.{Accepted, Refused}
+use Rattle.reading.specs.Text.{Text}
+use Rattle.reading.specs.Reading.{Reading}
+use Rattle.reading.specs.Reading.TheVariants.{Accepted, Refused}
 
 -- ---- number, text and line of an answer about the text t; an accepted text has number 0
 

@@ -2,16 +2,16 @@
 -- Each is computed. Assumes nothing.
 use Rattle.std.specs.Prelude.{ℕ, ◌≡◌, refl, Bool, true, false, List, [], ◌∷◌, ◌++◌, map}
 use Rattle.hex_lines.specs.Lines.{split}
-use Rattle.fields.specs.Fields.{field_passes}
-use Rattle.kinds.specs.Kinds.{kind_at}
-use Rattle.frames.specs.Among.{has_kinds}
-use Rattle.frames.specs.Frames.{pass_all}
-use Rattle.frame_tests.specs.declared.tests.Text.{Text}
-use Rattle.frame_tests.specs.declared.tests.Text.TheVariants.{Query, Plan, Table}
-use Rattle.first_reading.specs.declared.first.Reading.{Reading}
-use Rattle.first_reading.specs.declared.first.Reading.TheVariants.{Accepted, Refused}
-use Rattle.second_reading.specs.Leading.{is_leader}
-use Rattle.second_reading.specs.Second.{reading, query_reading}
+use Rattle.reading.specs.Fields.{field_passes}
+use Rattle.reading.specs.Kinds.{kind_at}
+use Rattle.reading.specs.Among.{has_kinds}
+use Rattle.reading.specs.Frames.{pass_all}
+use Rattle.reading.specs.Text.{Text}
+use Rattle.reading.specs.Text.TheVariants.{Query, Plan, Table}
+use Rattle.reading.specs.Reading.{Reading}
+use Rattle.reading.specs.Reading.TheVariants.{Accepted, Refused}
+use Rattle.reading.specs.Leading.{is_leader}
+use Rattle.reading.specs.Second.{reading, query_reading}
 use Rattle.reading_facts.specs.Answers.{number_of}
 use Rattle.reading_facts.specs.Ascii.{ascii, times}
 

@@ -5,7 +5,7 @@ use Rattle.base.specs.Choose.{pick}
 use Rattle.model.specs.Atoms.{Atom}
 use Rattle.model.specs.Bound.{Bound, has}
 use Rattle.model.specs.Scheduling.{atom_of}
-use Rattle.cost.specs.Emitters.{Emitters, record_atom}
+use Rattle.emitters.specs.Emitters.{Emitters, record_atom}
 
 -- the numbers of those of k atoms, from number i on, whose use has changed
 unfoldable pub changed_from : Bound → Bound → ℕ → ℕ → List ℕ

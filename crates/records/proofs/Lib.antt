@@ -3,3 +3,9 @@ pub mod CopyLaws
 pub mod RowLaws
 pub mod LeaderLaws
 pub mod RowFrames
+pub use Rattle.reading.proofs.BehindLaws
+pub use Rattle.reading.proofs.LentLaws
+pub use Rattle.reading.proofs.QueryLaws
+pub use Rattle.reading.proofs.ReadLaws
+pub use Rattle.reading.proofs.SearchLaws
+pub use Rattle.reading.proofs.SheetLaws

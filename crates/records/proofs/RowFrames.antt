@@ -11,12 +11,12 @@ use lib.Pow.{are_bytes}
 use borrow.Author.Tests.{ltb-true, eqb-true, eq-eqb}
 use Rattle.base.specs.Choose.{pick}
 use Rattle.hexadecimal.specs.Digits.{short_at}
-use Rattle.kinds.specs.Kinds.{kinds, kind_at}
-use Rattle.frames.specs.Frames.{kind_of, frame_length}
-use Rattle.frames.specs.Sheet.{frame_at, Whole}
-use Rattle.frames.proofs.SheetLaws.{frame_before}
-use Rattle.frame_keys.specs.Keys.{begins, find, is_found, key_given}
-use Rattle.frame_tests.specs.Faults.{is_row}
+use Rattle.reading.specs.Kinds.{kinds, kind_at}
+use Rattle.reading.specs.Frames.{kind_of, frame_length}
+use Rattle.reading.specs.Sheet.{frame_at, Whole}
+use Rattle.reading.proofs.SheetLaws.{frame_before}
+use Rattle.reading.specs.Keys.{begins, find, is_found, key_given}
+use Rattle.reading.specs.Faults.{is_row}
 use Rattle.model.proofs.Bools.{first, second, both, bool_ext}
 use Rattle.model.proofs.EqualityLaws.{Equals, equal_numbers, equal_lists}
 use Rattle.model.specs.Atoms.{Row, Node, Literal, children}

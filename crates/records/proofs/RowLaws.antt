@@ -6,8 +6,8 @@ use mathlib.Core.List.{List, [], ◌∷◌}
 use native.Mathlib.Omega.{arith}
 use lib.ListN.{length, get_or}
 use Rattle.base.specs.Choose.{pick}
-use Rattle.frame_tests.specs.Faults.{is_row}
-use Rattle.frame_tests.specs.declared.tests.Text.TheVariants.{Table}
+use Rattle.reading.specs.Faults.{is_row}
+use Rattle.reading.specs.Text.TheVariants.{Table}
 use Rattle.reading.proofs.Formed.{count_from}
 use Rattle.records.specs.Rows.{row_of, rows_in}
 

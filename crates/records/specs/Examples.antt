@@ -1,7 +1,7 @@
 -- Computed: rows and lookups, read off frames.
 use Rattle.std.specs.Prelude.{ℕ, ◌≡◌, refl, List, [], ◌∷◌}
-use Rattle.kinds.specs.Kinds.{kind_at, kinds}
-use Rattle.frames.specs.Sheet.{frames_in, frames_up_to}
+use Rattle.reading.specs.Kinds.{kind_at, kinds}
+use Rattle.reading.specs.Sheet.{frames_in, frames_up_to}
 use Rattle.model.specs.Atoms.{local, global, ByOp, ByChildPos, ByRepr, ByContains, Row, Node, Literal}
 use Rattle.records.specs.Items.{items_at}
 use Rattle.records.specs.Rows.{row_of, rows_in, halves_of, halves_in}

@@ -2,7 +2,7 @@
 use Rattle.std.specs.Prelude.{ℕ, Bool, false, ◌&&◌, List, ◌∷◌, map, length, take, eqb}
 use Rattle.base.specs.Choose.{pick}
 use Rattle.hexadecimal.specs.Digits.{short_at}
-use Rattle.frame_keys.specs.Keys.{find, is_found}
+use Rattle.reading.specs.Keys.{find, is_found}
 use Rattle.model.specs.Atoms.{Row, Node, Literal}
 use Rattle.model.specs.Equality.{same_list}
 use Rattle.model.specs.Firsts.{firsts}

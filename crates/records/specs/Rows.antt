@@ -3,7 +3,7 @@ use Rattle.std.specs.Prelude.{ℕ, ◌/◌, ◌%◌, length, get_or, eqb}
 use mathlib.Core.List.{List, [], ◌∷◌, ◌++◌, flat_map}
 use Rattle.base.specs.Choose.{pick}
 use Rattle.hexadecimal.specs.Digits.{short_at, word_at}
-use Rattle.frame_tests.specs.Faults.{is_row}
+use Rattle.reading.specs.Faults.{is_row}
 use Rattle.model.specs.Atoms.{Row, Node, Literal}
 use Rattle.model.specs.Limits.{class_bytes}
 use Rattle.records.specs.Items.{items_at}

@@ -3,3 +3,6 @@
 #![tactic(auto)]
 
 pub mod shorts;
+
+pub use reading;
+pub use reading::{fields, first_reading, frame_tests, frames, indexing, kinds, second_reading};

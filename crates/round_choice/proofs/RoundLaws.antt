@@ -4,15 +4,15 @@ use mathlib.Core.Path.{subst}
 use mathlib.Core.Option.{none}
 use mathlib.Core.List.{List}
 use lib.ListN.{length}
-use Rattle.frames.specs.Sheet.{frames_in}
+use Rattle.choosing.specs.Sheet.{frames_in}
 use Rattle.model.specs.Scheduling.{State, numbers}
-use Rattle.cost.specs.Memo.{tally_at}
-use Rattle.cost.specs.declared.memo.Sampling.{Sampling}
-use Rattle.passes.specs.Eager.{sheet_atoms}
+use Rattle.choosing.specs.Memo.{tally_at}
+use Rattle.choosing.specs.Sampling.{Sampling}
+use Rattle.choosing.specs.Eager.{sheet_atoms}
 use Rattle.choosing.specs.Choosing.{candidates}
-use Rattle.advancing.specs.Advancing.{emitters_of, Advances}
+use Rattle.choosing.specs.Advancing.{emitters_of, Advances}
 use Rattle.round_choice.specs.RoundChoice.{round_tally, RoundRoom}
-use Rattle.advancing.specs.declared.advance.Scheduler.{Scheduler}
+use Rattle.choosing.specs.Scheduler.{Scheduler}
 
 module _ (x : List ℕ) (d e : Scheduler) where
   pub choice_room : Advances x d e → (keys : List ℕ) (s : Sampling) → RoundRoom x d keys s → length (candidates (frames_in x) (emitters_of e) (sheet_atoms x) e.used e.bound (numbers (sheet_atoms x)) (tally_at keys s) none).next.memo ≤ length keys

@@ -2,3 +2,5 @@
 #![tactic(auto)]
 
 pub mod next;
+
+pub use choosing::{advancing, bidding, cost, memo_entries, prices, query};

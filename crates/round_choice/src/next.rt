@@ -1,16 +1,16 @@
 // An eager round, and the cheapest of the atoms that are left behind it.
-ghost use Rattle.frames.specs.Sheet.{frames_in};
-ghost use Rattle.given.specs.Given.{Given};
-ghost use Rattle.passes.specs.Eager.{Located};
-ghost use Rattle.prices.specs.Prices.{Priced};
-ghost use Rattle.samples.specs.Remembering.{Samples, Remembers};
-ghost use Rattle.advancing.specs.Advancing.{Prepared};
+ghost use Rattle.choosing.specs.Sheet.{frames_in};
+ghost use Rattle.choosing.specs.Given.{Given};
+ghost use Rattle.choosing.specs.Eager.{Located};
+ghost use Rattle.choosing.specs.Prices.{Priced};
+ghost use Rattle.choosing.specs.Remembering.{Samples, Remembers};
+ghost use Rattle.choosing.specs.Advancing.{Prepared};
 ghost use Rattle.round_choice.specs.RoundChoice.{Chooses, RoundRoom};
 
-use advancing::advance::{Scheduler, advance};
-use bidding::bid::Best;
+use choosing::advancing::advance::{Scheduler, advance};
+use choosing::bidding::bid::Best;
 use choosing::choose::cheapest;
-use cost::memo::Sampling;
+use choosing::cost::memo::Sampling;
 
 // The state behind an eager round, and the cheapest of the atoms left.
 #[derive(Clone, Copy)]

@@ -6,18 +6,18 @@ use mathlib.Core.List.{List, Memᴰ}
 use native.Mathlib.Omega.{arith}
 use lib.ListN.{length}
 use lib.Ieee.{Float}
-use Rattle.first_reading.specs.First.{frames_of}
-use Rattle.frame_tests.specs.declared.tests.Text.TheVariants.{Query}
-use Rattle.first_reading.specs.declared.first.Reading.TheVariants.{Accepted}
-use Rattle.second_reading.specs.Second.{reading}
-use Rattle.reading_facts.proofs.Whole.{query_within}
+use Rattle.fitting.specs.First.{frames_of}
+use Rattle.fitting.specs.Text.TheVariants.{Query}
+use Rattle.fitting.specs.Reading.TheVariants.{Accepted}
+use Rattle.fitting.specs.Second.{reading}
+use Rattle.fitting.proofs.Whole.{query_within}
 use Rattle.model.specs.Atoms.{Atom}
 use Rattle.model.proofs.TabulateLaws.{tabulate_mem}
 use Rattle.model.specs.Scheduling.{State, atom_of, numbers, lower_eager, emit_at, go_on, rounds_up_to, unplanned}
-use Rattle.cost.specs.QueryAtoms.{atoms_in}
-use Rattle.cost.specs.Choice.{Memory, fresh, recorded, emitted_by, by_cost, choose, rounds_from}
-use Rattle.cost.proofs.ChoiceLaws.{choose_fair}
-use Rattle.plan_facts.proofs.QueryPlansLaws.{atoms_number}
+use Rattle.fitting.specs.QueryAtoms.{atoms_in}
+use Rattle.fitting.specs.Choice.{Memory, fresh, recorded, emitted_by, by_cost, choose, rounds_from}
+use Rattle.fitting.proofs.ChoiceLaws.{choose_fair}
+use Rattle.fitting.proofs.QueryPlansLaws.{atoms_number}
 use Rattle.fitting.specs.Planner.{given}
 use Rattle.fitting.proofs.ReadingsLaws.{readings_hold}
 use Rattle.round_costs.specs.Costs.{Answer as RoundAnswer, Chosen, Ended, Invalid, Result, told_by, told, round_of, refused_with, round_costs}

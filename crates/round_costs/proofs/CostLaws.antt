@@ -8,25 +8,25 @@ use native.Mathlib.Omega.{arith}
 use lib.ListN.{length, take}
 use borrow.Author.Tests.{not-true, not-false}
 use Rattle.base.specs.Choose.{pick}
-use Rattle.frames.specs.Sheet.{frames_in}
-use Rattle.first_reading.specs.First.{frames_of, Sheet}
-use Rattle.frame_tests.specs.declared.tests.Text.TheVariants.{Table}
-use Rattle.first_reading.specs.declared.first.Reading.{Reading}
-use Rattle.first_reading.specs.declared.first.Reading.TheVariants.{Accepted, Refused}
-use Rattle.second_reading.specs.Second.{reading, query_reading}
+use Rattle.fitting.specs.Sheet.{frames_in}
+use Rattle.fitting.specs.First.{frames_of, Sheet}
+use Rattle.fitting.specs.Text.TheVariants.{Table}
+use Rattle.fitting.specs.Reading.{Reading}
+use Rattle.fitting.specs.Reading.TheVariants.{Accepted, Refused}
+use Rattle.fitting.specs.Second.{reading, query_reading}
 use Rattle.model.specs.Atoms.{Atom}
-use Rattle.cost.specs.QueryAtoms.{atoms_in}
-use Rattle.given.specs.Asks.{asks_table}
-use Rattle.given.specs.Sampled.{sampled_from}
-use Rattle.passes.specs.Eager.{sheet_atoms}
+use Rattle.fitting.specs.QueryAtoms.{atoms_in}
+use Rattle.fitting.specs.Asks.{asks_table}
+use Rattle.fitting.specs.Sampled.{sampled_from}
+use Rattle.fitting.specs.Eager.{sheet_atoms}
 use Rattle.cost_bits.specs.CostBits.{cost_bits}
-use Rattle.scheduling.specs.Rounds.{Rounded}
-use Rattle.scheduling.specs.declared.schedule.Scheduled.{Scheduled}
-use Rattle.ordering.proofs.OrderLaws.{sheet_atoms_lem}
+use Rattle.fitting.specs.Rounds.{Rounded}
+use Rattle.fitting.specs.Scheduled.{Scheduled}
+use Rattle.fitting.proofs.OrderLaws.{sheet_atoms_lem}
 use Rattle.fitting.specs.Planner.{given}
 use Rattle.fitting.proofs.ReadingsLaws.{query_refused, read_alone, table_refused, read_both}
-use Rattle.gathering.specs.Handed.{handed_if}
-use Rattle.gathering.specs.Gathered.{Asks, Both}
+use Rattle.fitting.specs.Handed.{handed_if}
+use Rattle.fitting.specs.Gathered.{Asks, Both}
 use Rattle.round_costs.specs.Costs.{round_of, told, Result, round_result, refused_with, round_costs}
 use Rattle.cost_bits.specs.ToldBits.{bits_in}
 use Rattle.round_costs.specs.declared.rounds.RoundCosts.TheVariants.{Chosen, Ended, Refused as Refuses}

@@ -1,10 +1,10 @@
 -- The costs of a round, for the caller: their bits in a lent array, and the atom chosen.
 use Rattle.std.specs.Prelude.{ℕ, suc, List, [], map, length, Float}
 use Rattle.std.proofs.Math.Option.{Option, none, some}
-use Rattle.first_reading.specs.First.{frames_of}
+use Rattle.fitting.specs.First.{frames_of}
 use Rattle.model.specs.Atoms.{Atom}
-use Rattle.cost.specs.QueryAtoms.{atoms_in}
-use Rattle.cost.specs.Choice.{Memory, rounds}
+use Rattle.fitting.specs.QueryAtoms.{atoms_in}
+use Rattle.fitting.specs.Choice.{Memory, rounds}
 use Rattle.fitting.specs.Planner.{given, after_readings}
 use Rattle.cost_bits.specs.CostBits.{cost_bits}
 use Rattle.round_costs.specs.declared.rounds.RoundCosts.{RoundCosts}

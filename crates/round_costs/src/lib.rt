@@ -2,3 +2,6 @@
 #![tactic(auto)]
 
 pub mod rounds;
+
+pub use fitting;
+pub use fitting::gathering;

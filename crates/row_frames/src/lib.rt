@@ -2,3 +2,8 @@
 #![tactic(auto)]
 
 pub mod row;
+
+pub use records;
+pub use records::{
+    fields, first_reading, frame_tests, frames, indexing, kinds, reading, second_reading,
+};

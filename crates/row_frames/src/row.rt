@@ -5,8 +5,8 @@ ghost use Rattle.model.specs.Running.{among};
 ghost use Rattle.records.specs.Rows.{row_of};
 ghost use Rattle.row_frames.specs.Wanted.{count_of, has_at, wanted};
 
-use fields::field::{wide, wide_short};
 use hexadecimal::{byte_at, short_at};
+use records::fields::field::{wide, wide_short};
 
 // What is asked of a row, by its path: an operator, a class at a place among the children, or a class anywhere among them.
 #[derive(Clone, Copy)]

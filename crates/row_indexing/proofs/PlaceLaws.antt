@@ -10,12 +10,12 @@ use lib.Seq.{drop-cons, get_or-set_same, get_or-set_other, take-set-le, take-tak
 use lib.Dec.{eqb}
 use borrow.Author.Tests.{eqb-true, eqb-false, not-true, not-false}
 use Rattle.base.specs.Choose.{pick}
-use Rattle.frame_tests.specs.Faults.{is_row}
-use Rattle.frames.specs.Sheet.{frame_at}
-use Rattle.frames.proofs.SheetLaws.{frames_end, frame_some, frame_within, frames_step}
+use Rattle.buckets.specs.Faults.{is_row}
+use Rattle.buckets.specs.Sheet.{frame_at}
+use Rattle.buckets.proofs.SheetLaws.{frames_end, frame_some, frame_within, frames_step}
 use Rattle.model.specs.Atoms.{Row}
 use Rattle.model.specs.Running.{no_row}
-use Rattle.records.specs.Rows.{row_of, rows_in}
+use Rattle.buckets.specs.Rows.{row_of, rows_in}
 use Rattle.buckets.specs.RowIndex.{rows_at, heads_at, place_at, rows_on}
 use Rattle.row_indexing.specs.Filling.{rows_placed, FillRoom, Placed, TableIndexed, TableRoom}
 use Rattle.row_indexing.proofs.FillLaws.{placed_length, placed_at}

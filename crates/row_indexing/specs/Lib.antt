@@ -1,1 +1,2 @@
 pub mod Filling
+pub use Rattle.buckets.specs.RowIndex

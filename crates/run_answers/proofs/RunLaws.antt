@@ -6,8 +6,8 @@ use Rattle.packing.specs.Packed.{packed_refusal, packed_written}
 use Rattle.packing.specs.Unpacked.{TellsRefusal}
 use Rattle.packing.proofs.UnpackedLaws.{refusal_told}
 use Rattle.model.specs.Limits.{Status, Done, Spent, Full}
-use Rattle.running.proofs.RefusalBounds.{Within}
-use Rattle.counting.specs.Halts.{status_number}
+use Rattle.entries.proofs.RefusalBounds.{Within}
+use Rattle.entries.specs.Halts.{status_number}
 use Rattle.entries.specs.Outcomes.{status_of, outcome_of}
 use Rattle.entries.specs.declared.run.Status.{Status as StatusAs}
 use Rattle.entries.specs.declared.run.Outcome.{Outcome as OutcomeAs}

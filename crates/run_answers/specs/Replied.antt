@@ -2,8 +2,8 @@
 use Rattle.std.specs.Prelude.{ℕ, ◌≡◌, List, ltb, length}
 use Rattle.base.specs.Choose.{pick}
 use Rattle.model.specs.Running.{Mode}
-use Rattle.output.specs.Written.{written}
-use Rattle.running.specs.Run.{line_text, Reply, Rejected, Match, None, Exhausted, Replies}
+use Rattle.entries.specs.Written.{written}
+use Rattle.entries.specs.Run.{line_text, Reply, Rejected, Match, None, Exhausted, Replies}
 use Rattle.packing.specs.Packed.{packed_refusal}
 
 -- "some match, none .. or spent": 2, 0 or 1

@@ -4,3 +4,6 @@
 pub mod atoms;
 pub mod runs;
 pub mod some;
+
+pub use entries;
+pub use entries::{first_reading, frame_tests, reading};

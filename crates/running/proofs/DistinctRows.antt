@@ -11,21 +11,21 @@ use lib.ListN.{length, get_or, take-append-drop}
 use lib.Pow.{are_bytes}
 use Rattle.base.specs.Choose.{pick}
 use Rattle.base.proofs.ChooseLaws.{is_true}
-use Rattle.kinds.specs.Kinds.{kinds, kind_at}
-use Rattle.frame_tests.specs.Faults.{is_row}
-use Rattle.first_reading.specs.First.{frames_of}
-use Rattle.frame_tests.specs.declared.tests.Text.TheVariants.{Table}
-use Rattle.first_reading.specs.declared.first.Reading.TheVariants.{Accepted}
-use Rattle.frame_keys.specs.Keys.{key_of}
-use Rattle.second_reading.specs.Second.{reading}
+use Rattle.reading_facts.specs.Kinds.{kinds, kind_at}
+use Rattle.reading_facts.specs.Faults.{is_row}
+use Rattle.reading_facts.specs.First.{frames_of}
+use Rattle.reading_facts.specs.Text.TheVariants.{Table}
+use Rattle.reading_facts.specs.Reading.TheVariants.{Accepted}
+use Rattle.reading_facts.specs.Keys.{key_of}
+use Rattle.reading_facts.specs.Second.{reading}
 use Rattle.reading_facts.proofs.Whole.{accepted, frame_bytes}
 use Rattle.set_model.specs.Lists.{Pairs}
 use Rattle.model.specs.Atoms.{Row, rows}
 use Rattle.model.specs.Matching.{Distinct}
-use Rattle.records.specs.Rows.{row_of, rows_in, row_frame}
-use Rattle.records.specs.Leaders.{standing}
-use Rattle.records.proofs.LeaderLaws.{standing_apart}
-use Rattle.records.proofs.RowFrames.{Formed, IsRow, is_node_lem, is_literal_lem, row_kind, row_back}
+use Rattle.plans.specs.Rows.{row_of, rows_in, row_frame}
+use Rattle.plans.specs.Leaders.{standing}
+use Rattle.plans.proofs.LeaderLaws.{standing_apart}
+use Rattle.plans.proofs.RowFrames.{Formed, IsRow, is_node_lem, is_literal_lem, row_kind, row_back}
 use Rattle.running.specs.Tables.{old_rows, table_of, table_in}
 
 -- ---- the rows among frames

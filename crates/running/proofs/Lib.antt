@@ -5,3 +5,12 @@ pub mod Refusals
 pub mod RunLaws
 pub mod Second
 pub mod TableRows
+pub use Rattle.plans.proofs.Fitting
+pub use Rattle.plans.proofs.Idempotent
+pub use Rattle.plans.proofs.LeaderLaws
+pub use Rattle.plans.proofs.Longest
+pub use Rattle.plans.proofs.PlanRead
+pub use Rattle.plans.proofs.RowFrames
+pub use Rattle.plans.proofs.StepsRead
+pub use Rattle.plans.proofs.Texts
+pub use Rattle.reading_facts.proofs.Whole

@@ -18,7 +18,7 @@ use Rattle.model.specs.Matching.{Line, Counts, line}
 use Rattle.model.proofs.Carried.{LitHas, EnvHas}
 use Rattle.model.specs.Limits.{class_bytes, lit_bytes, match_kind, match_frame, line_end}
 use Rattle.model.proofs.Frames.{frame_one}
-use Rattle.records.specs.Items.{Each}
+use Rattle.plans.specs.Items.{Each}
 use Rattle.plans.proofs.StepsPass.{bytes_append, items_bytes_lem}
 use Rattle.running.specs.Run.{line_text}
 

@@ -14,16 +14,16 @@ use borrow.Author.Tests.{leb-true}
 use Rattle.base.proofs.ChooseLaws.{pick_elim}
 use Rattle.hexadecimal.specs.Digits.{short_at, word_at}
 use Rattle.hexadecimal.proofs.Bytes.{byte_at}
-use Rattle.fields.specs.Limits.{class_most, globals_most}
-use Rattle.fields.specs.Fields.{field_passes, field_fits, no_counts}
-use Rattle.fields.specs.declared.field.Test.TheVariants.{Limits}
-use Rattle.kinds.specs.Kinds.{kinds, kind_at}
-use Rattle.frames.specs.Frames.{frame_passes}
-use Rattle.first_reading.specs.First.{frames_of}
-use Rattle.frame_tests.specs.declared.tests.Text.TheVariants.{Table as TableText}
-use Rattle.first_reading.specs.declared.first.Reading.TheVariants.{Accepted}
-use Rattle.frame_keys.specs.Keys.{begins, find, is_found}
-use Rattle.second_reading.specs.Second.{reading}
+use Rattle.reading_facts.specs.Limits.{class_most, globals_most}
+use Rattle.reading_facts.specs.Fields.{field_passes, field_fits, no_counts}
+use Rattle.reading_facts.specs.Test.TheVariants.{Limits}
+use Rattle.reading_facts.specs.Kinds.{kinds, kind_at}
+use Rattle.reading_facts.specs.Frames.{frame_passes}
+use Rattle.reading_facts.specs.First.{frames_of}
+use Rattle.reading_facts.specs.Text.TheVariants.{Table as TableText}
+use Rattle.reading_facts.specs.Reading.TheVariants.{Accepted}
+use Rattle.reading_facts.specs.Keys.{begins, find, is_found}
+use Rattle.reading_facts.specs.Second.{reading}
 use Rattle.reading_facts.proofs.Passes.{frame_field, frame_item}
 use Rattle.reading_facts.proofs.Found.{begun_kind, found_at}
 use Rattle.reading_facts.proofs.Whole.{accepted, frame_bytes}
@@ -32,12 +32,12 @@ use Rattle.model.proofs.TabulateLaws.{tabulate_at, tabulate_length}
 use Rattle.model.specs.Atoms.{Row, Node, Literal, class_of, children, value_of, unset, rows, global_class}
 use Rattle.model.specs.Matching.{Proper}
 use Rattle.model.proofs.Carried.{TableHas}
-use Rattle.records.specs.Items.{items_at}
-use Rattle.records.specs.Rows.{row_of, rows_in}
+use Rattle.plans.specs.Items.{items_at}
+use Rattle.plans.specs.Rows.{row_of, rows_in}
 use Rattle.model.specs.Limits.{class_bytes}
-use Rattle.records.specs.Leaders.{leading_key, leader_in, led_row}
-use Rattle.records.proofs.LeaderLaws.{stands_led}
-use Rattle.records.proofs.RowFrames.{IsRow, is_node_lem, is_literal_lem, row_kind}
+use Rattle.plans.specs.Leaders.{leading_key, leader_in, led_row}
+use Rattle.plans.proofs.LeaderLaws.{stands_led}
+use Rattle.plans.proofs.RowFrames.{IsRow, is_node_lem, is_literal_lem, row_kind}
 use Rattle.running.specs.Tables.{global_in, table_of, table_in}
 use Rattle.running.proofs.DistinctRows.{row_at, table_rows}
 

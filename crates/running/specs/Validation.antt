@@ -4,20 +4,20 @@ use Rattle.std.specs.Prelude.{ℕ, zero, suc, Bool, true, false, ◌&&◌, not, 
 use mathlib.Core.List.{List, [], ◌∷◌, ◌++◌, flat_map}
 use Rattle.std.proofs.Math.Option.{none, some}
 use Rattle.base.specs.Choose.{pick}
-use Rattle.kinds.specs.Kinds.{plan, table}
-use Rattle.fields.specs.Limits.{variables_most}
-use Rattle.frame_tests.specs.Faults.{is_row}
-use Rattle.first_reading.specs.First.{frames_of}
-use Rattle.frame_tests.specs.declared.tests.Text.TheVariants.{Plan, Table as TableText}
-use Rattle.first_reading.specs.declared.first.Reading.{Reading}
-use Rattle.first_reading.specs.declared.first.Reading.TheVariants.{Accepted, Refused}
-use Rattle.second_reading.specs.Second.{reading}
+use Rattle.reading_facts.specs.Kinds.{plan, table}
+use Rattle.reading_facts.specs.Limits.{variables_most}
+use Rattle.reading_facts.specs.Faults.{is_row}
+use Rattle.reading_facts.specs.First.{frames_of}
+use Rattle.reading_facts.specs.Text.TheVariants.{Plan, Table as TableText}
+use Rattle.reading_facts.specs.Reading.{Reading}
+use Rattle.reading_facts.specs.Reading.TheVariants.{Accepted, Refused}
+use Rattle.reading_facts.specs.Second.{reading}
 use Rattle.model.specs.Atoms.{Operand, local, global, wild, Lookup, ByOp, ByChildPos, ByRepr, ByContains, Step, Join, ExtractChild, CheckChildEq, CheckEq, CheckEqGlobal, BindGlobal, CopyBinding, Expand, ExtractLitVal, CheckLit, CheckPred, Row, Node, Literal, op_of, unset, Table, global_class}
 use Rattle.model.specs.Bound.{Bound, blank}
 use Rattle.model.specs.Reading.{bound_by, picked_by, ready}
 use Rattle.model.specs.Refusing.{runnable, all_rows, fits, ops_by, has_join}
 use Rattle.model.specs.Running.{Mode}
-use Rattle.records.specs.Rows.{row_of}
+use Rattle.plans.specs.Rows.{row_of}
 use Rattle.running.specs.Tables.{table_in, steps_in, plan_steps}
 
 -- "A refusal returns number, text (query, plan, table) and line from 1": the texts are 00, 01 and 02

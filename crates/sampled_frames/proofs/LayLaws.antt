@@ -7,24 +7,24 @@ use native.Mathlib.Numerals.{add-one}
 use native.Mathlib.Omega.{arith}
 use lib.ListN.{length, get_or, take, drop, set, length-map, length-take}
 use lib.Seq.{take-suc}
-use Rattle.fields.specs.Limits.{items_most}
-use Rattle.kinds.specs.Kinds.{kinds, kind_at, table}
-use Rattle.frames.specs.Sheet.{frames_in}
-use Rattle.second_reading.specs.Leading.{has_leaders}
+use Rattle.plans.specs.Limits.{items_most}
+use Rattle.plans.specs.Kinds.{kinds, kind_at, table}
+use Rattle.plans.specs.Sheet.{frames_in}
+use Rattle.plans.specs.Leading.{has_leaders}
 use Rattle.model.specs.Atoms.{Row, Node, Literal, children}
-use Rattle.records.specs.Items.{Each}
-use Rattle.records.specs.Rows.{rows_in, row_frame}
-use Rattle.records.specs.Leaders.{leader_in, led_row, standing}
-use Rattle.records.proofs.ItemsLaws.{each_all}
-use Rattle.records.proofs.LeaderLaws.{stands_led, standing_few}
-use Rattle.records.proofs.RowFrames.{rows_read}
+use Rattle.plans.specs.Items.{Each}
+use Rattle.plans.specs.Rows.{rows_in, row_frame}
+use Rattle.plans.specs.Leaders.{leader_in, led_row, standing}
+use Rattle.plans.proofs.ItemsLaws.{each_all}
+use Rattle.plans.proofs.LeaderLaws.{stands_led, standing_few}
+use Rattle.plans.proofs.RowFrames.{rows_read}
 use Rattle.plans.proofs.Fitting.{each_mem}
 use Rattle.row_indexing.proofs.TableLaws.{narrow_rows}
 use Rattle.standing.specs.Laid.{Lays}
 use Rattle.standing.specs.Stands.{Stands}
 use Rattle.standing.specs.declared.lay.Stood.{Stood}
 use Rattle.standing.proofs.PutLaws.{lays_byte, lays_both, lays_before, lays_there}
-use Rattle.given.specs.Sampled.{sampled_from}
+use Rattle.behind.specs.Sampled.{sampled_from}
 use Rattle.behind.specs.Behind.{FramesOf}
 use Rattle.sampled_frames.specs.Laid.{CopyRoom, part_of, TableLaid, SampledSheet, SampledLaid}
 

@@ -1,14 +1,14 @@
 -- A table on a part of a sheet, and in its place the frames that samples are taken from.
 use Rattle.std.specs.Prelude.{ℕ, ◌+◌, ◌-◌, ◌≤◌, ◌≡◌, List, length, take, drop}
-use Rattle.fields.specs.Limits.{items_most, rows_most}
-use Rattle.kinds.specs.Kinds.{table}
-use Rattle.frames.specs.Sheet.{frames_in}
-use Rattle.indexing.specs.Index.{Indexed}
+use Rattle.plans.specs.Limits.{items_most, rows_most}
+use Rattle.plans.specs.Kinds.{table}
+use Rattle.plans.specs.Sheet.{frames_in}
+use Rattle.standing.specs.Index.{Indexed}
 use Rattle.model.specs.Atoms.{children}
-use Rattle.records.specs.Items.{Each}
-use Rattle.records.specs.Rows.{rows_in}
+use Rattle.plans.specs.Items.{Each}
+use Rattle.plans.specs.Rows.{rows_in}
 use Rattle.standing.specs.Stands.{RowsSheet}
-use Rattle.given.specs.Sampled.{sampled_from}
+use Rattle.behind.specs.Sampled.{sampled_from}
 use Rattle.behind.specs.Behind.{FramesOf}
 
 -- there is room for a copy of n bytes of b behind the first `at` of s

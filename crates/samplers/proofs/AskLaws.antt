@@ -6,10 +6,10 @@ use mathlib.Core.List.{List}
 use native.Mathlib.Omega.{arith}
 use lib.ListN.{length, get_or}
 use lib.Seq.{get_or-take}
-use Rattle.frames.specs.Sheet.{frames_in}
+use Rattle.table_samples.specs.Sheet.{frames_in}
 use Rattle.query.specs.Statistics.{driver_sample, key_classes, probe_len}
-use Rattle.buckets.specs.RowIndex.{rows_on}
-use Rattle.buckets.proofs.NumberLaws.{each_at}
+use Rattle.table_samples.specs.RowIndex.{rows_on}
+use Rattle.table_samples.proofs.NumberLaws.{each_at}
 use Rattle.table_samples.specs.TableSamples.{table_drivers, table_classes, table_probe}
 use Rattle.table_samples.specs.Listed.{Listed, RowsListed}
 use Rattle.samplers.specs.Samplers.{sampler_by}

@@ -5,10 +5,10 @@ use mathlib.Core.List.{List, [], ◌∷◌}
 use native.Mathlib.Omega.{arith}
 use lib.ListN.{length, get_or, take}
 use Rattle.hexadecimal.specs.Digits.{short_at}
-use Rattle.frame_keys.specs.Keys.{find}
-use Rattle.records.specs.Items.{items_at}
-use Rattle.records.specs.Shorts.{CopyRoom, Copied}
-use Rattle.records.proofs.ItemsLaws.{items_take}
+use Rattle.table_samples.specs.Keys.{find}
+use Rattle.table_samples.specs.Items.{items_at}
+use Rattle.table_samples.specs.Shorts.{CopyRoom, Copied}
+use Rattle.table_samples.proofs.ItemsLaws.{items_take}
 use Rattle.query.specs.Statistics.{high, low, driver_sample, key_classes}
 use Rattle.table_samples.specs.Listed.{Listed}
 

@@ -1,7 +1,7 @@
 -- What the sampler's answers ask, and the nodes that may be asked for.
 use Rattle.std.specs.Prelude.{ℕ, ◌<◌, ◌≡◌, Bool, true, List, length, get_or}
-use Rattle.buckets.specs.RowIndex.{RowsIndexed, rows_on}
-use Rattle.given.specs.Given.{Given}
+use Rattle.table_samples.specs.RowIndex.{RowsIndexed, rows_on}
+use Rattle.query.specs.Given.{Given}
 use Rattle.table_samples.specs.Listed.{Listed}
 
 -- the sheet s with the index i answers, from the rows of a table where `table` holds

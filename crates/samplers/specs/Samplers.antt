@@ -1,8 +1,8 @@
 -- `CrossSampler`: three questions, and the two that answer them, the query's sample sheets and, where frame 24 asks for it, a table.
 use Rattle.std.specs.Prelude.{ℕ, Bool, true, false, List}
-use Rattle.records.specs.Rows.{rows_in}
+use Rattle.table_samples.specs.Rows.{rows_in}
 use Rattle.query.specs.Statistics.{driver_sample, key_classes, probe_len}
-use Rattle.given.specs.Asks.{asks_table}
+use Rattle.query.specs.Asks.{asks_table}
 use Rattle.table_samples.specs.TableSamples.{table_drivers, table_classes, table_probe}
 
 pub record Sampler : Type 0 where

@@ -1,6 +1,6 @@
 // The sampler's three questions: a table answers where `table` holds, else the sample sheets.
 ghost use Rattle.std.specs.Prelude.{◌≡◌, ◌≤◌, length};
-ghost use Rattle.frames.specs.Sheet.{frames_in};
+ghost use Rattle.table_samples.specs.Sheet.{frames_in};
 ghost use Rattle.table_samples.specs.Listed.{Listed};
 ghost use Rattle.samplers.specs.Samplers.{sampler_by};
 ghost use Rattle.samplers.specs.Answers.{Drivers, Known, Answers};

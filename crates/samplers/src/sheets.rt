@@ -1,14 +1,14 @@
 // The answers of the sample sheets, frames 21 to 23: absent lists are empty, absent lengths 0.
 ghost use Rattle.std.specs.Prelude.{◌≡◌, ◌≤◌, length};
-ghost use Rattle.frames.specs.Sheet.{frames_in};
-ghost use Rattle.given.specs.Given.{Given};
+ghost use Rattle.table_samples.specs.Sheet.{frames_in};
+ghost use Rattle.query.specs.Given.{Given};
 ghost use Rattle.query.specs.Statistics.{high as high_of, low as low_of, driver_sample, key_classes, probe_len};
 ghost use Rattle.table_samples.specs.Listed.{Listed};
 
-use fields::field::wide;
-use given::search::find_in;
 use hexadecimal::{byte_at, word_at};
-use records::shorts::copy_shorts;
+use query::given::search::find_in;
+use table_samples::fields::field::wide;
+use table_samples::records::shorts::copy_shorts;
 use table_samples::tables::least;
 
 fn high(s: u16) -> u8

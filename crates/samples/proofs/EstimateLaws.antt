@@ -11,22 +11,22 @@ use lib.Ieee.{Float}
 use lib.ListN.{length, get_or, set, length-set}
 use lib.Seq.{get_or-set_same, get_or-set_other}
 use borrow.Author.Tests.{lt-ltb, le-ltb, ltb-true, ltb-false}
-use Rattle.given.specs.Given.{Given}
+use Rattle.memo_entries.specs.Given.{Given}
 use Rattle.measure.specs.Selectivity.{zero64}
 use Rattle.measure.specs.declared.FanOut.{FanOut}
 use Rattle.measure.specs.declared.FanOut.TheVariants.{Measured, Unmeasured}
 use Rattle.measure.specs.declared.SamplerConfig.{SamplerConfig}
 use Rattle.measure.specs.declared.Estimate.{Estimate}
 use Rattle.measure.specs.declared.Estimate.TheVariants.{Accepted, Rejected}
-use Rattle.query.specs.declared.statistics.Sampled.TheVariants.{On}
-use Rattle.cost.specs.declared.probes.Key.{Key}
-use Rattle.cost.specs.declared.draws.Measurement.{Measurement}
-use Rattle.cost.specs.declared.draws.Measurement.TheVariants.{NoDraws, Accepted as Taken, Rejected as Refused}
-use Rattle.cost.specs.declared.memo.Sampling.{Sampling}
-use Rattle.cost.specs.Sampling.{Tally, is_known, measure, value_of, tally_of, after_estimate}
-use Rattle.cost.specs.Memo.{unpack_key, entry_key, has_value, memo_at, counted_by, tally_at}
-use Rattle.cost.specs.Draws.{measurement_of}
-use Rattle.cost.specs.Costs.{estimate, or_measured}
+use Rattle.memo_entries.specs.Sampled.TheVariants.{On}
+use Rattle.memo_entries.specs.Key.{Key}
+use Rattle.memo_entries.specs.Measurement.{Measurement}
+use Rattle.memo_entries.specs.Measurement.TheVariants.{NoDraws, Accepted as Taken, Rejected as Refused}
+use Rattle.memo_entries.specs.Sampling.{Sampling}
+use Rattle.memo_entries.specs.CostSampling.{Tally, is_known, measure, value_of, tally_of, after_estimate}
+use Rattle.memo_entries.specs.Memo.{unpack_key, entry_key, has_value, memo_at, counted_by, tally_at}
+use Rattle.memo_entries.specs.Draws.{measurement_of}
+use Rattle.memo_entries.specs.Costs.{estimate, or_measured}
 use Rattle.memo_entries.specs.Remembered.{memo_value, measured_fan, is_measured, entry_of, fan_value, Placed}
 use Rattle.samples.specs.Remembering.{Samples, Remembers, Gives}
 use Rattle.memo_entries.proofs.MemoLaws.{memo_more}

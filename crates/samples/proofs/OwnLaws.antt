@@ -3,8 +3,8 @@ use Prim.Native.Nat.{ℕ}
 use mathlib.Core.Path.{sym, subst}
 use mathlib.Core.List.{List}
 use lib.Ieee.{Float}
-use Rattle.query.specs.declared.statistics.Sampled.{Sampled}
-use Rattle.cost.specs.declared.memo.Sampling.{Sampling}
+use Rattle.memo_entries.specs.Sampled.{Sampled}
+use Rattle.memo_entries.specs.Sampling.{Sampling}
 use Rattle.samples.specs.Remembering.{Samples, Remembers}
 
 module _ (fs : List (List ℕ)) (how : Sampled) (ks : List ℕ) (xs : List Float) (s : Sampling) (m : Remembers fs how ks xs s) where

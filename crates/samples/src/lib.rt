@@ -3,3 +3,6 @@
 
 pub mod memo;
 pub mod sampled;
+
+pub use memo_entries;
+pub use memo_entries::{cost, fields, query};

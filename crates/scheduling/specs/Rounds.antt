@@ -3,13 +3,13 @@ use Rattle.std.specs.Prelude.{ℕ, suc, ◌≤◌, ◌≡◌, length, take}
 use Rattle.std.proofs.Math.Option.{Option, none, some}
 use mathlib.Core.List.{List, Memᴰ, map}
 use Rattle.base.specs.Choose.{pick}
-use Rattle.frames.specs.Sheet.{frames_in}
+use Rattle.round_choice.specs.Sheet.{frames_in}
 use Rattle.model.specs.Atoms.{Step}
 use Rattle.model.specs.Bound.{Bound, bound_most, blank}
 use Rattle.model.specs.Lowering.{Lowered}
 use Rattle.model.specs.Scheduling.{Progress, atom_of, numbers}
-use Rattle.cost.specs.Choice.{Memory, rounds, planned, remembered}
-use Rattle.passes.specs.Eager.{state, sheet_atoms}
+use Rattle.round_choice.specs.Choice.{Memory, rounds, planned, remembered}
+use Rattle.round_choice.specs.Eager.{state, sheet_atoms}
 use Rattle.cost_bits.specs.CostBits.{cost_bits}
 use Rattle.scheduling.specs.declared.schedule.Scheduled.{Scheduled}
 

@@ -2,3 +2,5 @@
 #![tactic(auto)]
 
 pub mod schedule;
+
+pub use round_choice::{memo_entries, prices};

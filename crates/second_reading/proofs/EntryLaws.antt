@@ -9,9 +9,9 @@ use lib.ListN.{length, get_or}
 use lib.Dec.{eqb}
 use borrow.Author.Tests.{eqb-true, eqb-false}
 use Rattle.base.specs.Choose.{pick}
-use Rattle.kinds.specs.Kinds.{kinds, kind_at}
-use Rattle.frames.specs.Frames.{kind_of, frame_length}
-use Rattle.frame_keys.specs.Keys.{begins, find, is_found, key_given}
+use Rattle.indexing.specs.Kinds.{kinds, kind_at}
+use Rattle.indexing.specs.Frames.{kind_of, frame_length}
+use Rattle.indexing.specs.Keys.{begins, find, is_found, key_given}
 use Rattle.indexing.specs.Index.{entries_with}
 use Rattle.indexing.proofs.SlotLaws.{keyed_three}
 use Rattle.indexing.proofs.NoteLaws.{find_more}

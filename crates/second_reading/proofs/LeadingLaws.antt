@@ -11,9 +11,9 @@ use Rattle.base.specs.Choose.{pick}
 use Rattle.hexadecimal.specs.Digits.{short_at}
 use Rattle.class_sets.specs.Sets.{set_words, has_class, with_class}
 use Rattle.class_sets.proofs.SetLaws.{class_more, same_words}
-use Rattle.kinds.specs.Kinds.{kinds, kind_at}
-use Rattle.frames.specs.Frames.{kind_of}
-use Rattle.frame_keys.specs.Keys.{begins, find, is_found}
+use Rattle.indexing.specs.Kinds.{kinds, kind_at}
+use Rattle.indexing.specs.Frames.{kind_of}
+use Rattle.indexing.specs.Keys.{begins, find, is_found}
 use Rattle.indexing.specs.Index.{slots_for, given_by, Slotted, Indexes}
 use Rattle.indexing.proofs.NoteLaws.{find_more, begun_some}
 use Rattle.second_reading.specs.Leading.{leads, leader_key, leads_by, is_leader, chained}

@@ -3,3 +3,9 @@ pub mod FromTableLaws
 pub mod LeadingLaws
 pub mod SecondLaws
 pub mod QueryLaws
+pub use Rattle.first_reading.proofs.ReadingLaws
+pub use Rattle.indexing.proofs.BehindLaws
+pub use Rattle.indexing.proofs.NoteLaws
+pub use Rattle.indexing.proofs.SearchLaws
+pub use Rattle.indexing.proofs.SheetLaws
+pub use Rattle.indexing.proofs.SlotLaws

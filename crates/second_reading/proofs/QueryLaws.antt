@@ -9,16 +9,16 @@ use lib.Dec.{eqb}
 use borrow.Author.Tests.{eq-eqb, ne_eqb, eqb-true, eqb-false}
 use Rattle.base.specs.Choose.{pick}
 use Rattle.hexadecimal.specs.Digits.{bytes_of}
-use Rattle.fields.specs.Fields.{field_passes}
-use Rattle.fields.proofs.FieldLaws.{in_same}
-use Rattle.frames.specs.Frames.{frame_passes}
-use Rattle.frames.proofs.UnreadLaws.{frame_same}
-use Rattle.frame_keys.specs.Keys.{begins, find, is_found, key_given}
+use Rattle.class_sets.specs.Fields.{field_passes}
+use Rattle.class_sets.proofs.FieldLaws.{in_same}
+use Rattle.indexing.specs.Frames.{frame_passes}
+use Rattle.indexing.proofs.UnreadLaws.{frame_same}
+use Rattle.indexing.specs.Keys.{begins, find, is_found, key_given}
 use Rattle.first_reading.specs.First.{frames_of, first_line, first_reading}
 use Rattle.first_reading.proofs.ReadingLaws.{or_passes}
-use Rattle.fields.specs.declared.field.Counts.{Counts}
-use Rattle.fields.specs.declared.field.Test.TheVariants.{Range, Reals}
-use Rattle.frame_tests.specs.declared.tests.Text.TheVariants.{Query}
+use Rattle.class_sets.specs.Counts.{Counts}
+use Rattle.class_sets.specs.Test.TheVariants.{Range, Reals}
+use Rattle.first_reading.specs.Text.TheVariants.{Query}
 use Rattle.first_reading.specs.declared.first.Reading.{Reading}
 use Rattle.first_reading.specs.declared.first.Reading.TheVariants.{Accepted, Refused}
 use Rattle.second_reading.specs.FromTable.{takes_table, has_sheets, table_for}

@@ -9,26 +9,26 @@ use lib.ListN.{length, get_or, drop}
 use lib.Dec.{eqb}
 use borrow.Author.Tests.{eq-eqb, ne_eqb, eqb-true, not-true, not-false}
 use Rattle.base.specs.Choose.{pick}
-use Rattle.fields.specs.Limits.{atoms_most}
-use Rattle.fields.specs.Fields.{field_passes}
+use Rattle.class_sets.specs.Limits.{atoms_most}
+use Rattle.class_sets.specs.Fields.{field_passes}
 use Rattle.class_sets.specs.Sets.{set_words, has_class}
 use Rattle.class_sets.proofs.SetLaws.{no_class}
-use Rattle.kinds.specs.Kinds.{kind_at}
-use Rattle.kinds.specs.Rows.{tests_of}
-use Rattle.frames.specs.Among.{is_between, has_kinds}
-use Rattle.frames.specs.Frames.{kind_of, frame_passes}
-use Rattle.frames.specs.Sheet.{frame_at, frames_in, Whole}
+use Rattle.indexing.specs.Kinds.{kind_at}
+use Rattle.indexing.specs.Rows.{tests_of}
+use Rattle.indexing.specs.Among.{is_between, has_kinds}
+use Rattle.indexing.specs.Frames.{kind_of, frame_passes}
+use Rattle.indexing.specs.Sheet.{frame_at, frames_in, Whole}
 use Rattle.first_reading.specs.First.{or_else}
 use Rattle.first_reading.proofs.ReadingLaws.{or_stops, or_passes}
-use Rattle.fields.specs.declared.field.Counts.{Counts}
-use Rattle.fields.specs.declared.field.Test.TheVariants.{Range, Reals}
-use Rattle.frame_tests.specs.declared.tests.Text.{Text}
-use Rattle.frame_tests.specs.declared.tests.Text.TheVariants.{Query, Plan}
+use Rattle.class_sets.specs.Counts.{Counts}
+use Rattle.class_sets.specs.Test.TheVariants.{Range, Reals}
+use Rattle.first_reading.specs.Text.{Text}
+use Rattle.first_reading.specs.Text.TheVariants.{Query, Plan}
 use Rattle.first_reading.specs.declared.first.Reading.{Reading}
 use Rattle.first_reading.specs.declared.first.Reading.TheVariants.{Accepted, Refused}
-use Rattle.frames.proofs.UnreadLaws.{range_unread, reals_unread}
-use Rattle.frames.proofs.SheetLaws.{frames_end, frame_some, frame_within, frame_inside, frames_step}
-use Rattle.frame_keys.specs.Keys.{key_given}
+use Rattle.indexing.proofs.UnreadLaws.{range_unread, reals_unread}
+use Rattle.indexing.proofs.SheetLaws.{frames_end, frame_some, frame_within, frame_inside, frames_step}
+use Rattle.indexing.specs.Keys.{key_given}
 use Rattle.second_reading.specs.FromTable.{takes_table}
 use Rattle.second_reading.specs.Leading.{leads, has_leaders, is_leader}
 use Rattle.second_reading.specs.Second.{header_counts, counts_in_by, fault_of, second_fault, second_from}

@@ -1,7 +1,7 @@
 -- Note 3: "query frame 24, without fields, takes samples from a table text handed in beside the query". Where it may stand.
 use Rattle.std.specs.Prelude.{ℕ, Bool, false, not, List, get_or, eqb}
 use Rattle.base.specs.Choose.{pick}
-use Rattle.frames.specs.Among.{has_kinds}
+use Rattle.indexing.specs.Among.{has_kinds}
 
 abbrev pub takes_table : List ℕ → Bool
 takes_table f = eqb (get_or f 0 0) 0x24

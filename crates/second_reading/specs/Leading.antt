@@ -2,8 +2,8 @@
 use Rattle.std.specs.Prelude.{ℕ, Bool, true, false, List, [], ◌∷◌, ◌++◌, get_or, eqb}
 use Rattle.base.specs.Choose.{pick}
 use Rattle.hexadecimal.specs.Digits.{short_at}
-use Rattle.frames.specs.Among.{has_kinds}
-use Rattle.frame_keys.specs.Keys.{find, is_found}
+use Rattle.indexing.specs.Among.{has_kinds}
+use Rattle.indexing.specs.Keys.{find, is_found}
 
 abbrev pub leads : List ℕ → Bool
 leads f = eqb (get_or f 0 0) 0x34

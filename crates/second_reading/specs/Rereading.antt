@@ -2,15 +2,15 @@
 use Rattle.std.specs.Prelude.{ℕ, ◌+◌, ◌*◌, ◌/◌, ◌≤◌, ◌≡◌, Bool, true, false, List, [], length, get_or}
 use Rattle.base.specs.Choose.{pick}
 use Rattle.hexadecimal.specs.Digits.{short_at}
-use Rattle.fields.specs.Fields.{field_passes}
-use Rattle.frames.specs.Frames.{frame_passes}
-use Rattle.frames.specs.Sheet.{frames_in, Whole}
-use Rattle.fields.specs.declared.field.Counts.{Counts}
-use Rattle.fields.specs.declared.field.Test.TheVariants.{Range, Reals}
+use Rattle.class_sets.specs.Fields.{field_passes}
+use Rattle.indexing.specs.Frames.{frame_passes}
+use Rattle.indexing.specs.Sheet.{frames_in, Whole}
+use Rattle.class_sets.specs.Counts.{Counts}
+use Rattle.class_sets.specs.Test.TheVariants.{Range, Reals}
 use Rattle.first_reading.specs.declared.first.Reading.{Reading}
 use Rattle.first_reading.specs.declared.first.Reading.TheVariants.{Accepted}
 use Rattle.class_sets.specs.Sets.{set_words, has_class}
-use Rattle.frame_keys.specs.Keys.{begins}
+use Rattle.indexing.specs.Keys.{begins}
 use Rattle.indexing.specs.Index.{slots_for, given_by, Indexed}
 use Rattle.second_reading.specs.Leading.{leads, has_leaders, leader_key, leads_by}
 use Rattle.second_reading.specs.Second.{second_from}

@@ -3,18 +3,18 @@
 use Rattle.std.specs.Prelude.{ℕ, suc, Bool, true, List, [], ◌∷◌, ◌++◌, get_or}
 use Rattle.base.specs.Choose.{pick}
 use Rattle.hexadecimal.specs.Digits.{bytes_of}
-use Rattle.fields.specs.Limits.{atoms_most, globals_most}
-use Rattle.fields.specs.Fields.{field_passes}
-use Rattle.frames.specs.Frames.{frame_passes}
-use Rattle.frames.specs.Sheet.{frame_at}
+use Rattle.class_sets.specs.Limits.{atoms_most, globals_most}
+use Rattle.class_sets.specs.Fields.{field_passes}
+use Rattle.indexing.specs.Frames.{frame_passes}
+use Rattle.indexing.specs.Sheet.{frame_at}
 use Rattle.first_reading.specs.First.{frames_of, first_line, or_else, first_reading}
-use Rattle.fields.specs.declared.field.Counts.{Counts}
-use Rattle.fields.specs.declared.field.Test.TheVariants.{Range, Reals}
-use Rattle.frame_tests.specs.declared.tests.Text.{Text}
-use Rattle.frame_tests.specs.declared.tests.Text.TheVariants.{Query, Plan, Table}
+use Rattle.class_sets.specs.Counts.{Counts}
+use Rattle.class_sets.specs.Test.TheVariants.{Range, Reals}
+use Rattle.first_reading.specs.Text.{Text}
+use Rattle.first_reading.specs.Text.TheVariants.{Query, Plan, Table}
 use Rattle.first_reading.specs.declared.first.Reading.{Reading}
 use Rattle.first_reading.specs.declared.first.Reading.TheVariants.{Accepted, Refused}
-use Rattle.frame_keys.specs.Keys.{key_given}
+use Rattle.indexing.specs.Keys.{key_given}
 use Rattle.second_reading.specs.FromTable.{takes_table, table_for}
 use Rattle.second_reading.specs.Leading.{chained}
 

@@ -4,3 +4,10 @@
 pub mod leading;
 pub mod lines;
 pub mod sheets;
+
+pub use class_sets;
+pub use class_sets::fields;
+pub use first_reading;
+pub use first_reading::frame_tests;
+pub use indexing;
+pub use indexing::{frames, kinds};

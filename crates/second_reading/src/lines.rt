@@ -1,20 +1,20 @@
 // The second reading: each frame is tested 5, 6, 7, 14 and 13 in turn.
 ghost use Rattle.std.specs.Prelude.{◌≡◌, length};
 ghost use Rattle.first_reading.specs.declared.first.Reading.TheVariants.{Accepted};
-ghost use Rattle.frames.specs.Frames.{kind_of};
-ghost use Rattle.kinds.specs.Rows.{tests_of};
+ghost use Rattle.indexing.specs.Frames.{kind_of};
+ghost use Rattle.indexing.specs.Rows.{tests_of};
 ghost use Rattle.second_reading.specs.Second.{header_counts, counts_in_by, fault_of};
 ghost use Rattle.indexing.specs.Index.{slots_for, hash_of, Falling, given_by};
 ghost use Rattle.second_reading.specs.Rereading.{fields_fault, chained_by, BlankFor, LeadersFor, Rereads};
 
 use crate::leading::{is_chained, mark_leader};
-use fields::field::Counts;
+use class_sets::fields::field::Counts;
 use first_reading::first::Reading;
-use frame_tests::tests::Text;
-use frames::frame::{frame_at, range_passes, reals_pass};
+use first_reading::frame_tests::tests::Text;
 use hexadecimal::byte_at;
+use indexing::frames::frame::{frame_at, range_passes, reals_pass};
 use indexing::index::{hash_of, key_given, note};
-use kinds::table::{key_length, tests_of};
+use indexing::kinds::table::{key_length, tests_of};
 
 // What a header says, with that many atoms, and with a table to take samples from or none.
 fn header_counts(table: bool, header: &[u8], atoms: usize) -> Counts

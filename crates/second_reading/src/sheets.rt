@@ -1,9 +1,9 @@
 // Where frame 24 may stand in a query: a table is handed in, and the query has no sample sheets.
 ghost use Rattle.std.specs.Prelude.{◌≡◌};
-ghost use Rattle.frames.specs.Sheet.{frames_in};
+ghost use Rattle.indexing.specs.Sheet.{frames_in};
 ghost use Rattle.second_reading.specs.FromTable.{table_for};
 
-use frames::among::has_kinds;
+use indexing::frames::among::has_kinds;
 
 // Whether there is a table to take samples from. The frames are looked at only where one is handed in.
 pub fn table_for(handed: bool, sheet: &[u8]) -> bool

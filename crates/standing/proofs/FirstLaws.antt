@@ -11,7 +11,7 @@ use borrow.Author.Tests.{leb-true, leb-false}
 use Rattle.model.specs.Atoms.{Row}
 use Rattle.model.specs.Firsts.{is_among, firsts_from, firsts}
 use Rattle.model.proofs.FirstLaws.{firsts_append}
-use Rattle.records.specs.Leaders.{same_row}
+use Rattle.leaders.specs.Leaders.{same_row}
 
 module _ (l : List Row) (x : Row) where
   pub firsts_old : is_among same_row x (firsts same_row l) ≡ true → firsts same_row (l ++ x ∷ []) ≡ firsts same_row l

@@ -3,7 +3,7 @@ ghost use Rattle.std.specs.Prelude.{[], ◌∷◌, ◌+◌, ◌<◌, ◌≤◌, 
 ghost use Rattle.model.specs.Limits.{class_bytes};
 ghost use Rattle.standing.specs.Laid.{Lays};
 
-use records::shorts::{high_of, low_of};
+use leaders::records::shorts::{high_of, low_of};
 
 pub fn put_byte(out: &mut [u8], at: usize, b: u8) -> usize
     requires { at < length out.old }

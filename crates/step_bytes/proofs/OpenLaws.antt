@@ -4,11 +4,11 @@ use mathlib.Core.Path.{◌≡◌, refl, ◌∙◌}
 use mathlib.Core.List.{List, [], ◌∷◌, flat_map}
 use native.Mathlib.Omega.{arith}
 use lib.ListN.{length, get_or}
-use Rattle.kinds.specs.Kinds.{kinds, kind_at}
-use Rattle.cost.specs.QueryAtoms.{operands_from, bytes_from, atom_of_frame}
-use Rattle.cost.proofs.Operands.{operands_length}
-use Rattle.plans.specs.StepFrames.{operand_bytes, elements_of, element_bytes, frame_of}
-use Rattle.plans.proofs.StepsPass.{elements_length}
+use Rattle.binding.specs.Kinds.{kinds, kind_at}
+use Rattle.binding.specs.QueryAtoms.{operands_from, bytes_from, atom_of_frame}
+use Rattle.binding.proofs.Operands.{operands_length}
+use Rattle.output.specs.StepFrames.{operand_bytes, elements_of, element_bytes, frame_of}
+use Rattle.output.proofs.StepsPass.{elements_length}
 use Rattle.step_bytes.specs.Pieces.{items_bytes}
 use Rattle.step_bytes.specs.Begun.{Opens}
 

@@ -8,16 +8,16 @@ use lib.Dec.{T, eqb}
 use lib.ListN.{get_or}
 use borrow.Author.Tests.{eq-eqb, ne_eqb}
 use Rattle.base.specs.Choose.{pick}
-use Rattle.fields.specs.Fields.{width}
-use Rattle.kinds.specs.Kinds.{kinds, kind_at, fixed_length, items_of}
-use Rattle.frames.specs.Frames.{kind_of}
+use Rattle.output.specs.Fields.{width}
+use Rattle.binding.specs.Kinds.{kinds, kind_at, fixed_length, items_of}
+use Rattle.output.specs.Frames.{kind_of}
 use Rattle.model.specs.Atoms.{Operand, local, global, wild, tame, ByOp, ByRepr, Join}
 use Rattle.model.specs.Bound.{Bound}
 use Rattle.model.specs.Lowering.{pv_is_bound, read_child}
-use Rattle.cost.specs.QueryAtoms.{operands_from}
-use Rattle.records.specs.Lookups.{operand_at}
-use Rattle.cost.proofs.Tame.{operand_tame}
-use Rattle.plans.specs.StepFrames.{tag_of, index_of, lookup_bytes, frame_of}
+use Rattle.binding.specs.QueryAtoms.{operands_from}
+use Rattle.output.specs.Lookups.{operand_at}
+use Rattle.binding.proofs.Tame.{operand_tame}
+use Rattle.output.specs.StepFrames.{tag_of, index_of, lookup_bytes, frame_of}
 use Rattle.binding.specs.ItemOperands.{item_operands}
 use Rattle.binding.proofs.OperandLaws.{items_are}
 use Rattle.step_bytes.specs.Pieces.{lookup_for}

@@ -2,13 +2,13 @@
 use Rattle.std.specs.Prelude.{ℕ, ◌≤◌, ◌≡◌, List, [], ◌∷◌, ◌++◌, map, length, get_or, eqb}
 use Rattle.std.proofs.Math.Option.{Option, none, some}
 use Rattle.base.specs.Choose.{pick}
-use Rattle.fields.specs.Fields.{width}
-use Rattle.kinds.specs.Kinds.{fixed_length, items_of}
-use Rattle.frames.specs.Frames.{kind_of}
+use Rattle.output.specs.Fields.{width}
+use Rattle.binding.specs.Kinds.{fixed_length, items_of}
+use Rattle.output.specs.Frames.{kind_of}
 use Rattle.model.specs.Atoms.{Atom, Plain, Lit, LitBind, Eq, EqGlobal, Pred, Variadic, Step, Expand, ExtractLitVal, CheckLit}
 use Rattle.model.specs.Lowering.{Emitted, expansion_of}
-use Rattle.cost.specs.QueryAtoms.{atom_of_frame}
-use Rattle.plans.specs.StepFrames.{frame_of}
+use Rattle.binding.specs.QueryAtoms.{atom_of_frame}
+use Rattle.output.specs.StepFrames.{frame_of}
 use Rattle.output.specs.Written.{fixed_in}
 use Rattle.step_bytes.specs.Pieces.{items_bytes}
 

@@ -3,8 +3,8 @@ use Rattle.std.specs.Prelude.{ℕ, zero, suc, ◌+◌, Bool, true, false, List, 
 use Rattle.model.specs.Atoms.{Operand, Lookup, ByChildPos, ByContains}
 use Rattle.model.specs.Bound.{Bound}
 use Rattle.model.specs.Lowering.{child_lookups, contains_lookups}
-use Rattle.records.specs.Lookups.{operand_at}
-use Rattle.plans.specs.StepFrames.{tag_of, index_of}
+use Rattle.output.specs.Lookups.{operand_at}
+use Rattle.output.specs.StepFrames.{tag_of, index_of}
 
 -- a Plain looks its children up by their positions, from i on; any other its elements
 abbrev pub lookups_of : Bool → Bound → ℕ → List Operand → List Lookup

@@ -2,8 +2,8 @@
 ghost use Rattle.std.specs.Prelude.{map, ◌<◌, get_or};
 ghost use Rattle.model.specs.Atoms.{Eq, EqGlobal};
 ghost use Rattle.model.specs.Lowering.{lower};
-ghost use Rattle.cost.specs.QueryAtoms.{atom_of_frame};
-ghost use Rattle.plans.specs.StepFrames.{frame_of};
+ghost use Rattle.binding.specs.QueryAtoms.{atom_of_frame};
+ghost use Rattle.output.specs.StepFrames.{frame_of};
 ghost use Rattle.step_bytes.specs.Begun.{Begins, Becomes, steps_of, behind_of};
 
 use binding::sets::is_set;

@@ -12,7 +12,7 @@ use Rattle.base.specs.Choose.{pick}
 use Rattle.model.specs.Atoms.{local, global, wild, Step, Join, ExtractChild, CheckChildEq, CheckEq, CheckEqGlobal, BindGlobal, CopyBinding, Expand, ExtractLitVal, CheckLit, CheckPred, Row, Node, Literal as LiteralRow, unset, Table, rows, global_class, is_join}
 use Rattle.model.specs.Bound.{Bound, has, has_all, has_none}
 use Rattle.model.specs.Refusing.{all_rows, is_literal, has_child, op_at}
-use Rattle.plans.specs.StepFrames.{step_of}
+use Rattle.running.specs.StepFrames.{step_of}
 use Rattle.running.specs.Validation.{all_given, step_fault}
 use Rattle.join_tests.specs.Arrays.{shape_of, given, reach_of}
 use Rattle.step_tests.specs.declared.simple.Simple.{Simple}

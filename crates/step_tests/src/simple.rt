@@ -1,6 +1,6 @@
 // The tests of a step other than a Join: 10, 9, 11 and the missing global.
 ghost use Rattle.std.specs.Prelude.{◌≡◌, get_or};
-ghost use Rattle.plans.specs.StepFrames.{step_of};
+ghost use Rattle.running.specs.StepFrames.{step_of};
 ghost use Rattle.join_tests.specs.Arrays.{bound_in, picked_in, ops_in};
 ghost use Rattle.step_tests.specs.Steps.{simple, child_step_fault, child_global_fault, pair_fault, global_step_fault, literal_step_fault, simple_fault};
 

@@ -10,32 +10,32 @@ use borrow.Author.Tests.{eqb-true, leb-true}
 use Rattle.base.specs.Choose.{pick}
 use Rattle.base.proofs.ChooseLaws.{both_hold}
 use Rattle.hexadecimal.specs.Digits.{short_at}
-use Rattle.fields.specs.Fields.{field_passes, field_in}
-use Rattle.fields.specs.declared.field.Counts.{Counts}
-use Rattle.fields.specs.declared.field.Test.TheVariants.{Range}
-use Rattle.kinds.specs.Kinds.{kinds, kind_at}
-use Rattle.frames.specs.Frames.{pass_all, frame_passes}
-use Rattle.frame_keys.specs.Keys.{begins, find, is_found}
+use Rattle.sheet_run.specs.Fields.{field_passes, field_in}
+use Rattle.sheet_run.specs.Counts.{Counts}
+use Rattle.sheet_run.specs.Test.TheVariants.{Range}
+use Rattle.sheet_run.specs.Kinds.{kinds, kind_at}
+use Rattle.sheet_run.specs.Frames.{pass_all, frame_passes}
+use Rattle.sheet_run.specs.Keys.{begins, find, is_found}
 use Rattle.model.proofs.Bools.{true_false}
-use Rattle.records.specs.Rows.{rows_in}
-use Rattle.fields.specs.Limits.{text_most, rows_most}
-use Rattle.frames.specs.Sheet.{frames_in}
-use Rattle.first_reading.specs.First.{frames_of, Sheet}
-use Rattle.frame_tests.specs.declared.tests.Text.TheVariants.{Table as TableText}
-use Rattle.first_reading.specs.declared.first.Reading.{Reading}
-use Rattle.first_reading.specs.declared.first.Reading.TheVariants.{Accepted, Refused}
-use Rattle.second_reading.specs.Second.{counts_of, reading}
-use Rattle.reading_facts.proofs.Found.{begun_kind, found_at}
-use Rattle.reading_facts.proofs.Whole.{Whole, accepted}
-use Rattle.rows.proofs.RoomLaws.{rows_number, rows_most_lem, rows_short, table_room}
+use Rattle.sheet_run.specs.Rows.{rows_in}
+use Rattle.sheet_run.specs.Limits.{text_most, rows_most}
+use Rattle.sheet_run.specs.Sheet.{frames_in}
+use Rattle.sheet_run.specs.First.{frames_of, Sheet}
+use Rattle.sheet_run.specs.Text.TheVariants.{Table as TableText}
+use Rattle.sheet_run.specs.Reading.{Reading}
+use Rattle.sheet_run.specs.Reading.TheVariants.{Accepted, Refused}
+use Rattle.sheet_run.specs.Second.{counts_of, reading}
+use Rattle.sheet_run.proofs.Found.{begun_kind, found_at}
+use Rattle.sheet_run.proofs.Whole.{Whole, accepted}
+use Rattle.sheet_run.proofs.RoomLaws.{rows_number, rows_most_lem, rows_short, table_room}
 use Rattle.model.specs.Running.{Mode}
-use Rattle.running.specs.Tables.{new_from}
-use Rattle.running.proofs.DistinctRows.{distinct_frames}
-use Rattle.standing.proofs.AcceptedLaws.{rows_sheet}
-use Rattle.running.specs.Validation.{Invalid, tests_with}
-use Rattle.counting.specs.Halts.{Halt}
-use Rattle.world_run.specs.Ends.{Ends}
-use Rattle.world_run.specs.declared.world.Ended.{Ended}
+use Rattle.sheet_run.specs.Tables.{new_from}
+use Rattle.sheet_run.proofs.DistinctRows.{distinct_frames}
+use Rattle.sheet_run.proofs.AcceptedLaws.{rows_sheet}
+use Rattle.sheet_run.specs.Validation.{Invalid, tests_with}
+use Rattle.sheet_run.specs.Halts.{Halt}
+use Rattle.sheet_run.specs.Ends.{Ends}
+use Rattle.sheet_run.specs.Ended.{Ended}
 use Rattle.sheet_run.specs.SheetRuns.{halt_in, SheetLent}
 use Rattle.table_run.specs.TableRuns.{table_tests, TableLent}
 

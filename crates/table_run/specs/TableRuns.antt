@@ -1,14 +1,14 @@
 -- A run over a table text: what its arrays need, and the tests.
 use Rattle.std.specs.Prelude.{ℕ, ◌+◌, ◌*◌, ◌/◌, ◌<◌, ◌≤◌, List, length}
-use Rattle.fields.specs.Limits.{text_most, rows_most}
-use Rattle.kinds.specs.Kinds.{table}
-use Rattle.first_reading.specs.First.{frames_of}
-use Rattle.frame_tests.specs.declared.tests.Text.TheVariants.{Table as TableText}
-use Rattle.second_reading.specs.Second.{reading}
-use Rattle.reading.specs.IndexedReading.{Lent}
+use Rattle.sheet_run.specs.Limits.{text_most, rows_most}
+use Rattle.sheet_run.specs.Kinds.{table}
+use Rattle.sheet_run.specs.First.{frames_of}
+use Rattle.sheet_run.specs.Text.TheVariants.{Table as TableText}
+use Rattle.sheet_run.specs.Second.{reading}
+use Rattle.sheet_run.specs.IndexedReading.{Lent}
 use Rattle.model.specs.Running.{Mode}
-use Rattle.chains.specs.Chains.{links_at}
-use Rattle.running.specs.Validation.{Verdict, and_then, of_reading, tests_with}
+use Rattle.sheet_run.specs.Chains.{links_at}
+use Rattle.sheet_run.specs.Validation.{Verdict, and_then, of_reading, tests_with}
 
 -- what is lent for the table text t: a sheet and an index too; a row's line has ten digits or more
 pub record TableLent (t s i R K L : List ℕ) : Type 0 where

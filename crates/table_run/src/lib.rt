@@ -2,3 +2,8 @@
 #![tactic(auto)]
 
 pub mod tables;
+
+pub use sheet_run::{
+    bindings, chains, first_reading, frame_tests, match_lines, modes, named_joins, reading,
+    world_run,
+};

@@ -10,8 +10,8 @@ use lib.Dec.{leb}
 use borrow.Author.Tests.{le-leb, lt-leb, leb-true, leb-false}
 use Rattle.base.specs.Choose.{pick}
 use Rattle.model.specs.Atoms.{Row}
-use Rattle.row_frames.specs.Wanted.{op_path, wanted}
-use Rattle.row_frames.specs.declared.row.Want.{Want}
+use Rattle.buckets.specs.Wanted.{op_path, wanted}
+use Rattle.buckets.specs.Want.{Want}
 use Rattle.buckets.specs.Buckets.{numbers_from, strided, hits, StrideRoom, NumbersRoom}
 use Rattle.buckets.proofs.NumberLaws.{strided_length, strided_all, strided_below}
 use Rattle.table_samples.specs.TableSamples.{of_operator, table_drivers, scan_most, scaled_back, op_restricted}

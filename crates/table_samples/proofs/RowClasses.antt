@@ -14,11 +14,11 @@ use Rattle.hexadecimal.specs.Digits.{short_at, word_at}
 use Rattle.model.specs.Atoms.{Row, Node, Literal, class_of, children}
 use Rattle.model.specs.Equality.{same_class}
 use Rattle.model.specs.Running.{among, no_row}
-use Rattle.records.specs.Items.{items_at}
-use Rattle.records.specs.Rows.{row_of}
-use Rattle.records.proofs.ItemsLaws.{items_more, items_none}
-use Rattle.row_frames.specs.Wanted.{count_of}
-use Rattle.row_frames.proofs.RowLaws.{row_children}
+use Rattle.buckets.specs.Items.{items_at}
+use Rattle.buckets.specs.Rows.{row_of}
+use Rattle.buckets.proofs.ItemsLaws.{items_more, items_none}
+use Rattle.buckets.specs.Wanted.{count_of}
+use Rattle.buckets.proofs.RowLaws.{row_children}
 use Rattle.table_samples.specs.TableSamples.{child_of, distinct_from, table_classes}
 use Rattle.table_samples.specs.Listed.{Listed}
 

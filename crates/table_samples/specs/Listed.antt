@@ -1,7 +1,7 @@
 -- A list of numbers in an array.
 use Rattle.std.specs.Prelude.{ℕ, ◌<◌, ◌≤◌, ◌≡◌, List, length, take}
 use Rattle.model.specs.Atoms.{Row}
-use Rattle.records.specs.Items.{Each}
+use Rattle.buckets.specs.Items.{Each}
 
 -- the first n places of an array are the numbers xs; they are at most m
 pub record Listed (into : List ℕ) (n m : ℕ) (xs : List ℕ) : Type 0 where

@@ -4,7 +4,7 @@ use Rattle.base.specs.Choose.{pick}
 use Rattle.field_values.specs.FieldValues.{node_site, child_site}
 use Rattle.model.specs.Atoms.{Row, class_of, children}
 use Rattle.model.specs.Running.{among, no_row}
-use Rattle.row_frames.specs.Wanted.{op_path, wanted}
+use Rattle.buckets.specs.Wanted.{op_path, wanted}
 use Rattle.buckets.specs.Buckets.{numbers_from, strided, hits}
 
 -- "the operator's rows in order"

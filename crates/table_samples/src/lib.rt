@@ -2,3 +2,8 @@
 #![tactic(auto)]
 
 pub mod tables;
+
+pub use buckets;
+pub use buckets::{
+    fields, first_reading, frame_tests, frames, kinds, reading, records, second_reading,
+};

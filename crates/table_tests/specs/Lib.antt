@@ -1,2 +1,6 @@
 pub mod Shapes
 pub mod Globals
+pub use Rattle.running.specs.Run
+pub use Rattle.running.specs.StepFrames
+pub use Rattle.running.specs.Tables
+pub use Rattle.running.specs.Validation

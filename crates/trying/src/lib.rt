@@ -2,3 +2,8 @@
 #![tactic(auto)]
 
 pub mod option;
+
+pub use choices;
+pub use choices::{modes, taking};
+pub use counting;
+pub use counting::{bindings, chains, fields, frames, match_lines};

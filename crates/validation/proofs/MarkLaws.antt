@@ -13,10 +13,10 @@ use Rattle.model.proofs.Bools.{true_false}
 use Rattle.model.specs.Bound.{Bound, add, put}
 use Rattle.model.specs.Reading.{bound_by, picked_by}
 use Rattle.model.specs.Refusing.{join_op, runnable, ops_by}
-use Rattle.plans.specs.StepFrames.{step_of}
-use Rattle.plans.proofs.StepsRead.{no_join}
-use Rattle.join_tests.specs.Arrays.{is_bound, is_picked, bound_in, picked_in, ops_in}
-use Rattle.records.specs.Lookups.{lookups_of}
+use Rattle.step_tests.specs.StepFrames.{step_of}
+use Rattle.step_tests.proofs.StepsRead.{no_join}
+use Rattle.step_tests.specs.Arrays.{is_bound, is_picked, bound_in, picked_in, ops_in}
+use Rattle.step_tests.specs.Lookups.{lookups_of}
 use Rattle.validation.specs.Marks.{binds_target, bound_mark, Markable, Stepped}
 
 -- ---- one mark

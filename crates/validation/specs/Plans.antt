@@ -1,13 +1,13 @@
 -- A plan's steps in turn, and the whole: what the code asks and leaves. x is the plan's sheet, y the table's.
 use Rattle.std.specs.Prelude.{ℕ, ◌≡◌, List}
-use Rattle.frames.specs.Sheet.{frames_in}
-use Rattle.frame_tests.specs.declared.tests.Text.TheVariants.{Plan}
-use Rattle.first_reading.specs.First.{Sheet}
-use Rattle.first_reading.specs.declared.first.Reading.TheVariants.{Accepted}
-use Rattle.second_reading.specs.Second.{reading}
+use Rattle.step_tests.specs.Sheet.{frames_in}
+use Rattle.step_tests.specs.Text.TheVariants.{Plan}
+use Rattle.step_tests.specs.First.{Sheet}
+use Rattle.step_tests.specs.Reading.TheVariants.{Accepted}
+use Rattle.step_tests.specs.Second.{reading}
 use Rattle.model.specs.Atoms.{Table}
-use Rattle.running.specs.Tables.{table_in, steps_in}
-use Rattle.running.specs.Validation.{steps_pass, tests_in}
+use Rattle.table_tests.specs.Tables.{table_in, steps_in}
+use Rattle.step_tests.specs.Validation.{steps_pass, tests_in}
 use Rattle.step_tests.specs.Steps.{Described}
 use Rattle.table_tests.specs.declared.shapes.Verdict.{Verdict as Answer}
 use Rattle.table_tests.specs.declared.shapes.Verdict.TheVariants.{Passed as NoFault}

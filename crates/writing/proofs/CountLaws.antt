@@ -9,7 +9,7 @@ use lib.ListN.{length, length-append}
 use Rattle.model.specs.Atoms.{Operand, local, global, wild, Atom, Plain, Lit, LitBind, Eq, EqGlobal, Pred, Variadic, Step}
 use Rattle.model.specs.Bound.{Bound, has, add}
 use Rattle.model.specs.Lowering.{Emitted, read_child, emit_read_children, lower_eq, lower_eq_global, lower, Lowered, done, more}
-use Rattle.step_bytes.specs.Begun.{steps_of}
+use Rattle.emitting.specs.Begun.{steps_of}
 use Rattle.writing.specs.Steps.{steps_along, read_count, step_count, count_along}
 
 -- they are the steps of a lowering sequence

@@ -1,3 +1,10 @@
 pub mod LineLaws
 pub mod StepLaws
 pub mod CountLaws
+pub use Rattle.emitting.proofs.PlanRead
+pub use Rattle.emitting.proofs.PutLaws
+pub use Rattle.passes.proofs.ChoiceLaws
+pub use Rattle.passes.proofs.LentLaws
+pub use Rattle.passes.proofs.QueryLaws
+pub use Rattle.passes.proofs.ReadLaws
+pub use Rattle.passes.proofs.Tame

@@ -8,15 +8,15 @@ use lib.Dec.{eqb, ltb}
 use lib.ListN.{length, get_or}
 use borrow.Author.Tests.{lt-ltb, le-ltb, eq-eqb, ne_eqb}
 use Rattle.base.specs.Choose.{pick}
-use Rattle.frame_tests.specs.Faults.{is_atom}
-use Rattle.kinds.specs.Kinds.{kinds, kind_at, fixed_length, items_of}
-use Rattle.frames.specs.Frames.{kind_of}
+use Rattle.passes.specs.Faults.{is_atom}
+use Rattle.passes.specs.Kinds.{kinds, kind_at, fixed_length, items_of}
+use Rattle.passes.specs.Frames.{kind_of}
 use Rattle.model.specs.Atoms.{local, global}
-use Rattle.cost.specs.QueryAtoms.{operands_from, atom_of_frame}
-use Rattle.plans.specs.StepFrames.{header_of}
-use Rattle.lowering.specs.AtomLines.{AtomLine}
-use Rattle.lowering.proofs.AtomLaws.{by_kind}
-use Rattle.output.specs.Written.{fixed_in, PutsFrames}
+use Rattle.passes.specs.QueryAtoms.{operands_from, atom_of_frame}
+use Rattle.emitting.specs.StepFrames.{header_of}
+use Rattle.passes.specs.AtomLines.{AtomLine}
+use Rattle.passes.proofs.AtomLaws.{by_kind}
+use Rattle.emitting.specs.Written.{fixed_in, PutsFrames}
 use Rattle.writing.specs.Steps.{read_count, step_count}
 
 -- ---- the header

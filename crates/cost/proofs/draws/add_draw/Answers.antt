@@ -1,6 +1,6 @@
 -- `cost::draws::add_draw` meets its contract.
 use native.Mathlib.Omega.{arith}
-use Rattle.frames.specs.Sheet.{frames_in}
+use Rattle.samplers.specs.Sheet.{frames_in}
 use Rattle.samplers.specs.Samplers.{sampler_by}
 use Rattle.cost.proofs.DrawLaws.{classes_few, none_added, one_added}
 use Rattle.cost.proofs.draws.add_draw.Goals as goal

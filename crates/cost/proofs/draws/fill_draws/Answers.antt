@@ -2,7 +2,7 @@
 use native.Mathlib.Omega.{arith}
 use Prim.Native.Nat.{◌-◌}
 use mathlib.Core.Path.{refl}
-use Rattle.frames.specs.Sheet.{frames_in}
+use Rattle.samplers.specs.Sheet.{frames_in}
 use Rattle.samplers.specs.Samplers.{sampler_by}
 use Rattle.cost.proofs.DrawLaws.{filling_none, room, filling_again, filled}
 use Rattle.cost.proofs.draws.fill_draws.Goals as goal

@@ -2,7 +2,7 @@
 use Prim.Native.Nat.{◌-◌}
 use lib.ListN.{length}
 use mathlib.Core.Path.{◌≡◌}
-use Rattle.frames.specs.Sheet.{frames_in}
+use Rattle.samplers.specs.Sheet.{frames_in}
 use Rattle.samplers.specs.Samplers.{sampler_by}
 use Rattle.cost.proofs.DrawLaws.{Filling}
 use Rattle.cost.proofs.draws.fill_draws.Given as goal

@@ -1,6 +1,6 @@
 -- `cost::probes::probe_sum` meets its contract.
 use Prim.Native.Nat.{◌-◌}
-use Rattle.frames.specs.Sheet.{frames_in}
+use Rattle.samplers.specs.Sheet.{frames_in}
 use Rattle.samplers.specs.Samplers.{sampler_by}
 use Rattle.cost.proofs.SamplingLaws.{Summed}
 use Rattle.cost.proofs.probes.probe_sum.Given as goal

@@ -1,5 +1,5 @@
 -- `exports::runs::rimdovek_run` meets its contract.
-use Rattle.running.specs.Run.{tries_in, matches_in}
+use Rattle.run_answers.specs.Run.{tries_in, matches_in}
 use Rattle.run_answers.specs.Runs.{packed_run}
 use Rattle.exports.proofs.RunLaws.{told_of_run, run_output}
 use borrow.Author.Rules.{rules}

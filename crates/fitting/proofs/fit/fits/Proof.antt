@@ -1,6 +1,6 @@
 -- `fitting::fit::fits` meets its contract: by the longest plan's length, else by this plan's.
 use mathlib.Core.Path.{sym}
-use Rattle.ordering.proofs.OrderLaws.{places_located}
+use Rattle.gathering.proofs.OrderLaws.{places_located}
 use Rattle.fitting.proofs.FitLaws.{in_order, fits_always, fits_measured}
 use Rattle.fitting.proofs.fit.fits.Statement.{statement}
 use Rattle.fitting.proofs.fit.fits.Tie as tie

@@ -1,7 +1,7 @@
 -- `fitting::fit::plan_in_order` meets its contract: by whether the plan fits.
 use native.Mathlib.Omega.{arith}
 use mathlib.Core.Path.{sym}
-use Rattle.ordering.proofs.OrderLaws.{places_located}
+use Rattle.gathering.proofs.OrderLaws.{places_located}
 use Rattle.fitting.proofs.FitLaws.{in_order, tallied_few, rejected_few, not_fitting, fitting}
 use borrow.Author.Rules.{rules}
 use Rattle.fitting.proofs.fit.plan_in_order.Statement.{statement}

@@ -2,7 +2,7 @@
 use mathlib.Core.Path.{◌∙◌}
 use Rattle.frame_tests.proofs.FaultLaws.{fault_2, fault_3, fault_4, fault_none, fault_full}
 use Rattle.frames.proofs.FrameLaws.{row_tests_here, row_codes_here}
-use Rattle.kinds.proofs.KindLaws.{row_tests, tests_text}
+use Rattle.frames.proofs.KindLaws.{row_tests, tests_text}
 use Rattle.frame_tests.proofs.tests.frame_fault.Goals as goal
 
 pub belongs-requires : goal.belongs-requires

@@ -1,5 +1,5 @@
 -- `frames::frame::fields_fit` meets its contract.
-use Rattle.fields.specs.Fields.{field_fits}
+use Rattle.kinds.specs.Fields.{field_fits}
 use Rattle.frames.proofs.FrameLaws.{Testing}
 use Rattle.frames.proofs.frame.fields_fit.Given as goal
 

@@ -1,5 +1,5 @@
 -- `frames::frame::fields_pass` meets its contract.
-use Rattle.fields.specs.Fields.{field_passes}
+use Rattle.kinds.specs.Fields.{field_passes}
 use Rattle.frames.proofs.FrameLaws.{Testing}
 use Rattle.frames.proofs.frame.fields_pass.Given as goal
 

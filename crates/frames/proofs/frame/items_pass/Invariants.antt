@@ -1,8 +1,8 @@
 -- `frames::frame::items_pass` meets its contract.
-use Rattle.fields.specs.Fields.{field_passes}
+use Rattle.kinds.specs.Fields.{field_passes}
 use Prim.Native.Nat.{◌-◌}
 use lib.ListN.{replicate}
-use Rattle.fields.specs.Codes.{decode}
+use Rattle.kinds.specs.Codes.{decode}
 use Rattle.frames.proofs.FrameLaws.{Passing}
 use Rattle.frames.proofs.frame.items_pass.Given as goal
 

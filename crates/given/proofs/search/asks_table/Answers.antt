@@ -1,6 +1,6 @@
 -- `given::search::asks_table` meets its contract.
 use mathlib.Core.Path.{refl}
-use Rattle.kinds.specs.Kinds.{kind_at}
+use Rattle.buckets.specs.Kinds.{kind_at}
 use Rattle.given.proofs.KeyLaws.{proper, table_taken}
 use Rattle.given.proofs.search.asks_table.Goals as goal
 

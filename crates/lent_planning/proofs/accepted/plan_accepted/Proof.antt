@@ -1,6 +1,6 @@
 -- `lent_planning::accepted::plan_accepted` meets its contract: the places, the order, the plan, in turn.
 use mathlib.Core.Path.{refl}
-use Rattle.ordering.proofs.OrderLaws.{sheet_few, sheet_short}
+use Rattle.fitting.proofs.OrderLaws.{sheet_few, sheet_short}
 use borrow.Author.Rules.{rules}
 use Rattle.lent_planning.proofs.accepted.plan_accepted.Statement.{statement}
 use Rattle.lent_planning.proofs.accepted.plan_accepted.Tie as tie

@@ -1,7 +1,7 @@
 -- `lent_planning::accepted::plan_sampled` meets its contract.
 use mathlib.Core.Path.{refl, sym}
 use lib.Seq.{length-take-le}
-use Rattle.gathering.proofs.GatherLaws.{both_lent}
+use Rattle.fitting.proofs.GatherLaws.{both_lent}
 use Rattle.lent_planning.proofs.EntryLaws.{table_back, sampled_whole}
 use borrow.Author.Rules.{rules}
 use Rattle.lent_planning.proofs.accepted.plan_sampled.Statement.{statement}

@@ -1,7 +1,7 @@
 -- `query::statistics::by_contains` meets its contract: the frame of kind 14, read.
 use mathlib.Core.Path.{refl, ◌∙◌, ap}
 use Rattle.query.specs.Statistics.{by_contains, fan_out_at}
-use Rattle.kinds.specs.Kinds.{kind_at}
+use Rattle.given.specs.Kinds.{kind_at}
 use Rattle.given.proofs.KeyLaws.{proper}
 use borrow.Author.Rules.{rules}
 use Rattle.query.proofs.statistics.by_contains.Goals as goal

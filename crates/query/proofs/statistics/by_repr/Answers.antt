@@ -1,7 +1,7 @@
 -- `query::statistics::by_repr` meets its contract: the frame of kind 12, read.
 use mathlib.Core.Path.{refl, ◌∙◌, ap}
 use Rattle.query.specs.Statistics.{by_repr, repr_of}
-use Rattle.kinds.specs.Kinds.{kind_at}
+use Rattle.given.specs.Kinds.{kind_at}
 use Rattle.given.proofs.KeyLaws.{proper}
 use borrow.Author.Rules.{rules}
 use Rattle.query.proofs.statistics.by_repr.Goals as goal

@@ -4,7 +4,7 @@ use mathlib.Core.List.{List}
 use mathlib.Core.Path.{refl, ◌∙◌, ap}
 use Rattle.hexadecimal.specs.Digits.{word_at}
 use Rattle.query.specs.Statistics.{nodes}
-use Rattle.kinds.specs.Kinds.{kind_at}
+use Rattle.given.specs.Kinds.{kind_at}
 use Rattle.given.proofs.KeyLaws.{proper}
 use borrow.Author.Rules.{rules}
 use Rattle.query.proofs.statistics.nodes.Goals as goal

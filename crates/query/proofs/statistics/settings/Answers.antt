@@ -1,7 +1,7 @@
 -- `query::statistics::settings` meets its contract: the frame of kind 20, read.
 use mathlib.Core.Path.{refl, ◌∙◌, ap}
 use Rattle.query.specs.Statistics.{sampled_of, settings as settings_of}
-use Rattle.kinds.specs.Kinds.{kind_at}
+use Rattle.given.specs.Kinds.{kind_at}
 use Rattle.given.proofs.KeyLaws.{proper}
 use borrow.Author.Rules.{rules}
 use Rattle.query.proofs.statistics.settings.Goals as goal

@@ -1,7 +1,7 @@
 -- `reading::second::read_text` meets its contract: with a sheet and an index of its own, by the length of the text.
 use mathlib.Core.Path.{refl}
-use Rattle.fields.specs.Limits.{text_most}
-use Rattle.indexing.specs.Index.{few_slots, many_slots}
+use Rattle.second_reading.specs.Limits.{text_most}
+use Rattle.second_reading.specs.Index.{few_slots, many_slots}
 use Rattle.reading.specs.IndexedReading.{tiny_text, short_text, middle_text}
 use Rattle.reading.proofs.LentLaws.{lent_for}
 use Rattle.reading.proofs.second.read_text.Goals as goal

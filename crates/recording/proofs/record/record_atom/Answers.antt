@@ -1,5 +1,5 @@
 -- `recording::record::record_atom` meets its contract: kind by kind.
-use Rattle.lowering.proofs.AtomLaws.{left_below, right_below, node_below, items_below}
+use Rattle.passes.proofs.AtomLaws.{left_below, right_below, node_below, items_below}
 use Rattle.recording.proofs.RecordLaws.{record_pred, record_eq, record_global, record_scan}
 use Rattle.recording.proofs.record.record_atom.Goals as goal
 

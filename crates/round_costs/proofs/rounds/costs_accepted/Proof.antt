@@ -1,7 +1,7 @@
 -- `round_costs::rounds::costs_accepted` meets its contract: the places, the rounds, the costs, by whether an atom was chosen.
 use mathlib.Core.Path.{refl}
 use native.Mathlib.Omega.{arith}
-use Rattle.ordering.proofs.OrderLaws.{sheet_few, sheet_short, places_located}
+use Rattle.fitting.proofs.OrderLaws.{sheet_few, sheet_short, places_located}
 use Rattle.round_costs.proofs.CostLaws.{told_ended, told_chosen}
 use borrow.Author.Rules.{rules}
 use Rattle.round_costs.proofs.rounds.costs_accepted.Statement.{statement}

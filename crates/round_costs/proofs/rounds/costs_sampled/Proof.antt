@@ -1,7 +1,7 @@
 -- `round_costs::rounds::costs_sampled` meets its contract.
 use mathlib.Core.Path.{refl, sym}
 use lib.Seq.{length-take-le}
-use Rattle.gathering.proofs.GatherLaws.{both_lent}
+use Rattle.fitting.proofs.GatherLaws.{both_lent}
 use Rattle.round_costs.proofs.CostLaws.{table_back, costs_sampled}
 use borrow.Author.Rules.{rules}
 use Rattle.round_costs.proofs.rounds.costs_sampled.Statement.{statement}

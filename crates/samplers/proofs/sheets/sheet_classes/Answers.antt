@@ -1,7 +1,7 @@
 -- `samplers::sheets::sheet_classes` meets its contract.
 use mathlib.Core.Path.{refl}
-use Rattle.kinds.specs.Kinds.{kind_at}
-use Rattle.given.proofs.KeyLaws.{proper}
+use Rattle.table_samples.specs.Kinds.{kind_at}
+use Rattle.query.proofs.KeyLaws.{proper}
 use Rattle.samplers.proofs.SheetLaws.{classes_room, classes_listed}
 use borrow.Author.Rules.{rules}
 use Rattle.samplers.proofs.sheets.sheet_classes.Goals as goal

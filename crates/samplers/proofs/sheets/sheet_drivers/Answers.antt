@@ -1,7 +1,7 @@
 -- `samplers::sheets::sheet_drivers` meets its contract.
 use mathlib.Core.Path.{refl}
-use Rattle.kinds.specs.Kinds.{kind_at}
-use Rattle.given.proofs.KeyLaws.{proper}
+use Rattle.table_samples.specs.Kinds.{kind_at}
+use Rattle.query.proofs.KeyLaws.{proper}
 use Rattle.samplers.proofs.SheetLaws.{drivers_room, drivers_listed}
 use borrow.Author.Rules.{rules}
 use Rattle.samplers.proofs.sheets.sheet_drivers.Goals as goal

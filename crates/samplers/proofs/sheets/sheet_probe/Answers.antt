@@ -4,8 +4,8 @@ use mathlib.Core.List.{List}
 use mathlib.Core.Path.{refl, ◌∙◌, ap}
 use Rattle.hexadecimal.specs.Digits.{word_at}
 use Rattle.query.specs.Statistics.{probe_len}
-use Rattle.kinds.specs.Kinds.{kind_at}
-use Rattle.given.proofs.KeyLaws.{proper}
+use Rattle.table_samples.specs.Kinds.{kind_at}
+use Rattle.query.proofs.KeyLaws.{proper}
 use borrow.Author.Rules.{rules}
 use Rattle.samplers.proofs.sheets.sheet_probe.Goals as goal
 

@@ -1,6 +1,6 @@
 -- `scheduling::schedule::schedule` meets its contract: the rounds left give what all give.
 use mathlib.Core.Path.{◌∙◌}
-use Rattle.samples.proofs.OwnLaws.{own_samples, own_memo}
+use Rattle.round_choice.proofs.OwnLaws.{own_samples, own_memo}
 use Rattle.scheduling.proofs.LoopLaws.{rounding_start, prepared, round_room, rounding_ends, next_below, next_scans, next_unused, next_prepared, rounding_over, rounding_again}
 use Rattle.scheduling.proofs.schedule.schedule.Goals as goal
 

@@ -1,6 +1,6 @@
 -- `second_reading::lines::second_fault` meets its contract.
 use lib.ListN.{length}
-use Rattle.frames.proofs.FrameLaws.{tests_here}
+use Rattle.indexing.proofs.FrameLaws.{tests_here}
 use Rattle.indexing.specs.Index.{slots_for, given_by}
 use Rattle.second_reading.specs.Rereading.{chained_by}
 use Rattle.second_reading.proofs.SecondLaws.{fault_first, fault_7, fault_14, fault_13, fault_none, fault_table}

@@ -1,0 +1,3 @@
+pub use Rattle.records.specs.Items
+pub use Rattle.records.specs.Leaders
+pub use Rattle.records.specs.Rows
