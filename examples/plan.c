@@ -1,6 +1,6 @@
 /* Plans the worked example, runs the plan over a table of three rows and prints both.
    Build and run, from the repository's root:
-     rt staticlib exports
+     tools/staticlib
      gcc -std=c11 -Wall -Wextra -I include examples/plan.c target/staticlib/libexports.a -o target/plan-example
      target/plan-example */
 #include <stdio.h>

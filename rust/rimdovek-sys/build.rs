@@ -1,4 +1,4 @@
-//! Links libexports.a, which `rt staticlib exports` writes. `RIMDOVEK_STATICLIB` names its folder; without it, the repository's.
+//! Links libexports.a, which `tools/staticlib` writes. `RIMDOVEK_STATICLIB` names its folder; without it, the repository's.
 use std::env;
 use std::path::PathBuf;
 
