@@ -3,18 +3,18 @@
 
 usage: pass_on.py [--check] TOP
 
-A crate's line in crates.txt keeps the crates that no other crate of the line stands on, and those of NEAR. What lies below comes through these: modules of specs/ and
-proofs/ by lines `pub use Rattle.low.specs.Module` in their specs/Lib.antt and proofs/Lib.antt, code by lines `pub use low;` in their src/lib.rt. rt
-walks every path from a crate down, so the lists of crates.txt must not be dense. --check writes nothing and prints how many paths there are before
-and after.
+rt walks every path from a crate down, so the lists of crates.txt must not be dense. Definitions and laws of a crate that its user does not name come
+through one that it does, by a line `pub use Rattle.low.specs.Module` in specs/Lib.antt or proofs/Lib.antt. A function or type comes through the
+module `below` of such a crate, by a line `pub use low::geo::area;`, but only where naming the crate itself would cost most paths: until there are
+no more than PATHS. --check writes nothing and prints how many paths there are before and after.
 """
+
 import collections
 import os
 import re
 import sys
 
-# Small crates at the bottom, from which few paths lead down: each crate that takes anything from one names it.
-NEAR = set("base splitmix table_file hexadecimal set_model sqrt field_values model hex_lines measure cost_bits".split())
+PATHS = 250_000
 
 PATH = re.compile(r"Rattle\.(\w+)\.(specs|proofs)((?:\.[^\s(){}.;,@\"«»\[\]]+)*)")
 
@@ -91,7 +91,7 @@ class Repo:
             if p.endswith(".rt"):
                 code = "\n".join(line.split("//")[0] for line in text.split("\n"))
                 code = re.sub(r"ghost use [^;]*;", "", code)
-                words = set(re.findall(r"(?<![:\w.])([a-z]\w*)::\w", code)) | set(re.findall(r"\buse ([a-z]\w*);", code))
+                words = set(re.findall(r"(?<![:\w.])([a-z]\w*)::[\w{]", code)) | set(re.findall(r"\buse ([a-z]\w*);", code))
                 called |= {w for w in words if w in self.own and w != c}
         return called, named
 
@@ -106,14 +106,7 @@ class Repo:
         return {c: rank(c) for c in self.order}
 
 
-CRATE = re.compile(r"(?<![:\w.])([a-z]\w*)(?=::\w)|(?<=\buse )([a-z]\w*)(?=;)")
-
-
-def code_line(line, called):
-    """A line of code with the crates that it calls named anew."""
-    if line.lstrip().startswith(("//", "ghost use")):
-        return line
-    return CRATE.sub(called, line)
+USE = re.compile(r"(?m)^use (\w+)((?:::\w+)*)::(\{[^}]*\}|\w+);\n")
 
 
 def paths(edges):
@@ -127,18 +120,42 @@ def paths(edges):
     return {c: count(c) for c in edges}
 
 
+def reached(edges, rank):
+    reach = {}
+    for c in sorted(edges, key=lambda c: rank[c]):
+        reach[c] = set(edges[c]).union(*[reach[d] for d in edges[c]])
+    return reach
+
+
+def chosen(repo, rank):
+    """The crates that each crate names."""
+    edges, reach = {}, {}
+    for c in sorted(repo.order, key=lambda c: rank[c]):
+        edges[c] = set(repo.called[c])
+        for d in sorted({m[0] for m in repo.named[c]}, key=lambda d: (-rank[d], d)):
+            if d not in edges[c] and not any(d in reach[r] for r in edges[c]):
+                edges[c].add(d)
+        reach[c] = set(edges[c]).union(*[reach[r] for r in edges[c]])
+    high = sorted(repo.order, key=lambda c: (-rank[c], c))
+    while sum(paths(edges).values()) > PATHS:
+        reach, below, ways = reached(edges, rank), paths(edges), dict.fromkeys(edges, 1)
+        for c in high:
+            for d in edges[c]:
+                ways[d] += ways[c]
+        spare = [(c, d) for c in edges for d in edges[c] if any(d in reach[r] for r in edges[c] - {d})]
+        if not spare:
+            break
+        c, d = max(spare, key=lambda it: (ways[it[0]] * below[it[1]], it))
+        edges[c].discard(d)
+    return edges
+
+
 def main(argv):
     check = "--check" in argv
     repo = Repo([a for a in argv if not a.startswith("--")][0])
     rank = repo.ranks()
-    edges, reach = {}, {}
-    for c in sorted(repo.order, key=lambda c: rank[c]):
-        needed = repo.called[c] | {m[0] for m in repo.named[c]}
-        edges[c] = needed & NEAR
-        for d in sorted(needed, key=lambda d: (-rank[d], d)):
-            if d not in edges[c] and not any(d in reach[r] for r in edges[c]):
-                edges[c].add(d)
-        reach[c] = set(edges[c]).union(*[reach[r] for r in edges[c]])
+    edges = chosen(repo, rank)
+    reach = reached(edges, rank)
     before = paths({c: [d for d in repo.listed[c] if d in repo.own] for c in repo.order})
     after = paths(edges)
     print("paths before", sum(before.values()), "after", sum(after.values()), "most", max(after.items(), key=lambda x: x[1]))
@@ -174,20 +191,24 @@ def main(argv):
         passing = [r for r in fit if (d, module) in lines[r, kind]]
         return min(passing or fit, key=lambda r: (rank[r], r))
 
-    crates_passed = collections.defaultdict(dict)  # crate -> passed crate -> where it comes from
+    items = collections.defaultdict(dict)  # crate -> item passed in its module below -> where it comes from
 
-    def crate_path(r, d):
-        """The path by which r's users name the crate d."""
-        if d not in crates_passed[r]:
-            if d in edges[r]:
-                crates_passed[r][d] = d
-            else:
-                crates_passed[r][d] = crate_path(choose_crate(r, d), d)
-        return f"{r}::{d}"
+    def item_path(r, d, path, item):
+        """Where r's users find an item of d."""
+        key = (d, path, item)
+        if key not in items[r].values():
+            if item in items[r]:
+                raise SystemExit(f"two items {item} in {r}: {items[r][item]} {key}")
+            items[r][item] = key
+            if d not in edges[r]:
+                item_path(choose_crate(r, d), d, path, item)
+        return f"{r}::below"
 
     def choose_crate(c, d):
         fit = [r for r in edges[c] if d in reach[r]]
-        return min([r for r in fit if d in crates_passed[r]] or fit, key=lambda r: (rank[r], r))
+        if not fit:
+            raise SystemExit(f"{c} reaches no {d}: {sorted(edges[c])}")
+        return min(fit, key=lambda r: (rank[r], r))
 
     texts = {}
     for c in sorted(repo.order, key=lambda c: (rank[c], c)):
@@ -205,18 +226,23 @@ def main(argv):
                 return ".".join([base, *got[1]])
 
             def called(m):
-                d = m[0]
-                if d == c or d not in repo.own or d in edges[c] or d not in repo.called[c]:
-                    return d
-                return crate_path(choose_crate(c, d), d)
+                d, path, names = m[1], m[2], m[3]
+                if d == c or d not in repo.own or d in edges[c]:
+                    return m[0]
+                names = [x.strip() for x in names.strip("{}").split(",") if x.strip()]
+                at = {item_path(choose_crate(c, d), d, path, x) for x in names}
+                return f"use {at.pop()}::{{{', '.join(names)}}};\n"
 
             text = read(p)
             new = PATH.sub(turned, text)
             if p.endswith(".rt"):
-                new = "\n".join(code_line(line, called) for line in new.split("\n"))
+                new = USE.sub(called, new)
+                for d in repo.called[c] - edges[c]:
+                    if re.search(rf"(?m)^(?!\s*//|ghost use)[^\n]*(?<![:\w.]){d}::", new):
+                        print(f"look: {os.path.relpath(p, repo.top)} calls {d} in place")
             if new != text:
                 texts[p] = new
-    print("crates passed", sum(len(v) for v in crates_passed.values()), "files", len(texts), "lines", sum(len(v) for v in lines.values()), "crates that pass on", len(lines))
+    print("items passed", sum(len(v) for v in items.values()), "files", len(texts), "lines", sum(len(v) for v in lines.values()), "crates that pass on", len(lines))
     if check:
         for c in sorted(repo.order, key=lambda c: -after[c])[:12]:
             print(c, after[c], sorted(edges[c]))
@@ -230,17 +256,17 @@ def main(argv):
         for (d, module), (name, source) in sorted(passed.items(), key=lambda x: x[1][1]):
             more.append(f"pub use {source}" + (f" as {name}" if source.split(".")[-1] != name else ""))
         write(p, text.rstrip("\n") + ("\n" if text else "") + "\n".join(more) + "\n")
-    for c, passed in crates_passed.items():
-        p = f"{repo.top}/crates/{c}/src/lib.rt"
+    for r, passed in items.items():
+        uses = collections.defaultdict(list)
+        for item, (d, path, _) in passed.items():
+            uses[f"{d}{path}" if d in edges[r] else item_path(choose_crate(r, d), d, path, item)].append(item)
+        lines_of = [f"pub use {at}::{{{', '.join(sorted(names))}}};" for at, names in sorted(uses.items())]
+        write(f"{repo.top}/crates/{r}/src/below.rt", "// What crates above take from those below this one.\n" + "\n".join(lines_of) + "\n")
+        p = f"{repo.top}/crates/{r}/src/lib.rt"
         text = read(p)
-        names = re.findall(r"(?m)^(?:pub )?mod (\w+);", text)
-        for d in sorted(passed):
-            if d in names or re.search(rf"(?m)^(?:pub )?(?:fn|struct|enum) {d}\b|^use [^;]*\b{d}(?:;|,|\}})", text):
-                print(f"look: crates/{c}/src/lib.rt has {d} already")
-        more = "\n".join(f"pub use {passed[d]};" if passed[d] == d else f"pub use {passed[d]};" for d in sorted(passed))
         m = list(re.finditer(r"(?m)^(?:pub )?mod \w+;\n", text)) or list(re.finditer(r"(?m)^ghost use [^;]*;\n", text)) or list(re.finditer(r"(?m)^#!\[tactic[^\n]*\n", text))
         k = m[-1].end()
-        write(p, text[:k] + "\n" + more + "\n" + text[k:])
+        write(p, text[:k] + ("" if "mod " in m[-1][0] else "\n") + "pub mod below;\n" + text[k:])
     out = []
     for line in read(f"{repo.top}/crates.txt").splitlines():
         m = re.match(r"(\w+)([^:#]*):(.*)", line)

@@ -7,20 +7,20 @@ use mathlib.Core.List.{List, Memᴰ}
 use native.Mathlib.Omega.{arith}
 use lib.Dec.{T}
 use lib.ListN.{length, get_or, set}
-use Rattle.recording.specs.Sheet.{frame_at}
-use Rattle.model.specs.Atoms.{Atom, Plain, Lit, LitBind, Eq, EqGlobal, Pred, Variadic}
-use Rattle.model.specs.Bound.{Bound, has, add, bound_most}
-use Rattle.model.specs.Lowering.{Emitted, lower}
-use Rattle.model.specs.Scheduling.{scans, emit_at, atom_of, numbers}
-use Rattle.model.proofs.Scheduled.{unlowered_lt}
-use Rattle.recording.specs.QueryAtoms.{atom_of_frame}
-use Rattle.recording.specs.Emitters.{record_atom}
+use Rattle.binding.specs.Sheet.{frame_at}
+use Rattle.binding.specs.Atoms.{Atom, Plain, Lit, LitBind, Eq, EqGlobal, Pred, Variadic}
+use Rattle.binding.specs.Bound.{Bound, has, add, bound_most}
+use Rattle.binding.specs.Lowering.{Emitted, lower}
+use Rattle.binding.specs.Scheduling.{scans, emit_at, atom_of, numbers}
+use Rattle.binding.proofs.Scheduled.{unlowered_lt}
+use Rattle.binding.specs.QueryAtoms.{atom_of_frame}
+use Rattle.binding.specs.Emitters.{record_atom}
 use Rattle.recording.specs.Changed.{changed_from, record_numbers}
 use Rattle.recording.proofs.ChangedLaws.{changed_recorded}
-use Rattle.recording.specs.AtomLines.{AtomLine, lowers, bound_behind, Lowers}
-use Rattle.recording.specs.Eager.{Went, LoweredEager, Lined, Located, Ready, sheet_atoms}
-use Rattle.recording.proofs.LocatedLaws.{place_sized, place_within, number_among, line_ready}
-use Rattle.recording.proofs.EagerLaws.{went_one}
+use Rattle.lowering.specs.AtomLines.{AtomLine, lowers, bound_behind, Lowers}
+use Rattle.passes.specs.Eager.{Went, LoweredEager, Lined, Located, Ready, sheet_atoms}
+use Rattle.passes.proofs.LocatedLaws.{place_sized, place_within, number_among, line_ready}
+use Rattle.passes.proofs.EagerLaws.{went_one}
 use Rattle.advancing.specs.Advancing.{emitters_of, Advances, Takes, TakesNext}
 use Rattle.advancing.specs.declared.advance.Scheduler.{Scheduler}
 

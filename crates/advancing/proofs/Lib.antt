@@ -1,4 +1,1 @@
 pub mod AdvanceLaws
-pub use Rattle.recording.proofs.ChoiceLaws
-pub use Rattle.recording.proofs.EagerLaws
-pub use Rattle.recording.proofs.LocatedLaws

@@ -1,12 +1,12 @@
 -- The scheduler's state over arrays: what an eager round, and the atom chosen, make of it.
 use Rattle.std.specs.Prelude.{ℕ, ◌≡◌, length}
 use mathlib.Core.List.{List, Memᴰ, map}
-use Rattle.model.specs.Atoms.{Atom}
-use Rattle.model.specs.Bound.{Bound, add, bound_most}
-use Rattle.model.specs.Scheduling.{emit_at, atom_of, numbers}
-use Rattle.recording.specs.QueryAtoms.{atom_of_frame}
-use Rattle.recording.specs.Emitters.{Emitters, decode, record_atom, record_emitters}
-use Rattle.recording.specs.Eager.{Went, LoweredEager, Ready, sheet_atoms}
+use Rattle.binding.specs.Atoms.{Atom}
+use Rattle.binding.specs.Bound.{Bound, add, bound_most}
+use Rattle.binding.specs.Scheduling.{emit_at, atom_of, numbers}
+use Rattle.binding.specs.QueryAtoms.{atom_of_frame}
+use Rattle.binding.specs.Emitters.{Emitters, decode, record_atom, record_emitters}
+use Rattle.passes.specs.Eager.{Went, LoweredEager, Ready, sheet_atoms}
 use Rattle.advancing.specs.declared.advance.Scheduler.{Scheduler}
 
 -- the emitters of a scheduler

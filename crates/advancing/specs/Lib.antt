@@ -1,12 +1,1 @@
 pub mod Advancing
-pub use Rattle.recording.specs.Choice
-pub use Rattle.recording.specs.CostSampling
-pub use Rattle.recording.specs.Costs
-pub use Rattle.recording.specs.Eager
-pub use Rattle.recording.specs.Emitters
-pub use Rattle.recording.specs.Given
-pub use Rattle.recording.specs.Memo
-pub use Rattle.recording.specs.QueryAtoms
-pub use Rattle.recording.specs.Sampled
-pub use Rattle.recording.specs.Sampling
-pub use Rattle.recording.specs.Sheet

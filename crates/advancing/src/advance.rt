@@ -1,17 +1,17 @@
 // The scheduler's state, led on by an eager round and by the atom that was chosen.
 ghost use Rattle.std.specs.Prelude.{◌≡◌, true, false, ◌<◌, length};
-ghost use Rattle.model.specs.Bound.{has, bound_most};
-ghost use Rattle.model.specs.Scheduling.{scans, atom_of};
-ghost use Rattle.recording.specs.QueryAtoms.{atom_of_frame};
-ghost use Rattle.recording.specs.AtomLines.{AtomLine};
-ghost use Rattle.recording.specs.Eager.{Located, sheet_atoms};
+ghost use Rattle.binding.specs.Bound.{has, bound_most};
+ghost use Rattle.binding.specs.Scheduling.{scans, atom_of};
+ghost use Rattle.binding.specs.QueryAtoms.{atom_of_frame};
+ghost use Rattle.lowering.specs.AtomLines.{AtomLine};
+ghost use Rattle.passes.specs.Eager.{Located, sheet_atoms};
 ghost use Rattle.advancing.specs.Advancing.{Prepared, Advances, Takes, TakesNext};
 
-use recording::binding::sets::set_bound;
+use binding::sets::set_bound;
+use fields::field::wide;
+use lowering::atom::lower_bound;
+use passes::eager::{atom_line, lower_eager};
 use recording::changed::changed;
-use recording::fields::field::wide;
-use recording::lowering::atom::lower_bound;
-use recording::passes::eager::{atom_line, lower_eager};
 use recording::record::{record_atom, record_numbers};
 
 // The scheduler's state: the atoms lowered, the variables bound, the atoms that were lowered when emitters were last recorded, the

@@ -2,5 +2,3 @@
 #![tactic(auto)]
 
 pub mod advance;
-
-pub use recording::{cost, fields, passes, query};

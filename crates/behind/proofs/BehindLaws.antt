@@ -8,8 +8,8 @@ use lib.ListN.{length, get_or, drop, length-append, length-drop, take-append-dro
 use lib.Seq.{drop-append_seam}
 use lib.Dec.{eqb}
 use borrow.Author.Tests.{eqb-true}
-use Rattle.base.specs.Choose.{pick}
-use Rattle.base.proofs.ChooseLaws.{both_hold}
+use Rattle.reading_facts.specs.Choose.{pick}
+use Rattle.reading_facts.proofs.ChooseLaws.{both_hold}
 use Rattle.reading_facts.specs.Kinds.{kind_at, kinds, query, table}
 use Rattle.reading_facts.specs.Frames.{frame_length}
 use Rattle.reading_facts.specs.Sheet.{frames_in, frames_up_to, laid_out, Whole}

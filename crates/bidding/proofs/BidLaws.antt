@@ -4,11 +4,11 @@ use mathlib.Core.Path.{◌≡◌, refl}
 use mathlib.Core.Bool.{Bool, true, false, not, ◌&&◌}
 use mathlib.Core.Option.{some}
 use lib.Ieee.{lt}
-use Rattle.base.specs.Choose.{pick}
-use Rattle.model.specs.Atoms.{Atom}
-use Rattle.model.specs.Bound.{Bound, has}
-use Rattle.model.specs.Scheduling.{scans}
-use Rattle.model.specs.Cheapest.{is_candidate}
+use Rattle.cost.specs.Choose.{pick}
+use Rattle.cost.specs.Atoms.{Atom}
+use Rattle.cost.specs.Bound.{Bound, has}
+use Rattle.cost.specs.Scheduling.{scans}
+use Rattle.cost.specs.Cheapest.{is_candidate}
 use Rattle.item_pricing.specs.declared.items.Costed.{Costed as CostedAs}
 use Rattle.bidding.specs.declared.bid.Best.{Best}
 use Rattle.bidding.specs.Bidding.{bid_of, or_best, better_of}

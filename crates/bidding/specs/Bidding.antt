@@ -2,8 +2,8 @@
 use Rattle.std.specs.Prelude.{ℕ, Bool, true, false, not, ◌&&◌, Float}
 use Rattle.std.proofs.Math.Option.{Option, none, some}
 use Rattle.std.specs.Float.Ieee.{lt}
-use Rattle.base.specs.Choose.{pick}
-use Rattle.model.specs.Cheapest.{Bid}
+use Rattle.cost.specs.Choose.{pick}
+use Rattle.cost.specs.Cheapest.{Bid}
 use Rattle.item_pricing.specs.declared.items.Costed.{Costed as CostedAs}
 use Rattle.bidding.specs.declared.bid.Best.{Best}
 

@@ -1,14 +1,14 @@
 // Whether an atom is a candidate, and its cost against the best so far.
 ghost use Rattle.std.specs.Prelude.{◌≡◌, ◌<◌};
-ghost use Rattle.item_pricing.specs.QueryAtoms.{atom_of_frame};
-ghost use Rattle.model.specs.Cheapest.{is_candidate};
-ghost use Rattle.item_pricing.specs.AtomLines.{AtomLine};
+ghost use Rattle.cost.specs.QueryAtoms.{atom_of_frame};
+ghost use Rattle.cost.specs.Cheapest.{is_candidate};
+ghost use Rattle.lowering.specs.AtomLines.{AtomLine};
 ghost use Rattle.bidding.specs.Bidding.{better_of};
 
-use item_pricing::binding::sets::is_set;
-use item_pricing::cost::memo::Sampling;
+use binding::sets::is_set;
+use cost::memo::Sampling;
 use item_pricing::items::Costed;
-use item_pricing::lowering::atom::scans;
+use lowering::atom::scans;
 
 // The cheapest atom so far, if one was found, its cost, and the tallies behind it.
 #[derive(Clone, Copy)]

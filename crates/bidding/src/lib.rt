@@ -2,5 +2,3 @@
 #![tactic(auto)]
 
 pub mod bid;
-
-pub use item_pricing::{memo_entries, prices};

@@ -1,11 +1,12 @@
 pub mod SetLaws
 pub mod OperandLaws
+pub use Rattle.cost.proofs.Bools
+pub use Rattle.cost.proofs.BoundLaws
 pub use Rattle.cost.proofs.ChoiceLaws
 pub use Rattle.cost.proofs.ItemsLaws
 pub use Rattle.cost.proofs.KeyLaws
-pub use Rattle.cost.proofs.LentLaws
 pub use Rattle.cost.proofs.Operands
-pub use Rattle.cost.proofs.QueryLaws
-pub use Rattle.cost.proofs.ReadLaws
+pub use Rattle.cost.proofs.Scheduled
 pub use Rattle.cost.proofs.SheetLaws
+pub use Rattle.cost.proofs.TabulateLaws
 pub use Rattle.cost.proofs.Tame

@@ -7,15 +7,15 @@ use native.Mathlib.Omega.{arith}
 use lib.Dec.{ltb}
 use lib.ListN.{length, get_or}
 use borrow.Author.Tests.{ne_eqb, ltb-true, not-true, not-false}
-use Rattle.model.specs.Atoms.{Operand, local, global, wild, local_of}
-use Rattle.model.specs.Bound.{Bound, has, add, has_all}
-use Rattle.model.proofs.Bools.{first, second}
-use Rattle.model.specs.Lowering.{pv_is_bound, pv_mark_bound, mark_all}
-use Rattle.model.specs.Premises.{numbers_below}
+use Rattle.cost.specs.Atoms.{Operand, local, global, wild, local_of}
+use Rattle.cost.specs.Bound.{Bound, has, add, has_all}
+use Rattle.cost.proofs.Bools.{first, second}
+use Rattle.cost.specs.Lowering.{pv_is_bound, pv_mark_bound, mark_all}
+use Rattle.cost.specs.Premises.{numbers_below}
 use Rattle.cost.specs.QueryAtoms.{operands_from, bytes_from}
 use Rattle.cost.specs.Lookups.{operand_at}
 use Rattle.cost.proofs.Operands.{local_at}
-use Rattle.cost.specs.Fields.{width}
+use Rattle.fields.specs.Fields.{width}
 use Rattle.cost.specs.Kinds.{kind_at, fixed_length, items_of}
 use Rattle.cost.specs.Frames.{kind_of}
 use Rattle.binding.specs.ItemOperands.{item_operands}

@@ -1,9 +1,9 @@
 -- The items of a frame, as operands.
 use Rattle.std.specs.Prelude.{ℕ, List}
-use Rattle.cost.specs.Fields.{width}
+use Rattle.fields.specs.Fields.{width}
 use Rattle.cost.specs.Kinds.{fixed_length, items_of}
 use Rattle.cost.specs.Frames.{kind_of}
-use Rattle.model.specs.Atoms.{Operand}
+use Rattle.cost.specs.Atoms.{Operand}
 use Rattle.cost.specs.QueryAtoms.{operands_from}
 
 -- the items of a frame, by the table of kinds, as operands

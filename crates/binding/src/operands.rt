@@ -1,17 +1,16 @@
 // The operands of an atom's frame: tag and index, at byte i of its frame.
 ghost use Rattle.std.specs.Prelude.{◌≡◌, true, ◌+◌, ◌*◌, ◌<◌, length};
 ghost use mathlib.Core.List.{flat_map};
-ghost use Rattle.model.specs.Atoms.{local_of};
-ghost use Rattle.model.specs.Bound.{has_all};
-ghost use Rattle.model.specs.Lowering.{pv_is_bound, pv_mark_bound, mark_all};
-ghost use Rattle.model.specs.Premises.{numbers_below};
+ghost use Rattle.cost.specs.Atoms.{local_of};
+ghost use Rattle.cost.specs.Bound.{has_all};
+ghost use Rattle.cost.specs.Lowering.{pv_is_bound, pv_mark_bound, mark_all};
+ghost use Rattle.cost.specs.Premises.{numbers_below};
 ghost use Rattle.cost.specs.QueryAtoms.{operands_from, bytes_from};
 ghost use Rattle.cost.specs.Lookups.{operand_at};
 ghost use Rattle.binding.specs.ItemOperands.{item_operands};
 
 use super::sets::{is_set, set_bound};
-use cost::frames::frame::items_of;
-use cost::kinds::table::{fixed_length, item_width};
+use cost::below::{fixed_length, item_width, items_of};
 use hexadecimal::byte_at;
 
 // Whether an operand is bound: a global always is.

@@ -7,13 +7,13 @@ use native.Mathlib.Omega.{arith}
 use lib.ListN.{length, get_or}
 use lib.Dec.{eqb}
 use borrow.Author.Tests.{eq-eqb, ne_eqb, eqb-true, eqb-false}
-use Rattle.base.specs.Choose.{pick}
-use Rattle.field_values.specs.FieldValues.{child_path}
+use Rattle.row_frames.specs.Choose.{pick}
+use Rattle.row_frames.specs.FieldValues.{child_path}
 use Rattle.row_frames.specs.Sheet.{frame_at}
-use Rattle.model.specs.Atoms.{Row, op_of, children, child_at, unset}
-use Rattle.model.specs.Equality.{same_class}
-use Rattle.model.specs.Running.{among, no_row}
-use Rattle.model.proofs.EqualityLaws.{same_eq, eq_same}
+use Rattle.row_frames.specs.Atoms.{Row, op_of, children, child_at, unset}
+use Rattle.row_frames.specs.Equality.{same_class}
+use Rattle.row_frames.specs.Running.{among, no_row}
+use Rattle.row_frames.proofs.EqualityLaws.{same_eq, eq_same}
 use Rattle.row_frames.specs.Rows.{row_of}
 use Rattle.row_frames.specs.declared.row.Want.{Want}
 use Rattle.row_frames.specs.Wanted.{op_path, has_at, wanted}

@@ -1,9 +1,11 @@
 pub mod NumberLaws
 pub mod IndexLaws
 pub mod SampleLaws
+pub use Rattle.row_frames.proofs.Bools
+pub use Rattle.row_frames.proofs.BoundLaws
+pub use Rattle.row_frames.proofs.CheapestLaws
 pub use Rattle.row_frames.proofs.ItemsLaws
-pub use Rattle.row_frames.proofs.LentLaws
-pub use Rattle.row_frames.proofs.QueryLaws
-pub use Rattle.row_frames.proofs.ReadLaws
 pub use Rattle.row_frames.proofs.RowLaws
+pub use Rattle.row_frames.proofs.Scheduled
 pub use Rattle.row_frames.proofs.SheetLaws
+pub use Rattle.row_frames.proofs.TabulateLaws

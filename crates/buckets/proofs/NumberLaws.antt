@@ -7,11 +7,11 @@ use native.Mathlib.Omega.{arith}
 use native.Mathlib.Nat.{mul-div_cancel, div-lt_iff_lt-mul, mul-lt-mul_of_pos_right}
 use lib.ListN.{length, get_or}
 use lib.Seq.{ext_get_or}
-use Rattle.base.specs.Choose.{pick}
-use Rattle.model.specs.Atoms.{Row}
-use Rattle.model.specs.Running.{no_row}
-use Rattle.model.specs.Tabulate.{tabulate}
-use Rattle.model.proofs.TabulateLaws.{tabulate_at, tabulate_length}
+use Rattle.row_frames.specs.Choose.{pick}
+use Rattle.row_frames.specs.Atoms.{Row}
+use Rattle.row_frames.specs.Running.{no_row}
+use Rattle.row_frames.specs.Tabulate.{tabulate}
+use Rattle.row_frames.proofs.TabulateLaws.{tabulate_at, tabulate_length}
 use Rattle.row_frames.specs.Items.{Each}
 use Rattle.buckets.specs.Buckets.{numbers_from, strided}
 

@@ -10,9 +10,9 @@ use lib.ListN.{length, get_or, take, drop, set, length-set, length-drop, drop_of
 use lib.Seq.{drop-cons, take-suc, take-suc-set, take_all, get_or-take, length-take-le}
 use lib.Dec.{eqb}
 use borrow.Author.Tests.{eq-eqb, ne_eqb, not-true, not-false}
-use Rattle.base.specs.Choose.{pick}
-use Rattle.model.specs.Atoms.{Row, op_of}
-use Rattle.model.specs.Running.{no_row}
+use Rattle.row_frames.specs.Choose.{pick}
+use Rattle.row_frames.specs.Atoms.{Row, op_of}
+use Rattle.row_frames.specs.Running.{no_row}
 use Rattle.row_frames.specs.Items.{Each}
 use Rattle.row_frames.specs.Rows.{row_of}
 use Rattle.row_frames.specs.declared.row.Want.{Want}

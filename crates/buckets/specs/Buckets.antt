@@ -1,9 +1,9 @@
 -- The rows of a table that a planner samples from, by their numbers.
 use Rattle.std.specs.Prelude.{ℕ, suc, ◌*◌, ◌/◌, ◌<◌, ◌≤◌, ◌≡◌, Bool, List, [], ◌∷◌, length, get_or, take, eqb}
-use Rattle.base.specs.Choose.{pick}
-use Rattle.model.specs.Atoms.{Row, op_of}
-use Rattle.model.specs.Running.{no_row}
-use Rattle.model.specs.Tabulate.{tabulate}
+use Rattle.row_frames.specs.Choose.{pick}
+use Rattle.row_frames.specs.Atoms.{Row, op_of}
+use Rattle.row_frames.specs.Running.{no_row}
+use Rattle.row_frames.specs.Tabulate.{tabulate}
 use Rattle.row_frames.specs.Items.{Each}
 
 -- the numbers of the rows that pass a test, in order, where the first row has number i

@@ -1,8 +1,8 @@
 -- Computed: rows that are asked for, by their numbers; some of five; those of an operator.
 use Rattle.std.specs.Prelude.{ℕ, ◌≡◌, refl, [], ◌∷◌}
-use Rattle.model.specs.Equality.{same_class}
-use Rattle.model.specs.Running.{among}
-use Rattle.model.specs.Tabulate.{tabulate}
+use Rattle.row_frames.specs.Equality.{same_class}
+use Rattle.row_frames.specs.Running.{among}
+use Rattle.row_frames.specs.Tabulate.{tabulate}
 use Rattle.row_frames.specs.Examples.{table}
 use Rattle.row_frames.specs.Wanted.{wanted}
 use Rattle.row_frames.specs.declared.row.Want.{Want}

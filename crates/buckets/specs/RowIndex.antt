@@ -2,11 +2,11 @@
 -- places, of each row where its frame begins on the sheet; then the slots, each with the number of its first entry, 0 where it has none; then the
 -- entries, from number 1 on, with two numbers each: the row, and the next entry of the slot. A row is entered once in each of its slots.
 use Rattle.std.specs.Prelude.{ℕ, zero, suc, ◌+◌, ◌*◌, ◌%◌, ◌<◌, ◌≤◌, ◌≡◌, Bool, List, [], ◌∷◌, map, length, get_or, eqb}
-use Rattle.base.specs.Choose.{pick}
+use Rattle.row_frames.specs.Choose.{pick}
 use Rattle.row_frames.specs.Limits.{items_most, rows_most}
 use Rattle.row_frames.specs.Sheet.{frame_at, frames_in}
-use Rattle.model.specs.Atoms.{Row, op_of, children}
-use Rattle.model.specs.Running.{among, no_row}
+use Rattle.row_frames.specs.Atoms.{Row, op_of, children}
+use Rattle.row_frames.specs.Running.{among, no_row}
 use Rattle.row_frames.specs.Rows.{row_of, rows_in}
 use Rattle.row_frames.specs.Wanted.{op_path}
 use Rattle.row_frames.specs.declared.row.Want.{Want}

@@ -1,11 +1,10 @@
 // The index of a table's rows, read: its layout, the chain of a slot, the frame of a row.
 ghost use Rattle.std.specs.Prelude.{◌≡◌, ◌+◌, ◌<◌, length, get_or};
-ghost use Rattle.model.specs.Running.{no_row};
+ghost use Rattle.row_frames.specs.Running.{no_row};
 ghost use Rattle.row_frames.specs.Rows.{row_of};
 ghost use Rattle.buckets.specs.RowIndex.{row_slots, head_at, row_at, next_at, slot_for, RowsIndexed, rows_on};
 
-use row_frames::fields::field::wide_short;
-use row_frames::frames::frame::frame_at;
+use row_frames::below::{frame_at, wide_short};
 use row_frames::row::{OP_PATH, Want};
 
 // The slots of classes come first, then those of operators.

@@ -5,7 +5,7 @@ ghost use Rattle.buckets.specs.Buckets.{numbers_from, strided, hits, StrideRoom,
 ghost use Rattle.buckets.specs.RowIndex.{RowsIndexed, rows_on};
 
 use crate::index::{entry_row, first_entry, next_entry, row_frame};
-use hexadecimal::byte_at;
+use row_frames::below::byte_at;
 use row_frames::row::{Want, row_wanted};
 
 // How many rows are asked for.

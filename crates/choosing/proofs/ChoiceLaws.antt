@@ -11,24 +11,24 @@ use lib.Seq.{drop-cons, take-suc-set}
 use lib.Dec.{ltb}
 use lib.Ieee.{Float, binary64, to_bits}
 use borrow.Author.Tests.{lt-ltb, not-true, not-false}
-use Rattle.base.specs.Choose.{pick}
-use Rattle.measure.specs.Selectivity.{zero64}
-use Rattle.advancing.specs.Sheet.{frame_at, frames_in}
-use Rattle.model.specs.Atoms.{Atom}
-use Rattle.model.specs.Bound.{Bound}
-use Rattle.model.specs.Scheduling.{atom_of, numbers}
-use Rattle.model.proofs.TabulateLaws.{tabulate_at, tabulate_length}
-use Rattle.model.specs.Cheapest.{Bid, Scan, is_candidate}
-use Rattle.advancing.specs.Sampled.{Sampled}
-use Rattle.advancing.specs.QueryAtoms.{atom_of_frame}
-use Rattle.advancing.specs.Emitters.{Emitters}
-use Rattle.advancing.specs.Sampling.{Tally}
-use Rattle.advancing.specs.Costs.{estimate_cost}
-use Rattle.advancing.specs.Memo.{tally_at}
-use Rattle.advancing.specs.Choice.{offer, offered, offers}
-use Rattle.advancing.specs.CostSampling.{Sampling}
+use Rattle.sqrt.specs.Choose.{pick}
+use Rattle.cost.specs.Selectivity.{zero64}
+use Rattle.cost.specs.Sheet.{frame_at, frames_in}
+use Rattle.cost.specs.Atoms.{Atom}
+use Rattle.cost.specs.Bound.{Bound}
+use Rattle.cost.specs.Scheduling.{atom_of, numbers}
+use Rattle.cost.proofs.TabulateLaws.{tabulate_at, tabulate_length}
+use Rattle.cost.specs.Cheapest.{Bid, Scan, is_candidate}
+use Rattle.cost.specs.Sampled.{Sampled}
+use Rattle.cost.specs.QueryAtoms.{atom_of_frame}
+use Rattle.cost.specs.Emitters.{Emitters}
+use Rattle.cost.specs.Sampling.{Tally}
+use Rattle.cost.specs.Costs.{estimate_cost}
+use Rattle.cost.specs.Memo.{tally_at}
+use Rattle.cost.specs.Choice.{offer, offered, offers}
+use Rattle.cost.specs.declared.memo.Sampling.{Sampling}
 use Rattle.bidding.proofs.Remembered.{Grows, grows_self, cost_grows}
-use Rattle.advancing.specs.Eager.{Located, sheet_atoms}
+use Rattle.passes.specs.Eager.{Located, sheet_atoms}
 use Rattle.bidding.specs.Remembering.{Remembers}
 use Rattle.bidding.specs.ItemCosts.{Stands}
 use Rattle.bidding.specs.Costed.{Costed as CostedAs}

@@ -1,15 +1,15 @@
 -- The choice by cost, over what the costs remember alone: the atoms in turn, each against the best before it.
 use Rattle.std.specs.Prelude.{ℕ, ◌≤◌, ◌≡◌, List, [], ◌∷◌, map, length, take, Float}
 use Rattle.std.proofs.Math.Option.{Option}
-use Rattle.model.specs.Atoms.{Atom}
-use Rattle.model.specs.Bound.{Bound}
-use Rattle.model.specs.Scheduling.{atom_of}
-use Rattle.model.specs.Cheapest.{Bid, Scan}
-use Rattle.advancing.specs.Sampled.{Sampled}
-use Rattle.advancing.specs.Emitters.{Emitters}
-use Rattle.advancing.specs.Sampling.{Tally}
-use Rattle.advancing.specs.Choice.{offer, offered}
-use Rattle.advancing.specs.Memo.{tally_at}
+use Rattle.cost.specs.Atoms.{Atom}
+use Rattle.cost.specs.Bound.{Bound}
+use Rattle.cost.specs.Scheduling.{atom_of}
+use Rattle.cost.specs.Cheapest.{Bid, Scan}
+use Rattle.cost.specs.Sampled.{Sampled}
+use Rattle.cost.specs.Emitters.{Emitters}
+use Rattle.cost.specs.Sampling.{Tally}
+use Rattle.cost.specs.Choice.{offer, offered}
+use Rattle.cost.specs.Memo.{tally_at}
 use Rattle.bidding.specs.Remembering.{Remembers}
 use Rattle.bidding.specs.declared.bid.Best.{Best}
 use Rattle.cost_bits.specs.CostBits.{cost_bits}

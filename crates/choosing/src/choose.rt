@@ -1,25 +1,25 @@
 // The cheapest of the atoms that are left.
 ghost use Rattle.std.specs.Prelude.{◌≡◌, map, ◌+◌, ◌<◌, ◌≤◌, length};
 ghost use Rattle.std.proofs.Math.Option.{none};
-ghost use Rattle.advancing.specs.Sheet.{frames_in};
-ghost use Rattle.advancing.specs.Given.{Given};
-ghost use Rattle.model.specs.Bound.{bound_most};
-ghost use Rattle.model.specs.Scheduling.{numbers};
-ghost use Rattle.advancing.specs.Emitters.{decode};
-ghost use Rattle.advancing.specs.Memo.{tally_at};
-ghost use Rattle.advancing.specs.Choice.{offers};
-ghost use Rattle.advancing.specs.Eager.{Located, sheet_atoms};
-ghost use Rattle.bidding.specs.Prices.{Priced};
+ghost use Rattle.cost.specs.Sheet.{frames_in};
+ghost use Rattle.cost.specs.Given.{Given};
+ghost use Rattle.cost.specs.Bound.{bound_most};
+ghost use Rattle.cost.specs.Scheduling.{numbers};
+ghost use Rattle.cost.specs.Emitters.{decode};
+ghost use Rattle.cost.specs.Memo.{tally_at};
+ghost use Rattle.cost.specs.Choice.{offers};
+ghost use Rattle.passes.specs.Eager.{Located, sheet_atoms};
+ghost use Rattle.prices.specs.Prices.{Priced};
 ghost use Rattle.bidding.specs.Remembering.{Samples, Remembers};
 ghost use Rattle.choosing.specs.Choosing.{candidates, Chose};
 
 use advancing::advance::Scheduler;
-use advancing::cost::memo::Sampling;
-use advancing::fields::field::narrow;
-use advancing::passes::eager::atom_line;
 use bidding::bid::{Best, better, is_candidate};
-use bidding::prices::table::row_of;
+use cost::memo::Sampling;
 use cost_bits::bits::{NO_COST, note_cost};
+use fields::field::narrow;
+use passes::eager::atom_line;
+use prices::table::row_of;
 use pricing::costs::estimate_cost;
 use sqrt::bits_of;
 

@@ -10,7 +10,7 @@ use lib.ListN.{length, get_or, set, length-set, get_or-eq_default}
 use lib.Pow.{pow_pos, pow-add, shr-shr, shl_exact, split}
 use lib.Seq.{get_or-set_same, get_or-set_other}
 use borrow.Author.Tests.{eq-eqb, ne_eqb, eqb-true, eqb-false, ltb-true, ltb-false}
-use Rattle.base.specs.Choose.{pick}
+use Rattle.fields.specs.Choose.{pick}
 use Rattle.class_sets.specs.Sets.{set_words, has_bit, with_bit, has_class, with_class}
 
 -- ---- bits

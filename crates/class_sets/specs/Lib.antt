@@ -1,6 +1,10 @@
 pub mod Sets
+pub use Rattle.fields.specs.Choose
+pub use Rattle.fields.specs.Digits
+pub use Rattle.fields.specs.FieldValues
 pub use Rattle.fields.specs.Fields
 pub use Rattle.fields.specs.Limits
+pub use Rattle.fields.specs.Table
 pub use Rattle.fields.specs.declared.field.Counts
 pub use Rattle.fields.specs.declared.field.Field
 pub use Rattle.fields.specs.declared.field.Test

@@ -1,6 +1,6 @@
 -- A set of classes as words of 64 bits, the lowest class in the lowest bit of the first word.
 use Rattle.std.specs.Prelude.{ℕ, ◌+◌, ◌/◌, ◌%◌, ◌^◌, Bool, List, get_or, set, eqb}
-use Rattle.base.specs.Choose.{pick}
+use Rattle.fields.specs.Choose.{pick}
 
 -- as many words as hold every class of two bytes
 abbrev pub set_words : ℕ

@@ -2,9 +2,9 @@
 use Prim.Native.Nat.{ℕ}
 use mathlib.Core.List.{List}
 use lib.Ieee.{lt}
-use Rattle.model.specs.Atoms.{Atom}
-use Rattle.model.specs.Scheduling.{Fair, atom_of, numbers}
-use Rattle.model.proofs.CheapestLaws.{cheapest_fair, fair_around}
+use Rattle.samplers.specs.Atoms.{Atom}
+use Rattle.samplers.specs.Scheduling.{Fair, atom_of, numbers}
+use Rattle.samplers.proofs.CheapestLaws.{cheapest_fair, fair_around}
 use Rattle.cost.specs.Choice.{recorded, cost, emitted_by, by_cost, choose}
 
 pub choose_fair : (fs : List (List ℕ)) (qs : List Atom) → Fair (atom_of qs) (numbers qs) (choose fs qs)

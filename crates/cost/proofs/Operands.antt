@@ -6,9 +6,9 @@ use mathlib.Core.List.{List}
 use lib.ListN.{length, get_or}
 use lib.Dec.{ltb}
 use borrow.Author.Tests.{eq-eqb, ltb-true}
-use Rattle.model.specs.Atoms.{local, local_of}
-use Rattle.model.proofs.Bools.{first}
-use Rattle.model.specs.Premises.{numbers_below}
+use Rattle.samplers.specs.Atoms.{local, local_of}
+use Rattle.samplers.proofs.Bools.{first}
+use Rattle.samplers.specs.Premises.{numbers_below}
 use Rattle.cost.specs.QueryAtoms.{operands_from}
 use Rattle.samplers.specs.Lookups.{operand_at}
 

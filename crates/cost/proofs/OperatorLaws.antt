@@ -6,7 +6,7 @@ use mathlib.Core.List.{List, [], ◌∷◌}
 use native.Mathlib.Omega.{arith}
 use lib.ListN.{length, get_or, drop}
 use borrow.Author.Tests.{not-true, not-false}
-use Rattle.base.specs.Choose.{pick}
+use Rattle.hexadecimal.specs.Choose.{pick}
 use Rattle.samplers.specs.Faults.{is_atom}
 use Rattle.samplers.specs.Sheet.{frame_at, frames_in}
 use Rattle.samplers.proofs.FramesSheetLaws.{frames_end, frame_some, frame_within, frames_step}

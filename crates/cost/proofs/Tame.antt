@@ -7,10 +7,10 @@ use mathlib.Core.List.{List, [], ◌∷◌, Memᴰ}
 use mathlib.Core.Logic.{◌⊎◌, inl, inr}
 use lib.ListN.{get_or}
 use lib.Dec.{eqb}
-use Rattle.base.specs.Choose.{pick}
+use Rattle.hexadecimal.specs.Choose.{pick}
 use Rattle.samplers.specs.Faults.{is_atom}
-use Rattle.model.proofs.Bools.{both}
-use Rattle.model.specs.Atoms.{local, global, Atom, tame, all_tame, tame_atom}
+use Rattle.samplers.proofs.Bools.{both}
+use Rattle.samplers.specs.Atoms.{local, global, Atom, tame, all_tame, tame_atom}
 use Rattle.cost.specs.QueryAtoms.{operands_from, atom_of_frame, atoms_in}
 use Rattle.samplers.specs.Lookups.{operand_at}
 

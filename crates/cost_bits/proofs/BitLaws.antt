@@ -6,7 +6,7 @@ use native.Mathlib.Omega.{arith}
 use native.Mathlib.Decide.{dec_lt}
 use lib.ListN.{length, get_or, set, take, length-set, get_or-eq_default}
 use lib.Seq.{length-take-le, get_or-set_same, get_or-set_other, get_or-take, ext_get_or}
-use Rattle.base.proofs.Lists.{any_default}
+use Rattle.model.proofs.Lists.{any_default}
 use Rattle.model.proofs.TabulateLaws.{tabulate_at, tabulate_length}
 use Rattle.cost_bits.specs.CostBits.{no_cost}
 use Rattle.cost_bits.specs.ToldBits.{bits_in}

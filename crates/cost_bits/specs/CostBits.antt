@@ -3,7 +3,7 @@ use Rattle.std.specs.Prelude.{ℕ, List, ltb, length, set, Float}
 use Rattle.std.proofs.Math.Option.{Option, none, some}
 use Rattle.std.specs.Float.{binary64}
 use Rattle.std.specs.Float.Ieee.{to_bits}
-use Rattle.base.specs.Choose.{pick}
+use Rattle.model.specs.Choose.{pick}
 
 -- all ones, the bits of no cost
 abbrev pub no_cost : ℕ

@@ -1,6 +1,6 @@
 // The bits of the costs of a round, for whoever asks for them.
 ghost use Rattle.std.specs.Prelude.{◌≡◌, ◌≤◌, length, get_or, take};
-ghost use Rattle.base.specs.Choose.{pick};
+ghost use Rattle.model.specs.Choose.{pick};
 ghost use Rattle.cost_bits.specs.CostBits.{no_cost};
 ghost use Rattle.cost_bits.specs.ToldBits.{bits_in};
 

@@ -1,11 +1,5 @@
 pub mod Halts
 pub use Rattle.match_lines.specs.Chains
-pub use Rattle.match_lines.specs.Env
-pub use Rattle.match_lines.specs.Envs
+pub use Rattle.match_lines.specs.Choose
 pub use Rattle.match_lines.specs.MatchLines
-pub use Rattle.match_lines.specs.Run
 pub use Rattle.match_lines.specs.Sheet
-pub use Rattle.match_lines.specs.Tables
-pub use Rattle.match_lines.specs.Validation
-pub use Rattle.match_lines.specs.Words
-pub use Rattle.match_lines.specs.Written

@@ -2,6 +2,3 @@
 #![tactic(auto)]
 
 pub mod count;
-
-pub use match_lines;
-pub use match_lines::{bindings, chains, fields, frames};

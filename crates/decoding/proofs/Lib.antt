@@ -1,12 +1,3 @@
 pub mod DecodeLaws
-pub use Rattle.rows.proofs.Found
-pub use Rattle.rows.proofs.LeaderLaws
-pub use Rattle.rows.proofs.LentLaws
-pub use Rattle.rows.proofs.Passes
-pub use Rattle.rows.proofs.ReadingLaws
 pub use Rattle.rows.proofs.RoomLaws
 pub use Rattle.standing.proofs.AcceptedLaws
-pub use Rattle.standing.proofs.ReadLaws
-pub use Rattle.standing.proofs.Whole
-pub use Rattle.table_tests.proofs.DistinctRows
-pub use Rattle.table_tests.proofs.RefusalBounds

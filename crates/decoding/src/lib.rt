@@ -2,7 +2,3 @@
 #![tactic(auto)]
 
 pub mod decode;
-
-pub use rows::{first_reading, frame_tests};
-pub use standing::reading;
-pub use table_tests;

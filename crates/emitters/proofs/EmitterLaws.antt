@@ -6,7 +6,7 @@ use mathlib.Core.List.{List, [], ◌∷◌, map}
 use native.Mathlib.Omega.{arith}
 use lib.ListN.{length, get_or, set, get_or-map}
 use borrow.Author.Tests.{eq-eqb, ne_eqb}
-use Rattle.model.specs.Bound.{put}
+use Rattle.cost.specs.Bound.{put}
 use Rattle.cost.specs.Lookups.{operand_at}
 use Rattle.cost.specs.Emitters.{Emitters, decode, from, or_keep, set_emitter, set_operand, copy_emitter, emitter_of}
 

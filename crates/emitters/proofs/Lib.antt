@@ -1,2 +1,1 @@
 pub mod EmitterLaws
-pub use Rattle.cost.proofs.ChoiceLaws

@@ -2,5 +2,3 @@
 #![tactic(auto)]
 
 pub mod numbers;
-
-pub use cost;

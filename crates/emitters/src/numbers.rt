@@ -1,7 +1,7 @@
 // The emitters, a number for each variable: 0 where it has none, else its atom, site and position packed.
 ghost use Rattle.std.specs.Prelude.{◌≡◌, true, map, ◌+◌, ◌*◌, ◌<◌, length};
-ghost use Rattle.model.specs.Atoms.{local_of};
-ghost use Rattle.model.specs.Premises.{numbers_below};
+ghost use Rattle.cost.specs.Atoms.{local_of};
+ghost use Rattle.cost.specs.Premises.{numbers_below};
 ghost use Rattle.cost.specs.Lookups.{operand_at};
 ghost use Rattle.cost.specs.Emitters.{decode, from, emitter_of, set_emitter, set_operand, copy_emitter};
 

@@ -8,24 +8,24 @@ use lib.Dec.{leb}
 use lib.ListN.{length, get_or}
 use lib.Seq.{length-take-le}
 use borrow.Author.Tests.{ltb-true, leb-true, eq-eqb, ne_eqb}
-use Rattle.base.proofs.ChooseLaws.{both_hold}
-use Rattle.lowering.specs.Faults.{is_atom}
-use Rattle.lowering.specs.Kinds.{kinds, kind_at, fixed_length}
-use Rattle.lowering.specs.Frames.{kind_of}
-use Rattle.model.specs.Atoms.{local_of, Step, Atom}
-use Rattle.model.specs.Bound.{Bound, add, bound_most}
-use Rattle.model.specs.Lowering.{contains_lookups, mark_all, emit_read_children, lower}
-use Rattle.model.specs.Premises.{numbers_below}
-use Rattle.lowering.specs.QueryAtoms.{operands_from, atom_of_frame}
-use Rattle.extracting.specs.StepFrames.{frame_of}
-use Rattle.extracting.specs.PlanText.{text_length}
-use Rattle.lowering.specs.ItemOperands.{item_operands}
+use Rattle.hexadecimal.proofs.ChooseLaws.{both_hold}
+use Rattle.binding.specs.Faults.{is_atom}
+use Rattle.binding.specs.Kinds.{kinds, kind_at, fixed_length}
+use Rattle.output.specs.Frames.{kind_of}
+use Rattle.output.specs.Atoms.{local_of, Step, Atom}
+use Rattle.binding.specs.Bound.{Bound, add, bound_most}
+use Rattle.binding.specs.Lowering.{contains_lookups, mark_all, emit_read_children, lower}
+use Rattle.binding.specs.Premises.{numbers_below}
+use Rattle.binding.specs.QueryAtoms.{operands_from, atom_of_frame}
+use Rattle.output.specs.StepFrames.{frame_of}
+use Rattle.output.specs.PlanText.{text_length}
+use Rattle.binding.specs.ItemOperands.{item_operands}
 use Rattle.lowering.specs.AtomLines.{bound_behind, Lowers}
-use Rattle.lowering.proofs.SetLaws.{add_size}
+use Rattle.binding.proofs.SetLaws.{add_size}
 use Rattle.lowering.proofs.AtomLaws.{by_kind, items_kind, node_kind}
-use Rattle.extracting.specs.Written.{fixed_in, PutsFrames, PutsStep}
-use Rattle.extracting.proofs.PutLaws.{frames_none, frames_then}
-use Rattle.extracting.specs.Begun.{Begins, Becomes, no_step, steps_of, behind_of}
+use Rattle.output.specs.Written.{fixed_in, PutsFrames, PutsStep}
+use Rattle.output.proofs.PutLaws.{frames_none, frames_then}
+use Rattle.step_bytes.specs.Begun.{Begins, Becomes, no_step, steps_of, behind_of}
 use Rattle.joining.specs.Joins.{join_of}
 use Rattle.emitting.specs.Emitting.{Emits, Emittable}
 

@@ -1,3 +1,1 @@
 pub mod EmitLaws
-pub use Rattle.extracting.proofs.PlanRead
-pub use Rattle.extracting.proofs.PutLaws

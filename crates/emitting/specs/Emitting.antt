@@ -1,14 +1,14 @@
 -- The steps of one atom, written.
 use Rattle.std.specs.Prelude.{ℕ, ◌+◌, ◌<◌, ◌≤◌, List, map}
-use Rattle.lowering.specs.Kinds.{items_of}
-use Rattle.lowering.specs.Frames.{kind_of}
-use Rattle.model.specs.Atoms.{Atom}
-use Rattle.model.specs.Bound.{Bound}
-use Rattle.model.specs.Lowering.{lower}
-use Rattle.extracting.specs.StepFrames.{frame_of}
+use Rattle.binding.specs.Kinds.{items_of}
+use Rattle.output.specs.Frames.{kind_of}
+use Rattle.output.specs.Atoms.{Atom}
+use Rattle.binding.specs.Bound.{Bound}
+use Rattle.binding.specs.Lowering.{lower}
+use Rattle.output.specs.StepFrames.{frame_of}
 use Rattle.lowering.specs.AtomLines.{AtomLine}
-use Rattle.extracting.specs.Written.{PutsFrames}
-use Rattle.extracting.specs.Begun.{steps_of}
+use Rattle.output.specs.Written.{PutsFrames}
+use Rattle.step_bytes.specs.Begun.{steps_of}
 
 -- the lines of the steps of atom a, number k, where B is bound, are put at `at` into o
 pub record Emits (B : Bound) (k : ℕ) (a : Atom) (o : List ℕ) (at : ℕ) (p : List ℕ) (r : ℕ) : Type 0 where

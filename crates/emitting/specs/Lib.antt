@@ -1,5 +1,2 @@
 pub mod Emitting
-pub use Rattle.extracting.specs.Begun
-pub use Rattle.extracting.specs.PlanText
-pub use Rattle.extracting.specs.StepFrames
-pub use Rattle.extracting.specs.Written
+pub use Rattle.step_bytes.specs.Begun

@@ -1,19 +1,19 @@
 // One atom by its kind: its steps as lines, and what it binds.
 ghost use Rattle.std.specs.Prelude.{◌≡◌, ◌<◌, length, get_or};
-ghost use Rattle.model.specs.Bound.{bound_most};
-ghost use Rattle.model.specs.Lowering.{lower};
-ghost use Rattle.lowering.specs.QueryAtoms.{atom_of_frame};
+ghost use Rattle.binding.specs.Bound.{bound_most};
+ghost use Rattle.binding.specs.Lowering.{lower};
+ghost use Rattle.binding.specs.QueryAtoms.{atom_of_frame};
 ghost use Rattle.lowering.specs.AtomLines.{bound_behind};
 ghost use Rattle.emitting.specs.Emitting.{Emits, Emittable};
 
+use binding::sets::set_bound;
 use extracting::children::read_children;
 use extracting::elements::expand;
-use extracting::output::parts::put_line;
-use extracting::step_bytes::single::{NO_STEP, literal_step, lone_step};
 use hexadecimal::byte_at;
 use joining::join::join;
 use lowering::atom::lower_bound;
-use lowering::binding::sets::set_bound;
+use output::parts::put_line;
+use step_bytes::single::{NO_STEP, literal_step, lone_step};
 
 // 01 Plain: the Join, then a step for each child.
 fn emit_plain(frame: &[u8], k: u8, bound: &mut [bool], out: &mut [u8], at: usize) -> usize

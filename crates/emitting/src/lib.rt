@@ -2,5 +2,3 @@
 #![tactic(auto)]
 
 pub mod atom;
-
-pub use extracting::output;

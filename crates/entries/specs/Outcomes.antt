@@ -1,10 +1,10 @@
 -- The answers of the runner's entries in document 01's words: "done, spent or full, with tries, matches and bytes written"; "some match, none .. or
 -- spent"; a refusal's number, text and line.
 use Rattle.std.specs.Prelude.{ℕ, ◌≤◌, List, [], eqb}
-use Rattle.base.specs.Choose.{pick}
-use Rattle.model.specs.Limits.{Status, Done, Spent, Full}
-use Rattle.execution.specs.Run.{Outcome, Refused, Ran, Result, Reply, Rejected, Match, None, Exhausted, match_line}
-use Rattle.execution.specs.Envs.{env_of}
+use Rattle.modes.specs.Choose.{pick}
+use Rattle.modes.specs.Limits.{Status, Done, Spent, Full}
+use Rattle.bindings.specs.Run.{Outcome, Refused, Ran, Result, Reply, Rejected, Match, None, Exhausted, match_line}
+use Rattle.bindings.specs.Envs.{env_of}
 use Rattle.entries.specs.declared.run.Status.{Status as StatusAs}
 use Rattle.entries.specs.declared.run.Status.TheVariants.{Done as IsDone, Spent as IsSpent, Full as IsFull}
 use Rattle.entries.specs.declared.run.Outcome.{Outcome as OutcomeAs}

@@ -3,7 +3,3 @@
 
 pub mod run;
 pub mod some;
-
-pub use execution::{
-    bindings, first_reading, frame_tests, match_lines, modes, named_joins, reading,
-};

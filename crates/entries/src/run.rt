@@ -1,12 +1,12 @@
 // The run of a plan over a table.
 ghost use Rattle.std.specs.Prelude.{◌≡◌};
-ghost use Rattle.execution.specs.Modes.{mode_of};
-ghost use Rattle.execution.specs.Run.{run as run_of};
+ghost use Rattle.modes.specs.Modes.{mode_of};
+ghost use Rattle.bindings.specs.Run.{run as run_of};
 ghost use Rattle.execution.specs.Halts.{status_number};
 ghost use Rattle.entries.specs.Outcomes.{status_of, status_by, outcome_result};
 
-use execution::modes::mode::DeltaAtom;
 use execution::texts::run_texts;
+use modes::mode::DeltaAtom;
 
 #[derive(Clone, Copy)]
 pub enum Status {

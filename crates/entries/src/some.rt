@@ -1,11 +1,11 @@
 // Some match of a plan over a table.
-ghost use Rattle.execution.specs.Modes.{mode_of};
-ghost use Rattle.execution.specs.Run.{Replies};
+ghost use Rattle.modes.specs.Modes.{mode_of};
+ghost use Rattle.bindings.specs.Run.{Replies};
 ghost use Rattle.entries.specs.Outcomes.{reply_of, Kinded};
 
-use execution::bindings::env::Env;
-use execution::modes::mode::DeltaAtom;
+use bindings::env::Env;
 use execution::texts::run_texts;
+use modes::mode::DeltaAtom;
 
 #[derive(Clone, Copy)]
 pub struct Reply {

@@ -1,12 +1,4 @@
 pub mod TextRuns
 pub use Rattle.table_run.specs.Ended
 pub use Rattle.table_run.specs.Ends
-pub use Rattle.table_run.specs.Env
-pub use Rattle.table_run.specs.Envs
 pub use Rattle.table_run.specs.Halts
-pub use Rattle.table_run.specs.MatchLines
-pub use Rattle.table_run.specs.Modes
-pub use Rattle.table_run.specs.Run
-pub use Rattle.table_run.specs.Tables
-pub use Rattle.table_run.specs.Validation
-pub use Rattle.table_run.specs.Written

@@ -2,7 +2,3 @@
 #![tactic(auto)]
 
 pub mod texts;
-
-pub use table_run::{
-    bindings, first_reading, frame_tests, match_lines, modes, named_joins, reading,
-};

@@ -1,9 +1,9 @@
 // The run from text to text: the plan is read, then the table, with arrays by the lengths of the two.
 ghost use Rattle.std.specs.Prelude.{◌≤◌, length};
-ghost use Rattle.table_run.specs.Sheet.{frames_in};
-ghost use Rattle.table_run.specs.First.{frames_of};
-ghost use Rattle.table_run.specs.IndexedReading.{Lent, tiny_text, short_text, middle_text};
-ghost use Rattle.table_run.specs.Modes.{mode_of};
+ghost use Rattle.frame_tests.specs.Sheet.{frames_in};
+ghost use Rattle.first_reading.specs.First.{frames_of};
+ghost use Rattle.reading.specs.IndexedReading.{Lent, tiny_text, short_text, middle_text};
+ghost use Rattle.modes.specs.Modes.{mode_of};
 ghost use Rattle.table_run.specs.Validation.{validation_with};
 ghost use Rattle.table_run.specs.Plans.{PlanSheet};
 ghost use Rattle.table_run.specs.Ends.{Ends};
@@ -11,16 +11,16 @@ ghost use Rattle.table_run.specs.SheetRuns.{halt_in};
 ghost use Rattle.table_run.specs.TableRuns.{table_tests};
 ghost use Rattle.execution.specs.TextRuns.{halt_of};
 
-use table_run::chains::index::LINKS;
-use table_run::first_reading::first::{Reading, sheet_size};
-use table_run::frame_tests::tests::Text;
-use table_run::modes::mode::DeltaAtom;
-use table_run::reading::second::{
+use chains::index::LINKS;
+use first_reading::first::{Reading, sheet_size};
+use frame_tests::tests::Text;
+use modes::mode::DeltaAtom;
+use reading::second::{
     LONG_INDEX, LONG_SHEET, MIDDLE_INDEX, MIDDLE_SHEET, MIDDLE_TEXT, SHORT_INDEX, SHORT_SHEET,
     SHORT_TEXT, TINY_INDEX, TINY_SHEET, TINY_TEXT, read_indexed,
 };
+use table_run::below::{Ended, refused_plan};
 use table_run::tables::run_table;
-use table_run::world_run::world::{Ended, refused_plan};
 
 // The most rows of a tiny, a short and a longer table: a row's line has ten digits or more. The rows' index has its heads and two links a row.
 const TINY_ROWS: usize = 51;

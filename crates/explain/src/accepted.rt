@@ -2,11 +2,11 @@
 use super::named::say_named;
 use super::refusals::say_refusal;
 use super::steps::say_step;
-use passed_rows::first_reading::first::{Reading, sheet_size};
-use passed_rows::frame_tests::tests::Text;
-use passed_rows::frames::frame::frame_at;
-use passed_rows::reading::second::{LONG_INDEX, LONG_SHEET, read_indexed};
-use printing::modes::mode::DeltaAtom;
+use first_reading::first::{Reading, sheet_size};
+use frame_tests::tests::Text;
+use frames::frame::frame_at;
+use modes::mode::DeltaAtom;
+use reading::second::{LONG_INDEX, LONG_SHEET, read_indexed};
 
 // The frames of a plan's sheet, its header first.
 fn say_frames(sheet: &[u8], named: DeltaAtom) {

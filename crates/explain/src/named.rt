@@ -1,9 +1,9 @@
 // What a run that names an atom as its new one makes of a plan's Joins.
 use super::refusals::say_unjoined;
 use super::words::say;
-use passed_rows::frames::frame::frame_at;
-use printing::modes::mode::{DeltaAtom, IndexMode, mode};
-use printing::named_joins::joins::joins_atom;
+use frames::frame::frame_at;
+use modes::mode::{DeltaAtom, IndexMode, mode};
+use named_joins::joins::joins_atom;
 
 fn say_mode(m: IndexMode) {
     match m {

@@ -4,11 +4,11 @@ use super::costs::say_cost;
 use super::refusals::say_refusal;
 use super::source::say_source;
 use super::words::{say, say_number};
-use passed_rows::fields::field::wide;
+use fields::field::wide;
+use gathering::beside::beside_if;
+use modes::mode::DeltaAtom;
 use planner::entry::plan;
-use printing::fitting::fit::{PLAN_MOST, Planned};
-use printing::gathering::beside::beside_if;
-use printing::modes::mode::DeltaAtom;
+use printing::below::{PLAN_MOST, Planned};
 use round_costs::rounds::{RoundCosts, round_costs};
 
 // A candidate; all ones stand for an atom that is none.

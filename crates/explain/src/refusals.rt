@@ -1,6 +1,6 @@
 // Why a text is refused, in document 01's words; and a run that names an atom.
 use super::words::{say, say_number};
-use passed_rows::fields::field::wide;
+use fields::field::wide;
 
 fn say_condition(number: u8) {
     match number {

@@ -1,9 +1,9 @@
 // Where the samples of an accepted query come from, and of a table which rows are unsampled.
 use super::table::say_passed;
 use super::words::say;
-use passed_rows::first_reading::first::{Reading, sheet_size};
-use passed_rows::frames::among::has_kinds;
-use passed_rows::reading::second::{LONG_INDEX, LONG_SHEET, read_query};
+use first_reading::first::{Reading, sheet_size};
+use frames::among::has_kinds;
+use reading::second::{LONG_INDEX, LONG_SHEET, read_query};
 
 // The rows of the table that are passed over are unsampled.
 fn say_sampler(sheet: &[u8], table: &[u8]) {

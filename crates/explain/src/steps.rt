@@ -3,11 +3,11 @@ ghost use Rattle.std.specs.Prelude.{◌<◌};
 
 use super::named::say_rows;
 use super::words::{say, say_byte, say_global, say_number, say_operand, say_variable};
+use fields::field::wide;
+use frames::frame::items_of;
 use hexadecimal::{byte_at, short_at, word_at};
-use passed_rows::fields::field::wide;
-use passed_rows::frames::frame::items_of;
-use passed_rows::kinds::table::{fixed_length, item_width};
-use printing::modes::mode::DeltaAtom;
+use kinds::table::{fixed_length, item_width};
+use modes::mode::DeltaAtom;
 
 fn say_counted(frame: &[u8], i: usize, what: &[u8]) {
     say_number(wide(byte_at(frame, i)));

@@ -1,15 +1,15 @@
 // A table text in words: how many rows it has, and which of them are passed over.
 ghost use Rattle.std.specs.Prelude.{◌<◌};
-ghost use Rattle.passed_rows.specs.Index.{Indexed};
+ghost use Rattle.reading.specs.Index.{Indexed};
 ghost use Rattle.passed_rows.specs.Stands.{RowsSheet};
 
 use super::refusals::say_refusal;
 use super::words::{say, say_number};
-use passed_rows::first_reading::first::{Reading, sheet_size};
-use passed_rows::frame_tests::tests::Text;
-use passed_rows::frames::among::has_kinds;
+use first_reading::first::{Reading, sheet_size};
+use frame_tests::tests::Text;
+use frames::among::has_kinds;
 use passed_rows::passed::is_passed;
-use passed_rows::reading::second::{LONG_INDEX, LONG_SHEET, read_indexed, read_text};
+use reading::second::{LONG_INDEX, LONG_SHEET, read_indexed, read_text};
 
 // Row n, where it is passed over.
 fn say_row(sheet: &[u8], index: &[u16], n: usize)

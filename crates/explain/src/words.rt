@@ -1,8 +1,8 @@
 // Words and numbers on standard output.
 ghost use Rattle.std.specs.Prelude.{◌<◌};
 
+use fields::field::wide;
 use hexadecimal::byte_at;
-use passed_rows::fields::field::wide;
 
 pub fn say(words: &[u8]) {
     io::write_all(1, words);

@@ -2,7 +2,7 @@
 use Prim.Native.Nat.{ℕ}
 use mathlib.Core.Path.{◌≡◌, ap, ◌∙◌}
 use mathlib.Core.List.{List}
-use Rattle.model.specs.Running.{Mode}
+use Rattle.run_answers.specs.Running.{Mode}
 use Rattle.run_answers.specs.Run.{Outcome, Result, run}
 use Rattle.run_answers.specs.Outcomes.{outcome_of, outcome_result}
 use Rattle.run_answers.specs.Outcome.{Outcome as OutcomeAs}

@@ -2,6 +2,7 @@ pub mod Plans
 pub mod Rounds
 pub mod Unpacked
 pub use Rattle.bit_patterns.specs.Answers
+pub use Rattle.bit_patterns.specs.SplitMix
 pub use Rattle.round_costs.specs.Costs
 pub use Rattle.round_costs.specs.Handed
 pub use Rattle.round_costs.specs.Planner
@@ -9,3 +10,4 @@ pub use Rattle.run_answers.specs.Atoms
 pub use Rattle.run_answers.specs.Replied
 pub use Rattle.run_answers.specs.Run
 pub use Rattle.run_answers.specs.Runs
+pub use Rattle.sqrt.specs.Sqrt

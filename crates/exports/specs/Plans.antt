@@ -1,7 +1,7 @@
 -- The planner's answer as one number.
 use Rattle.std.specs.Prelude.{ℕ, eqb}
-use Rattle.base.specs.Choose.{pick}
-use Rattle.run_answers.specs.Packed.{packed_refusal, packed_counts}
+use Rattle.sqrt.specs.Choose.{pick}
+use Rattle.packing.specs.Packed.{packed_refusal, packed_counts}
 use Rattle.round_costs.specs.Planner.{Answer}
 use Rattle.round_costs.specs.Planned.{Planned}
 use Rattle.round_costs.specs.Planned.TheVariants.{Written, Refused}

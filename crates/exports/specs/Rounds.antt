@@ -1,6 +1,6 @@
 -- The answer of a round's costs as one number.
 use Rattle.std.specs.Prelude.{ℕ, true, false}
-use Rattle.run_answers.specs.Packed.{packed_refusal, packed_choice}
+use Rattle.packing.specs.Packed.{packed_refusal, packed_choice}
 use Rattle.round_costs.specs.Costs.{Answer, Chosen, Ended, Invalid}
 
 -- the atom chosen, or that no atom is a candidate; a refusal with its text, 00 the query, 02 the table

@@ -3,13 +3,13 @@
 use Rattle.std.specs.Prelude.{ℕ, ◌<◌, ◌≡◌, refl, List}
 use Rattle.std.proofs.Math.Option.{Option}
 use Rattle.std.proofs.Common.{arith, ne_eqb}
-use Rattle.run_answers.specs.Unpacked.{TellsRefusal, TellsCounts, TellsWritten, TellsPlain}
-use Rattle.run_answers.proofs.UnpackedLaws.{refusal_told, counts_told, written_told, plain_told}
+use Rattle.packing.specs.Unpacked.{TellsRefusal, TellsCounts, TellsWritten, TellsPlain}
+use Rattle.packing.proofs.UnpackedLaws.{refusal_told, counts_told, written_told, plain_told}
 use Rattle.round_costs.specs.Planner.{Answer, plan}
 use Rattle.round_costs.specs.Costs.{Answer as RoundAnswer, Chosen, Ended, Invalid, round_costs}
 use Rattle.planner.proofs.AnswerBounds.{Within, plan_within}
 use Rattle.round_costs.proofs.Bounds.{RoundWithin, round_within}
-use Rattle.model.specs.Running.{Mode}
+use Rattle.run_answers.specs.Running.{Mode}
 use Rattle.run_answers.specs.Run.{Outcome, Refused, Ran, run, Reply, Rejected, Match, None, Exhausted, Replies}
 use Rattle.run_answers.proofs.RefusalBounds.{Within as RefusedWithin, run_within, reply_within}
 use Rattle.run_answers.specs.Runs.{packed_run}

@@ -3,19 +3,15 @@
 #![tactic(auto)]
 
 ghost use Rattle.std.specs.Prelude.{◌≡◌};
-ghost use Rattle.splitmix.specs.SplitMix.{next_state, draw_at};
+ghost use Rattle.bit_patterns.specs.SplitMix.{next_state, draw_at};
 ghost use Rattle.sqrt.specs.Sqrt.{sqrt as sqrt_of};
 ghost use Rattle.bit_patterns.specs.Answers.{selectivity_bits, settings, estimate_answer, status_of, mean_left};
 
+pub mod below;
 pub mod planning;
 pub mod rounds;
 pub mod runs;
 pub mod some;
-
-pub use planner;
-pub use round_costs::{fitting, gathering};
-pub use run_answers;
-pub use run_answers::{entries, first_reading, frame_tests, reading};
 
 // The square root, from bit pattern to bit pattern.
 pub fn rimdovek_sqrt(bits: u64) -> u64

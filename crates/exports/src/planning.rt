@@ -6,8 +6,7 @@ ghost use Rattle.exports.specs.Plans.{packed_answer, packed_planned};
 
 use packing::{counts, refusal};
 use planner::entry::plan;
-use round_costs::fitting::fit::Planned;
-use round_costs::gathering::beside::beside_if;
+use round_costs::below::{Planned, beside_if};
 
 // The answer as one number.
 fn packed(p: Planned) -> u64

@@ -5,7 +5,7 @@ ghost use Rattle.round_costs.specs.Handed.{handed_if};
 ghost use Rattle.exports.specs.Rounds.{packed_round};
 
 use packing::{choice, refusal};
-use round_costs::gathering::beside::beside_if;
+use round_costs::below::beside_if;
 use round_costs::rounds::{RoundCosts, round_costs};
 
 // The answer as one number.

@@ -5,7 +5,7 @@ ghost use Rattle.run_answers.specs.Atoms.{mode_from};
 ghost use Rattle.run_answers.specs.Runs.{packed_run};
 
 use run_answers::atoms::delta_atom;
-use run_answers::entries::run::run;
+use run_answers::below::run;
 use run_answers::runs::{matches_in, packed, tries_in};
 
 // Runs a plan over a table, with an allowance of tries and an atom named as the new one (the largest number names none), into a lent output.

@@ -3,7 +3,7 @@ ghost use Rattle.run_answers.specs.Atoms.{mode_from};
 ghost use Rattle.run_answers.specs.Replied.{TellsSome};
 
 use run_answers::atoms::delta_atom;
-use run_answers::entries::some::some_match;
+use run_answers::below::some_match;
 use run_answers::some::told;
 
 // Some match, under the named atom (the largest number names none): 0 none, 1 spent, 2 a match, whose line is written where it has room; 419 bytes always suffice.

@@ -12,8 +12,8 @@ ghost use Rattle.exports.specs.Atoms.{mode_from};
 ghost use Rattle.exports.specs.Replied.{TellsSome};
 ghost use Rattle.exports.specs.Runs.{packed_run};
 ghost use Rattle.exports.specs.Run.{tries_in, matches_in, run as run_of};
-ghost use Rattle.splitmix.specs.SplitMix.{next_state, draw_at};
-ghost use Rattle.sqrt.specs.Sqrt.{sqrt as sqrt_of};
+ghost use Rattle.exports.specs.SplitMix.{next_state, draw_at};
+ghost use Rattle.exports.specs.Sqrt.{sqrt as sqrt_of};
 ghost use Rattle.std.specs.Prelude.{◌≡◌};
 
 // The square root, from bit pattern to bit pattern.

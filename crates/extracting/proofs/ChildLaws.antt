@@ -6,21 +6,21 @@ use mathlib.Core.List.{List, [], ◌∷◌, ◌++◌, map, map-append, flat_map,
 use native.Mathlib.Omega.{arith}
 use native.Mathlib.Numerals.{add-one}
 use lib.ListN.{length, get_or}
-use Rattle.step_bytes.specs.Fields.{width}
-use Rattle.step_bytes.specs.Kinds.{kind_at, fixed_length, items_of}
-use Rattle.step_bytes.specs.Frames.{kind_of}
-use Rattle.model.specs.Atoms.{Operand, local, global, wild, local_of}
-use Rattle.model.specs.Bound.{Bound}
-use Rattle.model.specs.Lowering.{pv_is_bound, pv_mark_bound, mark_all, read_child, emit_read_children}
-use Rattle.model.specs.Premises.{numbers_below}
-use Rattle.step_bytes.specs.QueryAtoms.{operands_from}
-use Rattle.step_bytes.specs.Lookups.{operand_at}
-use Rattle.step_bytes.specs.StepFrames.{frame_of}
-use Rattle.step_bytes.specs.PlanText.{text_of, text_length}
-use Rattle.step_bytes.specs.ItemOperands.{item_operands}
-use Rattle.step_bytes.proofs.OperandLaws.{Marked, marked_none, marked_again, marked_all, next_below, operands_more}
-use Rattle.step_bytes.specs.Written.{fixed_in, PutsFrames}
-use Rattle.step_bytes.proofs.PutLaws.{written_size, frames_none, frames_then}
+use Rattle.kinds.specs.Fields.{width}
+use Rattle.kinds.specs.Kinds.{kind_at, fixed_length, items_of}
+use Rattle.frames.specs.Frames.{kind_of}
+use Rattle.output.specs.Atoms.{Operand, local, global, wild, local_of}
+use Rattle.binding.specs.Bound.{Bound}
+use Rattle.binding.specs.Lowering.{pv_is_bound, pv_mark_bound, mark_all, read_child, emit_read_children}
+use Rattle.binding.specs.Premises.{numbers_below}
+use Rattle.binding.specs.QueryAtoms.{operands_from}
+use Rattle.output.specs.Lookups.{operand_at}
+use Rattle.output.specs.StepFrames.{frame_of}
+use Rattle.output.specs.PlanText.{text_of, text_length}
+use Rattle.binding.specs.ItemOperands.{item_operands}
+use Rattle.binding.proofs.OperandLaws.{Marked, marked_none, marked_again, marked_all, next_below, operands_more}
+use Rattle.output.specs.Written.{fixed_in, PutsFrames}
+use Rattle.output.proofs.PutLaws.{written_size, frames_none, frames_then}
 use Rattle.step_bytes.specs.Begun.{Begins}
 use Rattle.step_bytes.proofs.PieceLaws.{Placed, placed_items}
 

@@ -6,15 +6,15 @@ use native.Mathlib.Omega.{arith}
 use lib.ListN.{length, get_or, take}
 use lib.Seq.{length-take-le}
 use Rattle.hexadecimal.specs.Digits.{digits_of}
-use Rattle.step_bytes.specs.Fields.{width}
-use Rattle.step_bytes.specs.Kinds.{kind_at, fixed_length, items_of}
-use Rattle.step_bytes.specs.Frames.{kind_of}
-use Rattle.model.specs.Limits.{line_end}
-use Rattle.step_bytes.specs.QueryAtoms.{atom_of_frame}
-use Rattle.step_bytes.specs.Lookups.{operand_at}
-use Rattle.step_bytes.specs.StepFrames.{tag_of, index_of, frame_of}
-use Rattle.step_bytes.specs.Written.{Puts, PutsBytes, PutsFrames}
-use Rattle.step_bytes.proofs.PutLaws.{written_size, bytes_none, bytes_then, line_put}
+use Rattle.kinds.specs.Fields.{width}
+use Rattle.kinds.specs.Kinds.{kind_at, fixed_length, items_of}
+use Rattle.frames.specs.Frames.{kind_of}
+use Rattle.output.specs.Limits.{line_end}
+use Rattle.binding.specs.QueryAtoms.{atom_of_frame}
+use Rattle.output.specs.Lookups.{operand_at}
+use Rattle.output.specs.StepFrames.{tag_of, index_of, frame_of}
+use Rattle.output.specs.Written.{Puts, PutsBytes, PutsFrames}
+use Rattle.output.proofs.PutLaws.{written_size, bytes_none, bytes_then, line_put}
 use Rattle.step_bytes.specs.Pieces.{item_bytes, items_bytes}
 use Rattle.step_bytes.specs.Begun.{behind_of, Opens}
 

@@ -1,20 +1,20 @@
 // The steps that read a Plain's children.
 ghost use Rattle.std.specs.Prelude.{◌≡◌, true, ◌+◌, ◌<◌, ◌≤◌, length, get_or};
 ghost use mathlib.Core.List.{map, flat_map};
-ghost use Rattle.model.specs.Atoms.{local_of};
-ghost use Rattle.model.specs.Lowering.{pv_is_bound, pv_mark_bound, mark_all, read_child, emit_read_children};
-ghost use Rattle.model.specs.Premises.{numbers_below};
-ghost use Rattle.step_bytes.specs.Lookups.{operand_at};
-ghost use Rattle.step_bytes.specs.StepFrames.{frame_of};
-ghost use Rattle.step_bytes.specs.ItemOperands.{item_operands};
-ghost use Rattle.step_bytes.specs.Written.{PutsFrames};
+ghost use Rattle.output.specs.Atoms.{local_of};
+ghost use Rattle.binding.specs.Lowering.{pv_is_bound, pv_mark_bound, mark_all, read_child, emit_read_children};
+ghost use Rattle.binding.specs.Premises.{numbers_below};
+ghost use Rattle.output.specs.Lookups.{operand_at};
+ghost use Rattle.output.specs.StepFrames.{frame_of};
+ghost use Rattle.binding.specs.ItemOperands.{item_operands};
+ghost use Rattle.output.specs.Written.{PutsFrames};
 
+use binding::operands::pv_mark_bound;
+use frames::frame::items_of;
 use hexadecimal::byte_at;
-use step_bytes::binding::operands::pv_mark_bound;
-use step_bytes::frames::frame::items_of;
-use step_bytes::kinds::table::{fixed_length, item_width};
+use kinds::table::{fixed_length, item_width};
+use output::parts::put_line;
 use step_bytes::operand::child_at;
-use step_bytes::output::parts::put_line;
 
 // The step of the child at byte j; what it binds is set.
 fn read_child(

@@ -1,19 +1,19 @@
 // The step that takes a collection apart, with its elements as items.
 ghost use Rattle.std.specs.Prelude.{map, ◌+◌, ◌<◌, ◌≤◌, get_or};
-ghost use Rattle.step_bytes.specs.Kinds.{fixed_length, items_of};
-ghost use Rattle.step_bytes.specs.Frames.{kind_of};
-ghost use Rattle.step_bytes.specs.QueryAtoms.{atom_of_frame};
-ghost use Rattle.step_bytes.specs.StepFrames.{frame_of};
-ghost use Rattle.step_bytes.specs.Written.{PutsBytes, PutsFrames};
+ghost use Rattle.kinds.specs.Kinds.{fixed_length, items_of};
+ghost use Rattle.frames.specs.Frames.{kind_of};
+ghost use Rattle.binding.specs.QueryAtoms.{atom_of_frame};
+ghost use Rattle.output.specs.StepFrames.{frame_of};
+ghost use Rattle.output.specs.Written.{PutsBytes, PutsFrames};
 ghost use Rattle.step_bytes.specs.Begun.{behind_of};
 ghost use Rattle.step_bytes.specs.Pieces.{items_bytes};
 
+use frames::frame::items_of;
 use hexadecimal::byte_at;
+use kinds::table::{fixed_length, item_width};
+use output::bytes::{put_end, put_first};
 use step_bytes::collection::expand_part;
-use step_bytes::frames::frame::items_of;
-use step_bytes::kinds::table::{fixed_length, item_width};
 use step_bytes::operand::item_at;
-use step_bytes::output::bytes::{put_end, put_first};
 
 // The items of a frame, each w bytes wide.
 fn put_items(frame: &[u8], w: usize, out: &mut [u8], from: usize) -> usize

@@ -3,6 +3,3 @@
 
 pub mod children;
 pub mod elements;
-
-pub use step_bytes;
-pub use step_bytes::output;

@@ -8,11 +8,11 @@ use mathlib.Core.List.Memᴰ
 use mathlib.Core.List.{List, [], ◌∷◌, Memᴰ}
 use native.Mathlib.Omega.{arith}
 use lib.ListN.{get_or}
-use Rattle.base.specs.Choose.{pick}
-use Rattle.hexadecimal.specs.Digits.{bytes_of}
+use Rattle.running.specs.Choose.{pick}
+use Rattle.running.specs.Digits.{bytes_of}
 use Rattle.running.specs.Faults.{is_atom}
 use Rattle.running.specs.First.{frames_of, first_line}
-use Rattle.model.specs.Atoms.{Atom}
+use Rattle.running.specs.Atoms.{Atom}
 use Rattle.fitting.specs.QueryAtoms.{atom_of_frame, atoms_in}
 use Rattle.fair_plans.specs.Terms.{Alike}
 

@@ -14,12 +14,12 @@ use Rattle.running.specs.Text.TheVariants.{Query, Table as TableText}
 use Rattle.running.specs.Reading.TheVariants.{Accepted}
 use Rattle.running.specs.First.{frames_of}
 use Rattle.running.specs.Second.{reading}
-use Rattle.model.proofs.Bools.{either}
-use Rattle.model.specs.Atoms.{Operand, local, global, wild, local_of, Atom, Plain, Lit, LitBind, Eq, EqGlobal, Pred, Variadic, vars_in, lits_in, is_run}
-use Rattle.model.specs.Bound.{is_in}
-use Rattle.model.specs.Scheduling.{atom_of}
-use Rattle.model.proofs.Lines.{number_in}
-use Rattle.model.specs.Matching.{InShapes, GlobalsSet, mentions_seq, any, Given}
+use Rattle.running.proofs.Bools.{either}
+use Rattle.running.specs.Atoms.{Operand, local, global, wild, local_of, Atom, Plain, Lit, LitBind, Eq, EqGlobal, Pred, Variadic, vars_in, lits_in, is_run}
+use Rattle.running.specs.Bound.{is_in}
+use Rattle.running.specs.Scheduling.{atom_of}
+use Rattle.running.proofs.Lines.{number_in}
+use Rattle.running.specs.Matching.{InShapes, GlobalsSet, mentions_seq, any, Given}
 use Rattle.running.specs.Items.{Each}
 use Rattle.running.specs.StepFrames.{OperandFits, AtomFits}
 use Rattle.fitting.specs.QueryPlans.{atoms_of, count_at}

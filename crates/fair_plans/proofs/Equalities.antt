@@ -6,11 +6,11 @@ use mathlib.Core.Bool.{true}
 use mathlib.Core.List.Memᴰ
 use mathlib.Core.List.{List, Memᴰ}
 use lib.Dec.{T}
-use Rattle.model.proofs.Bools.{true_false}
-use Rattle.model.specs.Atoms.{Atom, Plain, Lit, LitBind, Eq, EqGlobal, Pred, Variadic, deps_of, is_run}
-use Rattle.model.proofs.Scheduled.{mem_at}
-use Rattle.model.specs.Waiting.{is_eq, Unbound, unbound_eq}
-use Rattle.model.proofs.Unlowered.{never_lowered}
+use Rattle.running.proofs.Bools.{true_false}
+use Rattle.running.specs.Atoms.{Atom, Plain, Lit, LitBind, Eq, EqGlobal, Pred, Variadic, deps_of, is_run}
+use Rattle.running.proofs.Scheduled.{mem_at}
+use Rattle.running.specs.Waiting.{is_eq, Unbound, unbound_eq}
+use Rattle.running.proofs.Unlowered.{never_lowered}
 use Rattle.fitting.specs.QueryPlans.{atoms_of}
 use Rattle.fair_plans.specs.Terms.{EqualitiesLowered, Runs}
 

@@ -14,18 +14,18 @@ use Rattle.running.specs.Text.TheVariants.{Query, Plan, Table}
 use Rattle.running.specs.Reading.{Reading}
 use Rattle.running.specs.Reading.TheVariants.{Accepted, Refused}
 use Rattle.running.specs.Second.{reading}
-use Rattle.set_model.specs.Lists.{Pairs}
-use Rattle.model.proofs.ListsLaws.{pairs_map, pairs_of_map}
-use Rattle.model.specs.Atoms.{Step}
-use Rattle.model.specs.Bound.{has, blank}
-use Rattle.model.specs.Scheduling.{atom_of, schedule}
-use Rattle.model.specs.Running.{Mode, Event, runs, trace, founds, attempts}
-use Rattle.model.specs.Matching.{InShapes, GlobalsSet, Line, Counts, line, Given, Exact}
-use Rattle.model.proofs.Limited.{ran}
-use Rattle.model.proofs.Carried.{EnvHas, runs_have}
-use Rattle.model.proofs.Lines.{number_in}
-use Rattle.model.proofs.Unlowered.{run_all_lowered}
-use Rattle.model.proofs.Guarantee.{made, all_of, schedule_runnable, schedule_exact, schedule_guaranteed}
+use Rattle.running.specs.Lists.{Pairs}
+use Rattle.running.proofs.ListsLaws.{pairs_map, pairs_of_map}
+use Rattle.running.specs.Atoms.{Step}
+use Rattle.running.specs.Bound.{has, blank}
+use Rattle.running.specs.Scheduling.{atom_of, schedule}
+use Rattle.running.specs.Running.{Mode, Event, runs, trace, founds, attempts}
+use Rattle.running.specs.Matching.{InShapes, GlobalsSet, Line, Counts, line, Given, Exact}
+use Rattle.running.proofs.Limited.{ran}
+use Rattle.running.proofs.Carried.{EnvHas, runs_have}
+use Rattle.running.proofs.Lines.{number_in}
+use Rattle.running.proofs.Unlowered.{run_all_lowered}
+use Rattle.running.proofs.Guarantee.{made, all_of, schedule_runnable, schedule_exact, schedule_guaranteed}
 use Rattle.fitting.specs.QueryPlans.{atoms_of}
 use Rattle.running.specs.Tables.{table_of, line_counts, plan_steps}
 use Rattle.running.specs.Validation.{Verdict, Passed, Invalid, and_then, of_reading, shapes_from, steps_pass, validation, named_joins, validation_with}

@@ -10,12 +10,12 @@ use mathlib.Core.List.{List, [], ◌∷◌, ◌++◌, flat_map, Memᴰ}
 use native.Mathlib.Omega.{arith}
 use lib.Dec.{T, eqb}
 use borrow.Author.Tests.{eqb-false, not-true}
-use Rattle.set_model.specs.Lists.{one}
-use Rattle.model.proofs.Bools.{both, first, second}
-use Rattle.model.specs.Atoms.{Operand, local, global, wild, Atom, Plain, Lit, LitBind, Eq, EqGlobal, Pred, Variadic, Lookup, ByChildPos, Step, Join, unset, Table, global_class, is_run}
-use Rattle.model.specs.Bound.{Bound, has, add}
-use Rattle.model.specs.Lowering.{pv_is_bound, pv_mark_bound, read_child, emit_read_children, child_lookups, join_lookups, Emitted, lower_eq, lower_eq_global, lower, Lowered, done, more}
-use Rattle.model.specs.Matching.{GlobalsSet}
+use Rattle.running.specs.Lists.{one}
+use Rattle.running.proofs.Bools.{both, first, second}
+use Rattle.running.specs.Atoms.{Operand, local, global, wild, Atom, Plain, Lit, LitBind, Eq, EqGlobal, Pred, Variadic, Lookup, ByChildPos, Step, Join, unset, Table, global_class, is_run}
+use Rattle.running.specs.Bound.{Bound, has, add}
+use Rattle.running.specs.Lowering.{pv_is_bound, pv_mark_bound, read_child, emit_read_children, child_lookups, join_lookups, Emitted, lower_eq, lower_eq_global, lower, Lowered, done, more}
+use Rattle.running.specs.Matching.{GlobalsSet}
 use Rattle.running.specs.Items.{Each}
 use Rattle.running.proofs.Fitting.{each_append}
 use Rattle.running.specs.Validation.{global_of, lookup_globals, globals_of, all_given}

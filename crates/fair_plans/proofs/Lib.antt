@@ -7,10 +7,15 @@ pub mod NewRows
 pub mod PlanBack
 pub mod Unrefused
 pub use Rattle.fitting.proofs.QueryPlansLaws
+pub use Rattle.running.proofs.Alike
+pub use Rattle.running.proofs.Answered
+pub use Rattle.running.proofs.Bools
 pub use Rattle.running.proofs.DistinctRows
 pub use Rattle.running.proofs.Fitting
 pub use Rattle.running.proofs.Idempotent
 pub use Rattle.running.proofs.LeaderLaws
 pub use Rattle.running.proofs.Longest
+pub use Rattle.running.proofs.Modes
 pub use Rattle.running.proofs.PlanRead
+pub use Rattle.running.proofs.PremisesLaws
 pub use Rattle.running.proofs.RowFrames

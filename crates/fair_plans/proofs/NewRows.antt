@@ -7,17 +7,17 @@ use mathlib.Core.Option.{some}
 use mathlib.Core.List.{List}
 use native.Mathlib.Omega.{arith}
 use lib.ListN.{length}
-use Rattle.base.specs.Choose.{pick}
+use Rattle.running.specs.Choose.{pick}
 use Rattle.running.specs.Kinds.{plan}
 use Rattle.running.specs.Text.TheVariants.{Query}
 use Rattle.running.specs.Reading.TheVariants.{Accepted}
 use Rattle.running.specs.Second.{reading}
-use Rattle.model.specs.Refusing.{has_join}
-use Rattle.model.specs.Scheduling.{scans, atom_of}
-use Rattle.model.specs.Matching.{Line, IsMatch}
-use Rattle.model.proofs.Modes.{Under}
-use Rattle.model.proofs.Joins.{JoinedIn, plan_joins, joins_plan}
-use Rattle.model.proofs.Guarantee.{made, known_below, all_of}
+use Rattle.running.specs.Refusing.{has_join}
+use Rattle.running.specs.Scheduling.{scans, atom_of}
+use Rattle.running.specs.Matching.{Line, IsMatch}
+use Rattle.running.proofs.Modes.{Under}
+use Rattle.running.proofs.Joins.{JoinedIn, plan_joins, joins_plan}
+use Rattle.running.proofs.Guarantee.{made, known_below, all_of}
 use Rattle.fitting.specs.QueryPlans.{atoms_of}
 use Rattle.running.specs.Tables.{table_of, plan_steps}
 use Rattle.running.specs.Validation.{Verdict, Passed, Invalid, and_then, validation, validation_with}

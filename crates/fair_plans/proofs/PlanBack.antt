@@ -6,14 +6,14 @@ use mathlib.Core.Option.{Option}
 use mathlib.Core.List.{List, map}
 use native.Mathlib.Omega.{arith}
 use lib.ListN.{length, get_or}
-use Rattle.hexadecimal.specs.Digits.{bytes_of}
-use Rattle.hexadecimal.proofs.Bytes.{byte_back}
+use Rattle.running.specs.Digits.{bytes_of}
+use Rattle.running.proofs.Bytes.{byte_back}
 use Rattle.running.specs.First.{frames_of, first_line}
 use Rattle.running.specs.Text.TheVariants.{Query, Plan}
 use Rattle.running.specs.Reading.TheVariants.{Accepted}
 use Rattle.running.specs.Second.{reading}
 use Rattle.running.proofs.Whole.{query_within}
-use Rattle.model.specs.Atoms.{Step}
+use Rattle.running.specs.Atoms.{Step}
 use Rattle.running.specs.StepFrames.{frame_of, header_of}
 use Rattle.running.specs.PlanText.{plan_text}
 use Rattle.running.proofs.Texts.{text_first}

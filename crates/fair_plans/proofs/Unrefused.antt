@@ -7,7 +7,7 @@ use mathlib.Core.Bool.{Bool, true, false}
 use mathlib.Core.List.{List, [], ◌∷◌, Memᴰ}
 use native.Mathlib.Omega.{arith}
 use lib.ListN.{replicate}
-use Rattle.base.specs.Choose.{pick}
+use Rattle.running.specs.Choose.{pick}
 use Rattle.running.specs.Kinds.{plan, table}
 use Rattle.running.specs.Limits.{variables_most}
 use Rattle.running.specs.First.{frames_of}
@@ -15,17 +15,17 @@ use Rattle.running.specs.Text.TheVariants.{Query, Table as TableText}
 use Rattle.running.specs.Reading.{Reading}
 use Rattle.running.specs.Reading.TheVariants.{Accepted, Refused}
 use Rattle.running.specs.Second.{reading}
-use Rattle.model.proofs.Bools.{first, second}
-use Rattle.model.specs.Atoms.{Atom, Step, Row, Table, is_run}
-use Rattle.model.specs.Bound.{Bound, blank}
-use Rattle.model.proofs.BoundLaws.{has_blank}
-use Rattle.model.specs.Reading.{ready, bound_first, bound_by, picked_by}
-use Rattle.model.specs.Refusing.{runnable, all_runnable, fits, ops_by, all_fit}
-use Rattle.model.specs.Matching.{InShapes}
-use Rattle.model.specs.Scheduling.{State, Chosen, Fair, atom_of, numbers, schedule}
-use Rattle.model.proofs.Scheduled.{number_mem}
-use Rattle.model.proofs.Accepted.{plan_fits}
-use Rattle.model.proofs.Guarantee.{made, known_below, schedule_bound_first, schedule_runnable}
+use Rattle.running.proofs.Bools.{first, second}
+use Rattle.running.specs.Atoms.{Atom, Step, Row, Table, is_run}
+use Rattle.running.specs.Bound.{Bound, blank}
+use Rattle.running.proofs.BoundLaws.{has_blank}
+use Rattle.running.specs.ModelReading.{ready, bound_first, bound_by, picked_by}
+use Rattle.running.specs.Refusing.{runnable, all_runnable, fits, ops_by, all_fit}
+use Rattle.running.specs.Matching.{InShapes}
+use Rattle.running.specs.Scheduling.{State, Chosen, Fair, atom_of, numbers, schedule}
+use Rattle.running.proofs.Scheduled.{number_mem}
+use Rattle.running.proofs.Accepted.{plan_fits}
+use Rattle.running.proofs.Guarantee.{made, known_below, schedule_bound_first, schedule_runnable}
 use Rattle.running.specs.Items.{Each}
 use Rattle.fitting.specs.QueryPlans.{atoms_of}
 use Rattle.running.specs.Tables.{table_of}

@@ -7,14 +7,14 @@ use Rattle.running.specs.Kinds.{table}
 use Rattle.running.specs.First.{frames_of}
 use Rattle.running.specs.Text.TheVariants.{Table}
 use Rattle.running.specs.Second.{reading}
-use Rattle.model.specs.Atoms.{Atom, Plain, Lit, LitBind, Eq, EqGlobal, Pred, Variadic, is_run, Step}
-use Rattle.model.specs.Waiting.{is_eq, Unbound}
-use Rattle.model.specs.Bound.{has}
-use Rattle.set_model.specs.Lists.{Pairs}
-use Rattle.model.specs.Scheduling.{State, Chosen, Fair, atom_of, numbers, schedule}
-use Rattle.model.specs.Matching.{Line, Counts, Exact, SameAtoms}
-use Rattle.model.specs.Limits.{Done}
-use Rattle.model.specs.Running.{Mode, founds, attempts}
+use Rattle.running.specs.Atoms.{Atom, Plain, Lit, LitBind, Eq, EqGlobal, Pred, Variadic, is_run, Step}
+use Rattle.running.specs.Waiting.{is_eq, Unbound}
+use Rattle.running.specs.Bound.{has}
+use Rattle.running.specs.Lists.{Pairs}
+use Rattle.running.specs.Scheduling.{State, Chosen, Fair, atom_of, numbers, schedule}
+use Rattle.running.specs.Matching.{Line, Counts, Exact, SameAtoms}
+use Rattle.running.specs.ModelLimits.{Done}
+use Rattle.running.specs.Running.{Mode, founds, attempts}
 use Rattle.fitting.specs.QueryPlans.{atoms_of, count_at, text_for}
 use Rattle.fitting.specs.Planner.{plan_of}
 use Rattle.running.specs.Tables.{table_of}

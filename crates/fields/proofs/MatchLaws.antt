@@ -7,8 +7,8 @@ use native.Mathlib.Nat.{add-zero, add-suc, suc-add}
 use lib.Dec.{T, eqb, eqb→eq}
 use lib.ListN.{get_or}
 use borrow.Author.Tests.{ne_eqb}
-use Rattle.base.specs.Choose.{pick}
-use Rattle.base.proofs.TableLaws.{both_left, both_right}
+use Rattle.field_values.specs.Choose.{pick}
+use Rattle.field_values.proofs.TableLaws.{both_left, both_right}
 
 -- k is none of ns, as the last arm is given it
 abbrev pub Others : Type 0 → List ℕ → ℕ → Type 0

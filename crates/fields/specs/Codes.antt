@@ -1,6 +1,6 @@
 -- A field as one number: its code, by which the program has it, and the field back from its code.
 use Rattle.std.specs.Prelude.{ℕ, ◌+◌, ◌-◌, List, [], ◌∷◌, get_or, ltb}
-use Rattle.base.specs.Choose.{pick}
+use Rattle.field_values.specs.Choose.{pick}
 use Rattle.fields.specs.declared.field.Field.{Field}
 use Rattle.fields.specs.declared.field.Field.TheVariants.{Free, Most, Variable, Global, Literal, Atom, Bootstrap, Real, Class, Operand, Element, KeySite, ProbePath, Ends, Rest, Lookup, Row}
 

@@ -1,6 +1,6 @@
 -- The fields that frames are made of: how wide each is, and what a value of it must meet in tests 4, 5 and 6.
 use Rattle.std.specs.Prelude.{ℕ, ◌+◌, List, Bool, true, get_or, ltb, leb, eqb}
-use Rattle.base.specs.Choose.{pick}
+use Rattle.field_values.specs.Choose.{pick}
 use Rattle.hexadecimal.specs.Digits.{short_at, long_at}
 use Rattle.fields.specs.Limits.{bootstrap_most, class_most}
 use Rattle.fields.specs.declared.field.Field.{Field}

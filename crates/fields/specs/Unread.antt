@@ -1,6 +1,6 @@
 -- Which tests look at a field, and at any of some fields.
 use Rattle.std.specs.Prelude.{ℕ, ◌/◌, ◌%◌, Bool, true, false, List, [], ◌∷◌, eqb}
-use Rattle.base.specs.Choose.{pick}
+use Rattle.field_values.specs.Choose.{pick}
 use Rattle.fields.specs.declared.field.Field.{Field}
 use Rattle.fields.specs.declared.field.Field.TheVariants.{Free, Most, Variable, Global, Literal, Atom, Bootstrap, Real, Class, Operand, Element, KeySite, ProbePath, Ends, Rest, Lookup, Row}
 use Rattle.fields.specs.declared.field.Test.{Test}

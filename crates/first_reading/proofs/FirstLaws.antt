@@ -10,9 +10,9 @@ use lib.ListN.{length, get_or, take, drop, drop_of_length-le, length-drop, lengt
 use lib.Seq.{drop-cons, length-take-le, drop_at, take-add, take-nil}
 use lib.Dec.{eqb}
 use borrow.Author.Tests.{lt-ltb, le-ltb, eq-eqb, ne_eqb, eqb-true, eqb-false}
-use Rattle.base.specs.Choose.{pick}
-use Rattle.base.proofs.ChooseLaws.{pick_elim}
-use Rattle.hexadecimal.specs.Digits.{bytes_of, short_at}
+use Rattle.hex_lines.specs.Choose.{pick}
+use Rattle.hex_lines.proofs.ChooseLaws.{pick_elim}
+use Rattle.hex_lines.specs.Digits.{bytes_of, short_at}
 use Rattle.hex_lines.specs.Lines.{split, is_hex, all_digits, hex_line_in, end_of}
 use Rattle.hex_lines.specs.Decoding.{Room, Decodes}
 use Rattle.hex_lines.proofs.Cuts.{HexLine, hex_found, all_rest, end_is, cut}

@@ -1,7 +1,7 @@
 -- "Each line is tested 1 to 4 in turn; after the last line comes a plan's step count": the first reading of a query, a plan or a table.
 use Rattle.std.specs.Prelude.{ℕ, zero, suc, ◌+◌, ◌-◌, ◌*◌, ◌/◌, ◌≤◌, ◌≡◌, List, [], ◌∷◌, map, Bool, length, get_or, take, ltb, eqb}
-use Rattle.base.specs.Choose.{pick}
-use Rattle.hexadecimal.specs.Digits.{bytes_of, short_at}
+use Rattle.hex_lines.specs.Choose.{pick}
+use Rattle.hex_lines.specs.Digits.{bytes_of, short_at}
 use Rattle.hex_lines.specs.Lines.{split, is_hex, end_of}
 use Rattle.line_steps.specs.Limits.{text_most}
 use Rattle.line_steps.specs.Sheet.{frame_at, frames_in, Whole}

@@ -1,6 +1,6 @@
 -- What the first reading says where it has ended.
 use Rattle.std.specs.Prelude.{◌+◌, eqb}
-use Rattle.base.specs.Choose.{pick}
+use Rattle.hex_lines.specs.Choose.{pick}
 use Rattle.line_steps.specs.declared.stand.Stand.{Stand}
 use Rattle.first_reading.specs.declared.first.Reading.{Reading}
 use Rattle.first_reading.specs.declared.first.Reading.TheVariants.{Accepted, Refused}

@@ -2,13 +2,11 @@
 ghost use Rattle.std.specs.Prelude.{◌≡◌, ◌+◌, ◌<◌, ◌≤◌, length};
 ghost use Rattle.first_reading.specs.First.{steps_right, empty_text, sheet_size, SheetRoom, Lays, LinesLaid, FirstLaid};
 ghost use Rattle.first_reading.specs.Stands.{reading_of};
-ghost use Rattle.hexadecimal.specs.Digits.{short_at};
+ghost use Rattle.hex_lines.specs.Digits.{short_at};
 
+use hex_lines::below::short_at;
 use hex_lines::reader::{decode_next, position, reader_at};
-use hexadecimal::short_at;
-use line_steps::fields::field::wide_short;
-use line_steps::frame_tests::tests::Text;
-use line_steps::frames::frame::frame_at;
+use line_steps::below::{Text, frame_at, wide_short};
 use line_steps::stand::{Stand, after_line, at_start};
 
 // What a reading finds.

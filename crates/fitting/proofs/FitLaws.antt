@@ -12,11 +12,11 @@ use Rattle.plan_text.specs.Sheet.{frames_in}
 use Rattle.plan_text.specs.Text.TheVariants.{Query}
 use Rattle.plan_text.specs.Reading.TheVariants.{Accepted}
 use Rattle.plan_text.specs.Second.{counts_in, reading}
-use Rattle.model.specs.Atoms.{Step}
-use Rattle.model.specs.Bound.{blank}
-use Rattle.model.proofs.ListsLaws.{get_d_mem}
-use Rattle.model.proofs.TabulateLaws.{tabulate_mem}
-use Rattle.model.specs.Scheduling.{State, atom_of, numbers}
+use Rattle.plan_text.specs.Atoms.{Step}
+use Rattle.plan_text.specs.Bound.{blank}
+use Rattle.plan_text.proofs.ListsLaws.{get_d_mem}
+use Rattle.plan_text.proofs.TabulateLaws.{tabulate_mem}
+use Rattle.plan_text.specs.Scheduling.{State, atom_of, numbers}
 use Rattle.plan_text.specs.Choice.{planned, remembered}
 use Rattle.plan_text.specs.StepFrames.{frame_of, header_of}
 use Rattle.plan_text.specs.PlanText.{text_of, text_length, plan_text, plan_most}

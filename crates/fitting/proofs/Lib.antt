@@ -7,7 +7,4 @@ pub use Rattle.gathering.proofs.OrderLaws
 pub use Rattle.gathering.proofs.QueryPlansLaws
 pub use Rattle.gathering.proofs.Whole
 pub use Rattle.plan_text.proofs.ChoiceLaws
-pub use Rattle.plan_text.proofs.LentLaws
-pub use Rattle.plan_text.proofs.QueryLaws
-pub use Rattle.plan_text.proofs.ReadLaws
 pub use Rattle.plan_text.proofs.Tame

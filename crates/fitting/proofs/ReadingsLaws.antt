@@ -6,7 +6,7 @@ use mathlib.Core.Bool.{Bool, true, false}
 use mathlib.Core.Option.{Option, some}
 use mathlib.Core.List.{List, ◌++◌}
 use native.Mathlib.Omega.{arith}
-use Rattle.base.specs.Choose.{pick}
+use Rattle.plan_text.specs.Choose.{pick}
 use Rattle.plan_text.specs.Kinds.{query, table}
 use Rattle.plan_text.specs.Sheet.{frames_in}
 use Rattle.plan_text.specs.Text.TheVariants.{Query, Table}

@@ -6,8 +6,8 @@ use Rattle.plan_text.specs.First.{frames_of}
 use Rattle.plan_text.specs.Text.TheVariants.{Query}
 use Rattle.plan_text.specs.Reading.TheVariants.{Accepted}
 use Rattle.plan_text.specs.Second.{reading}
-use Rattle.model.specs.Reading.{bound_first}
-use Rattle.model.proofs.Guarantee.{schedule_bound_first}
+use Rattle.plan_text.specs.ModelReading.{bound_first}
+use Rattle.plan_text.proofs.Guarantee.{schedule_bound_first}
 use Rattle.plan_text.specs.QueryAtoms.{atoms_in}
 use Rattle.plan_text.specs.Choice.{fresh, choose, planned, remembered}
 use Rattle.plan_text.proofs.ChoiceLaws.{choose_fair}

@@ -6,9 +6,9 @@ ghost use Rattle.fitting.specs.Planner.{fitted};
 ghost use Rattle.gathering.specs.Accepts.{Accepts};
 ghost use Rattle.fitting.specs.Entry.{plan_on, planned_result};
 
-use gathering::scheduling::schedule::Scheduled;
+use gathering::below::Scheduled;
+use plan_text::below::count_steps;
 use plan_text::text::{plan_size, write_plan};
-use plan_text::writing::steps::count_steps;
 
 #[derive(Clone, Copy)]
 pub enum Planned {

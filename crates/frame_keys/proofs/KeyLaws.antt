@@ -9,7 +9,7 @@ use lib.ListN.{length, get_or, take, drop, length-drop, drop_of_length-le}
 use lib.Seq.{drop-cons, take_all}
 use lib.Dec.{eqb}
 use borrow.Author.Tests.{eq-eqb, ne_eqb}
-use Rattle.base.specs.Choose.{pick}
+use Rattle.frames.specs.Choose.{pick}
 use Rattle.frame_keys.specs.Keys.{begins}
 
 pick_false : (t : Bool) → pick t false false ≡ false

@@ -1,7 +1,5 @@
 // The keys of frames: whether a frame begins with the key of another.
 #![tactic(auto)]
 
+pub mod below;
 pub mod keys;
-
-pub use frames;
-pub use frames::{fields, kinds};

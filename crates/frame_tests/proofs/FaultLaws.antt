@@ -7,7 +7,7 @@ use native.Mathlib.Omega.{arith}
 use lib.ListN.{length, get_or}
 use lib.Dec.{eqb}
 use borrow.Author.Tests.{eq-eqb, ne_eqb, eqb-true, not-true, not-false}
-use Rattle.base.specs.Choose.{pick}
+use Rattle.frames.specs.Choose.{pick}
 use Rattle.frames.specs.Test.TheVariants.{Limits}
 use Rattle.frames.specs.Fields.{field_passes, no_counts}
 use Rattle.frames.specs.Frames.{frame_length, frame_passes}

@@ -1,6 +1,6 @@
 -- The tests 2, 3 and 4 of one frame of a query, a plan or a table.
 use Rattle.std.specs.Prelude.{ℕ, ◌+◌, List, Bool, true, false, not, length, get_or, ltb, leb, eqb}
-use Rattle.base.specs.Choose.{pick}
+use Rattle.frames.specs.Choose.{pick}
 use Rattle.frames.specs.Limits.{atoms_most, rows_most}
 use Rattle.frames.specs.Fields.{field_passes, no_counts}
 use Rattle.frames.specs.Test.TheVariants.{Limits}

@@ -3,9 +3,8 @@ ghost use Rattle.std.specs.Prelude.{◌≡◌, ◌<◌};
 ghost use Rattle.frames.specs.Kinds.{kind_at};
 ghost use Rattle.frame_tests.specs.Faults.{text_number, is_header, header_first, in_place, belongs as belongs_to, is_atom, is_row, is_counted, counted_most, counted as counted_of, has_room, frame_fault};
 
+use frames::below::{byte_at, low_byte, row};
 use frames::frame::{frame_length, limits_pass};
-use frames::kinds::table::{low_byte, row};
-use hexadecimal::byte_at;
 
 // Which of the three texts is read.
 #[derive(Clone, Copy)]

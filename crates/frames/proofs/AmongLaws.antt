@@ -4,7 +4,7 @@ use mathlib.Core.Path.{◌≡◌, refl, sym, ◌∙◌, ap}
 use mathlib.Core.Bool.{Bool, true, false}
 use mathlib.Core.List.{List}
 use lib.ListN.{length, get_or, drop}
-use Rattle.base.specs.Choose.{pick}
+use Rattle.kinds.specs.Choose.{pick}
 use Rattle.frames.specs.Among.{is_between, has_kinds}
 use Rattle.frames.specs.Sheet.{frame_at, frames_in}
 use Rattle.frames.proofs.SheetLaws.{frames_end, frames_step}

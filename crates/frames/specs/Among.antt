@@ -1,6 +1,6 @@
 -- Whether one of the frames is of some kinds.
 use Rattle.std.specs.Prelude.{ℕ, Bool, true, false, List, [], ◌∷◌, get_or, leb}
-use Rattle.base.specs.Choose.{pick}
+use Rattle.kinds.specs.Choose.{pick}
 
 abbrev pub is_between : ℕ → ℕ → ℕ → Bool
 is_between low high b = pick (leb low b) (leb b high) false

@@ -4,7 +4,7 @@ ghost use Rattle.frames.specs.Among.{is_between, has_kinds};
 ghost use Rattle.frames.specs.Sheet.{frames_in};
 
 use crate::frame::frame_at;
-use hexadecimal::byte_at;
+use kinds::below::byte_at;
 
 fn is_between(low: u8, high: u8, kind: u8) -> bool
     ensures { result ≡ is_between low high kind }

@@ -6,30 +6,30 @@ use mathlib.Core.List.{List, [], ◌∷◌, ◌++◌}
 use native.Mathlib.Omega.{arith}
 use lib.ListN.{length, get_or, take, drop, replicate, length-append, length-drop, length-replicate}
 use lib.Seq.{drop-append_seam, drop_at, get_or-append-add, get_or-drop, take-add, take-append_seam, take-append-le, take_at, length-take-le}
-use Rattle.base.proofs.Lists.{blank_at}
-use Rattle.sampled_frames.specs.Limits.{text_most}
-use Rattle.sampled_frames.specs.Sheet.{frame_at, frames_in, Whole}
-use Rattle.sampled_frames.proofs.SheetLaws.{no_frames, frames_step, frame_inside, frame_behind}
-use Rattle.sampled_frames.specs.Index.{many_slots, slots_for, Indexed, Finds}
-use Rattle.sampled_frames.proofs.BehindLaws.{found_with_behind}
-use Rattle.sampled_frames.specs.Text.TheVariants.{Query, Table}
-use Rattle.sampled_frames.specs.First.{frames_of, sheet_size, Sheet}
-use Rattle.sampled_frames.specs.Reading.{Reading}
-use Rattle.sampled_frames.specs.Reading.TheVariants.{Accepted, Refused}
-use Rattle.sampled_frames.specs.Second.{reading, query_reading}
-use Rattle.sampled_frames.specs.Rereading.{index_size}
-use Rattle.sampled_frames.proofs.QueryLaws.{query_accepted}
+use Rattle.reading.proofs.Lists.{blank_at}
+use Rattle.frame_tests.specs.Limits.{text_most}
+use Rattle.frame_tests.specs.Sheet.{frame_at, frames_in, Whole}
+use Rattle.frame_tests.proofs.SheetLaws.{no_frames, frames_step, frame_inside, frame_behind}
+use Rattle.reading.specs.Index.{many_slots, slots_for, Indexed, Finds}
+use Rattle.reading.proofs.BehindLaws.{found_with_behind}
+use Rattle.frame_tests.specs.declared.tests.Text.TheVariants.{Query, Table}
+use Rattle.first_reading.specs.First.{frames_of, sheet_size, Sheet}
+use Rattle.first_reading.specs.declared.first.Reading.{Reading}
+use Rattle.first_reading.specs.declared.first.Reading.TheVariants.{Accepted, Refused}
+use Rattle.reading.specs.Second.{reading, query_reading}
+use Rattle.reading.specs.Rereading.{index_size}
+use Rattle.reading.proofs.QueryLaws.{query_accepted}
 use Rattle.sampled_frames.proofs.Whole.{accepted}
-use Rattle.sampled_frames.specs.RowIndex.{rows_at, table_index, rows_on}
-use Rattle.sampled_frames.specs.Filling.{TableRoom, TableIndexed}
+use Rattle.buckets.specs.RowIndex.{rows_at, table_index, rows_on}
+use Rattle.row_indexing.specs.Filling.{TableRoom, TableIndexed}
 use Rattle.sampled_frames.proofs.AcceptedLaws.{rows_sheet}
 use Rattle.sampled_frames.specs.Given.{QueryKey, Given}
 use Rattle.sampled_frames.specs.Sampled.{sampled_from}
 use Rattle.sampled_frames.proofs.KeyLaws.{part_first}
-use Rattle.sampled_frames.proofs.BehindBehindLaws.{frames_of_lem, frames_behind, find_behind, rows_behind}
+use Rattle.sampled_frames.proofs.BehindLaws.{frames_of_lem, frames_behind, find_behind, rows_behind}
 use Rattle.sampled_frames.specs.Laid.{part_of, TableLaid, SampledSheet, SampledLaid}
-use Rattle.sampled_frames.specs.IndexedReading.{index_for, Lent, ReadIndexed}
-use Rattle.sampled_frames.proofs.LentLaws.{lent_for}
+use Rattle.reading.specs.IndexedReading.{index_for, Lent, ReadIndexed}
+use Rattle.reading.proofs.LentLaws.{lent_for}
 use borrow.Rule.Slice.PartMut.{post_of, put_mid}
 use Rattle.gathering.specs.Gathered.{Asks, BothLent, QueryLaid, AcceptsAs, Both, Gathers}
 

@@ -5,17 +5,17 @@ use mathlib.Core.Bool.{Bool, true, false}
 use mathlib.Core.List.{List}
 use native.Mathlib.Omega.{arith}
 use lib.ListN.{length, replicate, length-replicate}
-use Rattle.sampled_frames.specs.Sheet.{frames_in}
-use Rattle.sampled_frames.specs.Index.{Indexed}
-use Rattle.sampled_frames.specs.RowIndex.{rows_at}
+use Rattle.frame_tests.specs.Sheet.{frames_in}
+use Rattle.reading.specs.Index.{Indexed}
+use Rattle.buckets.specs.RowIndex.{rows_at}
 use Rattle.sampled_frames.specs.Asks.{asks_table}
 use Rattle.sampled_frames.specs.Given.{Keyed, Given}
 use Rattle.sampled_frames.proofs.KeyLaws.{part_whole}
-use Rattle.sampled_frames.specs.Second.{query_reading}
-use Rattle.sampled_frames.proofs.QueryLaws.{table_handed}
-use Rattle.sampled_frames.specs.First.{frames_of, Sheet}
-use Rattle.sampled_frames.specs.Reading.{Reading}
-use Rattle.sampled_frames.specs.Reading.TheVariants.{Accepted}
+use Rattle.reading.specs.Second.{query_reading}
+use Rattle.reading.proofs.QueryLaws.{table_handed}
+use Rattle.first_reading.specs.First.{frames_of, Sheet}
+use Rattle.first_reading.specs.declared.first.Reading.{Reading}
+use Rattle.first_reading.specs.declared.first.Reading.TheVariants.{Accepted}
 use Rattle.gathering.specs.Gathered.{Asks}
 
 pub keyed_alone : (s i : List ℕ) → Indexed s i → length i ≤ rows_at → Keyed s i

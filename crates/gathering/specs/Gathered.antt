@@ -1,14 +1,14 @@
 -- A query that asks for a table, and the table behind it: one sheet, one index.
 use Rattle.std.specs.Prelude.{ℕ, ◌<◌, ◌≤◌, ◌≡◌, true, List, ◌++◌, length, get_or, take}
-use Rattle.sampled_frames.specs.Sheet.{frames_in}
-use Rattle.sampled_frames.specs.Index.{Indexed}
-use Rattle.sampled_frames.specs.First.{frames_of, Sheet}
-use Rattle.sampled_frames.specs.Text.TheVariants.{Query, Table}
-use Rattle.sampled_frames.specs.Reading.{Reading}
-use Rattle.sampled_frames.specs.Reading.TheVariants.{Accepted, Refused}
-use Rattle.sampled_frames.specs.Second.{reading, query_reading}
-use Rattle.sampled_frames.specs.IndexedReading.{Blank}
-use Rattle.sampled_frames.specs.RowIndex.{rows_at, table_index}
+use Rattle.frame_tests.specs.Sheet.{frames_in}
+use Rattle.reading.specs.Index.{Indexed}
+use Rattle.first_reading.specs.First.{frames_of, Sheet}
+use Rattle.frame_tests.specs.declared.tests.Text.TheVariants.{Query, Table}
+use Rattle.first_reading.specs.declared.first.Reading.{Reading}
+use Rattle.first_reading.specs.declared.first.Reading.TheVariants.{Accepted, Refused}
+use Rattle.reading.specs.Second.{reading, query_reading}
+use Rattle.reading.specs.IndexedReading.{Blank}
+use Rattle.buckets.specs.RowIndex.{rows_at, table_index}
 use Rattle.sampled_frames.specs.Given.{Given}
 use Rattle.sampled_frames.specs.Sampled.{sampled_from}
 use Rattle.ordering.specs.Accepts.{Accepts}

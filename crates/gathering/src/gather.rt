@@ -1,12 +1,12 @@
 // A query that asks for a table, and the table behind it.
 ghost use Rattle.gathering.specs.Gathered.{Asks, BothLent, QueryLaid, Gathers};
 
-use sampled_frames::buckets::index::ROWS_AT;
-use sampled_frames::first_reading::first::{Reading, sheet_size};
-use sampled_frames::frame_tests::tests::Text;
+use buckets::index::ROWS_AT;
+use first_reading::first::{Reading, sheet_size};
+use frame_tests::tests::Text;
+use reading::second::{LONG_SHEET, read_indexed, read_query};
+use row_indexing::fill::index_table;
 use sampled_frames::lay::lay_sampled;
-use sampled_frames::reading::second::{LONG_SHEET, read_indexed, read_query};
-use sampled_frames::row_indexing::fill::index_table;
 
 // The frames of two texts.
 pub const BOTH_SHEETS: usize = 2 * LONG_SHEET;

@@ -1,6 +1,6 @@
 -- What a query is planned by: its frames, and behind them those of a table where frame 24 takes samples from it.
 use Rattle.std.specs.Prelude.{ℕ, ◌≡◌, true, List, length, get_or, take, leb}
-use Rattle.base.specs.Choose.{pick}
+use Rattle.buckets.specs.Choose.{pick}
 use Rattle.buckets.specs.Kinds.{kind_at, query}
 use Rattle.buckets.specs.Sheet.{frames_in}
 use Rattle.buckets.specs.Index.{Proper, Finds}

@@ -1,6 +1,6 @@
 -- What samples are taken from. Note 5: classes are the same when their leaders are "in runs, matches and samples"; rows passed over are "unsampled".
 use Rattle.std.specs.Prelude.{ℕ, List, map}
-use Rattle.base.specs.Choose.{pick}
+use Rattle.buckets.specs.Choose.{pick}
 use Rattle.buckets.specs.Leading.{has_leaders}
 use Rattle.buckets.specs.Rows.{row_frame}
 use Rattle.buckets.specs.Leaders.{standing}

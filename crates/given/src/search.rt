@@ -5,8 +5,8 @@ ghost use Rattle.buckets.specs.Keys.{find as find_of};
 ghost use Rattle.given.specs.Asks.{asks_table as asks_table_of};
 ghost use Rattle.given.specs.Given.{QueryKey, query_part, Keyed, Given};
 
+use buckets::below::find_where;
 use buckets::index::ROWS_AT;
-use buckets::indexing::index::find_where;
 
 // Of an index the part for the query's frames.
 fn query_part(index: &[u16]) -> &[u16]

@@ -13,9 +13,9 @@ use Rattle.fair_plans.specs.Kinds.{plan as plan_text}
 use Rattle.fair_plans.specs.Text.TheVariants.{Query}
 use Rattle.fair_plans.specs.Reading.TheVariants.{Accepted}
 use Rattle.fair_plans.specs.Second.{reading, query_reading}
-use Rattle.model.specs.Atoms.{Atom, is_run}
-use Rattle.model.specs.Matching.{InShapes}
-use Rattle.model.proofs.Alike.{alike, exact_same}
+use Rattle.fair_plans.specs.Atoms.{Atom, is_run}
+use Rattle.fair_plans.specs.Matching.{InShapes}
+use Rattle.fair_plans.proofs.Alike.{alike, exact_same}
 use Rattle.fair_plans.specs.QueryPlans.{atoms_of}
 use Rattle.fair_plans.specs.Planner.{is_handed, table_reading, plan}
 use Rattle.fair_plans.specs.Tables.{table_of}

@@ -9,10 +9,10 @@ use mathlib.Core.List.{List, Memᴰ}
 use Rattle.fair_plans.specs.Text.TheVariants.{Query}
 use Rattle.fair_plans.specs.Reading.TheVariants.{Accepted}
 use Rattle.fair_plans.specs.Second.{reading}
-use Rattle.model.specs.Refusing.{has_join}
-use Rattle.model.specs.Matching.{InShapes, Line, IsMatch}
-use Rattle.model.specs.NewRows.{UsesNew}
-use Rattle.model.proofs.Modes.{some_atom, under_uses, under_match, one_atom}
+use Rattle.fair_plans.specs.Refusing.{has_join}
+use Rattle.fair_plans.specs.Matching.{InShapes, Line, IsMatch}
+use Rattle.fair_plans.specs.NewRows.{UsesNew}
+use Rattle.fair_plans.proofs.Modes.{some_atom, under_uses, under_match, one_atom}
 use Rattle.fair_plans.specs.QueryPlans.{atoms_of}
 use Rattle.fair_plans.specs.Tables.{table_of, plan_steps}
 use Rattle.fair_plans.specs.Validation.{Passed, validation}

@@ -6,10 +6,10 @@ use Rattle.std.proofs.Common.{sym, ◌∙◌, ap, subst, arith}
 use Rattle.fair_plans.specs.Text.TheVariants.{Query}
 use Rattle.fair_plans.specs.Reading.TheVariants.{Accepted}
 use Rattle.fair_plans.specs.Second.{reading}
-use Rattle.model.specs.Running.{Mode, Env, Event, runs, trace, attempts}
-use Rattle.model.specs.Matching.{InShapes, Line, line, IsMatch, Exact}
-use Rattle.model.specs.Limits.{Answer, SomeMatch, NoMatch, OutOfTries, Answers}
-use Rattle.model.proofs.Answered.{none_to, none_back, some_is}
+use Rattle.fair_plans.specs.Running.{Mode, Env, Event, runs, trace, attempts}
+use Rattle.fair_plans.specs.Matching.{InShapes, Line, line, IsMatch, Exact}
+use Rattle.fair_plans.specs.Limits.{Answer, SomeMatch, NoMatch, OutOfTries, Answers}
+use Rattle.fair_plans.proofs.Answered.{none_to, none_back, some_is}
 use Rattle.fair_plans.specs.QueryPlans.{atoms_of}
 use Rattle.fair_plans.specs.Tables.{table_of}
 use Rattle.fair_plans.specs.Validation.{Passed, validation_with}

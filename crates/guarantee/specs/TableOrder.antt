@@ -3,8 +3,8 @@ use Rattle.std.specs.Prelude.{ℕ, ◌≡◌, refl}
 use Rattle.std.proofs.Math.Option.{some}
 use mathlib.Core.List.{List, [], ◌++◌, flat_map}
 use Rattle.std.specs.Float.Ieee.{of_int, of_bits, lt, mul, div, add}
-use Rattle.measure.specs.Bootstrap.{sum_from, mean, rejected, estimate_of}
-use Rattle.hex_lines.specs.Lines.{split}
+use Rattle.fair_plans.specs.Bootstrap.{sum_from, mean, rejected, estimate_of}
+use Rattle.fair_plans.specs.Lines.{split}
 use Rattle.fair_plans.specs.Fields.{field_passes}
 use Rattle.fair_plans.specs.Kinds.{kind_at}
 use Rattle.fair_plans.specs.Among.{has_kinds}
@@ -14,13 +14,13 @@ use Rattle.fair_plans.specs.Reading.TheVariants.{Accepted}
 use Rattle.fair_plans.specs.Keys.{begins, find}
 use Rattle.fair_plans.specs.Second.{query_reading}
 use Rattle.fair_plans.specs.Ascii.{ascii}
-use Rattle.model.specs.Bound.{put, has_all, blank}
-use Rattle.model.specs.Equality.{same_class, same_list}
-use Rattle.model.specs.Firsts.{is_among, firsts_from}
-use Rattle.model.specs.Tabulate.{tabulate}
-use Rattle.model.specs.Lowering.{mark_all, emit_read_children, child_lookups, lower}
-use Rattle.model.specs.Scheduling.{unlowered, eager_pass, passes_up_to, rounds_up_to, atom_of}
-use Rattle.model.specs.Cheapest.{scan, cheapest}
+use Rattle.fair_plans.specs.Bound.{put, has_all, blank}
+use Rattle.fair_plans.specs.Equality.{same_class, same_list}
+use Rattle.fair_plans.specs.Firsts.{is_among, firsts_from}
+use Rattle.fair_plans.specs.Tabulate.{tabulate}
+use Rattle.fair_plans.specs.Lowering.{mark_all, emit_read_children, child_lookups, lower}
+use Rattle.fair_plans.specs.Scheduling.{unlowered, eager_pass, passes_up_to, rounds_up_to, atom_of}
+use Rattle.fair_plans.specs.Cheapest.{scan, cheapest}
 use Rattle.fair_plans.specs.Items.{items_at}
 use Rattle.fair_plans.specs.Rows.{row_of, rows_in}
 use Rattle.fair_plans.specs.Leaders.{led_rows, standing}

@@ -6,7 +6,7 @@ use mathlib.Core.List.{List, Perm}
 use Rattle.fair_plans.specs.Text.TheVariants.{Query}
 use Rattle.fair_plans.specs.Reading.TheVariants.{Accepted}
 use Rattle.fair_plans.specs.Second.{reading}
-use Rattle.model.specs.Matching.{InShapes}
+use Rattle.fair_plans.specs.Matching.{InShapes}
 use Rattle.fair_plans.specs.QueryPlans.{atoms_of}
 use Rattle.fair_plans.specs.Tables.{table_of}
 use Rattle.fair_plans.specs.Validation.{Passed, validation}

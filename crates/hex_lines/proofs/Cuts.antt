@@ -8,7 +8,7 @@ use native.Mathlib.Nat.{add-zero, add-suc, suc-add}
 use lib.ListN.{length, take, drop, length-drop}
 use lib.Seq.{drop-drop}
 use lib.Dec.{eqb}
-use Rattle.base.specs.Choose.{pick}
+use Rattle.hexadecimal.specs.Choose.{pick}
 use Rattle.hex_lines.specs.Lines.{Split, with_line, with_byte, split, is_hex, hex_line_in, hex_line_of, end_of}
 use Rattle.hex_lines.specs.declared.decode.Found.TheVariants.{At, Nothing}
 

@@ -11,7 +11,7 @@ use lib.Dec.{eqb}
 use borrow.Author.Tests.{ne_eqb, eqb-true}
 use mir.Val.{Fits}
 use mir.Syntax.{w64}
-use Rattle.base.specs.Choose.{pick}
+use Rattle.hexadecimal.specs.Choose.{pick}
 use Rattle.hex_lines.specs.declared.decode.Found.{Found}
 use Rattle.hex_lines.specs.declared.decode.Found.TheVariants.{At, Nothing}
 use Rattle.hexadecimal.specs.Digits.{digit_value, bytes_of}

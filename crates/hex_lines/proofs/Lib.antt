@@ -3,3 +3,4 @@ pub mod ScanLaws
 pub mod Case
 pub mod Cuts
 pub mod Scan
+pub use Rattle.hexadecimal.proofs.ChooseLaws

@@ -8,7 +8,7 @@ use native.Mathlib.Nat.{add-zero, add-suc, suc-add}
 use lib.ListN.{length}
 use lib.Dec.{eqb}
 use borrow.Author.Tests.{eqb-true}
-use Rattle.base.specs.Choose.{pick}
+use Rattle.hexadecimal.specs.Choose.{pick}
 use Rattle.hexadecimal.specs.Digits.{digit_value}
 use Rattle.hex_lines.specs.Lines.{with_byte, split, all_digits, hex_line_in, hex_line_of, stopped_at}
 use Rattle.hex_lines.specs.declared.decode.Found.{Found}

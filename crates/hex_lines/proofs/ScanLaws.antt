@@ -9,7 +9,7 @@ use lib.ListN.{length, get_or, take, drop, drop_of_length-le}
 use lib.Seq.{drop-cons, take-nil}
 use lib.Dec.{eqb}
 use borrow.Author.Tests.{eq-eqb, ne_eqb}
-use Rattle.base.specs.Choose.{pick}
+use Rattle.hexadecimal.specs.Choose.{pick}
 use Rattle.hex_lines.specs.declared.decode.Found.{Found}
 use Rattle.hex_lines.specs.declared.decode.Found.TheVariants.{Nothing}
 use Rattle.hexadecimal.specs.Digits.{digit_value}

@@ -9,7 +9,7 @@ use lib.ListN.{length, get_or, take, drop, set, length-set}
 use lib.Seq.{get_or-set_same, get_or-set_other}
 use lib.Dec.{leb, eqb}
 use borrow.Author.Tests.{eq-eqb, ne_eqb, eqb-true, eqb-false, leb-true, leb-false}
-use Rattle.base.specs.Choose.{pick}
+use Rattle.frame_keys.specs.Choose.{pick}
 use Rattle.frame_keys.specs.Sheet.{frame_at}
 use Rattle.frame_keys.specs.Kinds.{kind_at}
 use Rattle.frame_keys.specs.Frames.{kind_of, frame_length}

@@ -7,7 +7,7 @@ use native.Mathlib.Omega.{arith}
 use lib.ListN.{length, get_or, take, drop, get_or-eq_default}
 use lib.Dec.{leb, ltb, eqb}
 use borrow.Author.Tests.{eq-eqb, ne_eqb, eqb-true, le-leb, not-true, not-false}
-use Rattle.base.specs.Choose.{pick}
+use Rattle.frame_keys.specs.Choose.{pick}
 use Rattle.frame_keys.specs.Sheet.{frame_at, frames_in}
 use Rattle.frame_keys.specs.Frames.{frame_length}
 use Rattle.frame_keys.specs.Kinds.{kind_at}

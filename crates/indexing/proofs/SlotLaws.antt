@@ -10,9 +10,9 @@ use lib.ListN.{length, get_or, take, drop, drop_of_length-le}
 use lib.Seq.{drop-cons, get_or-take, length-take-le, take_all, take-length, take-nil, take-take}
 use lib.Dec.{T, eqb, leb, ltb, leb→le}
 use borrow.Author.Tests.{lt-ltb, le-ltb, eq-eqb, ne_eqb, le-leb, lt-leb, eqb-true, leb-true, leb-false, ltb-false}
-use Rattle.base.specs.Choose.{pick}
-use Rattle.base.proofs.ChooseLaws.{pick_elim}
-use Rattle.base.specs.Table.{all}
+use Rattle.frame_keys.specs.Choose.{pick}
+use Rattle.frame_keys.proofs.ChooseLaws.{pick_elim}
+use Rattle.frame_keys.specs.Table.{all}
 use Rattle.frame_keys.specs.Kinds.{Kind, kinds, kind_at, fixed_length}
 use Rattle.frame_keys.specs.Frames.{kind_of, frame_length}
 use Rattle.frame_keys.proofs.MatchLaws.{covers}

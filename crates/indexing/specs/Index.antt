@@ -2,7 +2,7 @@
 -- Its first numbers are the slots, each with the number of its latest entry, 0 where it has none. An entry, from number 1 on, has two numbers
 -- behind the slots: where its frame begins, and the number of the entry before it in its slot. A short index has few slots.
 use Rattle.std.specs.Prelude.{ℕ, zero, suc, ◌+◌, ◌*◌, ◌%◌, ◌<◌, ◌≤◌, ◌≡◌, Bool, false, List, [], ◌∷◌, length, get_or, take, drop, set, leb, ltb, eqb}
-use Rattle.base.specs.Choose.{pick}
+use Rattle.frame_keys.specs.Choose.{pick}
 use Rattle.frame_keys.specs.Sheet.{frame_at, frames_in}
 use Rattle.frame_keys.specs.Kinds.{kind_at}
 use Rattle.frame_keys.specs.Frames.{kind_of, frame_length}

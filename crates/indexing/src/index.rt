@@ -1,15 +1,13 @@
 // An index of a sheet's keyed frames: one list of entries a slot, by the first bytes of a frame's key.
 ghost use Rattle.std.specs.Prelude.{◌≡◌, ◌%◌, ◌<◌, ◌≤◌, length, get_or, ltb, eqb};
-ghost use Rattle.base.specs.Choose.{pick};
+ghost use Rattle.frame_keys.specs.Choose.{pick};
 ghost use Rattle.frame_keys.specs.Sheet.{frames_in};
 ghost use Rattle.frame_keys.specs.Frames.{kind_of};
 ghost use Rattle.frame_keys.specs.Keys.{find as find_of};
 ghost use Rattle.indexing.specs.Index.{slots_for, hashed as hashed_of, hash_of, found, given_by, noted, entries_with, Falling, Proper, Indexed, Finds, Noting};
 
-use frame_keys::fields::field::wide;
-use frame_keys::frames::frame::frame_at;
+use frame_keys::below::{frame_at, key_length, wide};
 use frame_keys::keys::begins_at;
-use frame_keys::kinds::table::key_length;
 
 // How many of a key's first bytes count.
 fn hashed(kind: u8) -> usize

@@ -1,7 +1,5 @@
 // Frames found by their keys: an index of a sheet.
 #![tactic(auto)]
 
+pub mod below;
 pub mod index;
-
-pub use frame_keys;
-pub use frame_keys::{frames, kinds};

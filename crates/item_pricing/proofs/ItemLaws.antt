@@ -10,11 +10,11 @@ use borrow.Author.Tests.{not-true, not-false}
 use Rattle.measure.specs.Selectivity.{path_selectivity}
 use Rattle.measure.specs.declared.FanOut.{FanOut}
 use Rattle.measure.specs.declared.FanOut.TheVariants.{Unmeasured}
-use Rattle.samples.specs.Statistics.{denominator}
-use Rattle.samples.specs.Sampled.{Sampled}
+use Rattle.query.specs.Statistics.{denominator}
+use Rattle.query.specs.declared.statistics.Sampled.{Sampled}
 use Rattle.samples.specs.Emitters.{Emitters}
 use Rattle.samples.specs.Memo.{tally_at}
-use Rattle.samples.specs.Lookups.{operand_at}
+use Rattle.query.specs.Lookups.{operand_at}
 use Rattle.samples.specs.Costs.{sampled, or_measured}
 use Rattle.item_pricing.specs.ItemCosts.{item_probe, item_cost, cost_behind, Stands, cost_at}
 use Rattle.prices.specs.Items.{item_fan, or_fan}

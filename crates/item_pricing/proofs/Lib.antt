@@ -1,9 +1,4 @@
 pub mod ProbeLaws
 pub mod ItemLaws
-pub use Rattle.prices.proofs.AtomLaws
-pub use Rattle.prices.proofs.OperandLaws
-pub use Rattle.prices.proofs.PriceLaws
-pub use Rattle.samples.proofs.AtomFrames
 pub use Rattle.samples.proofs.OwnLaws
-pub use Rattle.samples.proofs.QueryPlansLaws
 pub use Rattle.samples.proofs.Remembered

@@ -1,14 +1,14 @@
 -- The cost of the items of an atom's frame, children of a Plain or elements of a collection, in one definition.
 use Rattle.std.specs.Prelude.{ℕ, suc, ◌≡◌, Bool, true, false, List, [], ◌∷◌, ltb, get_or, Float}
-use Rattle.base.specs.Choose.{pick}
-use Rattle.samples.specs.Statistics.{denominator}
-use Rattle.samples.specs.Sampled.{Sampled}
-use Rattle.model.specs.Atoms.{Operand}
-use Rattle.model.specs.Bound.{Bound}
-use Rattle.model.specs.Lowering.{pv_is_bound}
+use Rattle.fields.specs.Choose.{pick}
+use Rattle.query.specs.Statistics.{denominator}
+use Rattle.query.specs.declared.statistics.Sampled.{Sampled}
+use Rattle.query.specs.Atoms.{Operand}
+use Rattle.query.specs.Bound.{Bound}
+use Rattle.query.specs.Lowering.{pv_is_bound}
 use Rattle.samples.specs.Emitters.{Emitters}
 use Rattle.samples.specs.Memo.{tally_at}
-use Rattle.samples.specs.Lookups.{operand_at}
+use Rattle.query.specs.Lookups.{operand_at}
 use Rattle.samples.specs.Costs.{Costed as Cost, sampled, or_measured, times}
 use Rattle.prices.specs.ItemOperands.{item_operands}
 use Rattle.samples.specs.declared.sampled.Probe.{Probe}

@@ -1,23 +1,2 @@
 pub mod ItemCosts
-pub use Rattle.prices.specs.AtomLines
-pub use Rattle.prices.specs.ItemOperands
-pub use Rattle.prices.specs.Items
-pub use Rattle.prices.specs.Prices
-pub use Rattle.prices.specs.declared.items.Item
-pub use Rattle.prices.specs.declared.items.Items as PricesItems
-pub use Rattle.samples.specs.CostSampling
-pub use Rattle.samples.specs.Costs
-pub use Rattle.samples.specs.Emitters
-pub use Rattle.samples.specs.Faults
-pub use Rattle.samples.specs.Given
-pub use Rattle.samples.specs.Kinds
-pub use Rattle.samples.specs.Memo
-pub use Rattle.samples.specs.PlanText
-pub use Rattle.samples.specs.QueryAtoms
-pub use Rattle.samples.specs.QueryPlans
 pub use Rattle.samples.specs.Remembering
-pub use Rattle.samples.specs.Sampled
-pub use Rattle.samples.specs.Sampling
-pub use Rattle.samples.specs.Sheet
-pub use Rattle.samples.specs.Statistics
-pub use Rattle.samples.specs.StepFrames

@@ -1,20 +1,20 @@
 // The items of an atom's frame that are bound, each by its sample, else by its price.
 ghost use Rattle.std.specs.Prelude.{◌≡◌, map, ◌+◌, ◌*◌, ◌<◌, ◌≤◌, length};
-ghost use Rattle.samples.specs.Sheet.{frames_in};
-ghost use Rattle.samples.specs.Given.{Given};
+ghost use Rattle.query.specs.Sheet.{frames_in};
+ghost use Rattle.query.specs.Given.{Given};
 ghost use Rattle.measure.specs.Selectivity.{path_selectivity};
-ghost use Rattle.samples.specs.Statistics.{denominator as denominator_of};
+ghost use Rattle.query.specs.Statistics.{denominator as denominator_of};
 ghost use Rattle.samples.specs.Emitters.{decode};
 ghost use Rattle.samples.specs.Remembering.{Samples, Remembers};
 ghost use Rattle.prices.specs.Items.{item_fan, or_fan};
 ghost use Rattle.prices.specs.Prices.{ItemPriced};
 ghost use Rattle.item_pricing.specs.ItemCosts.{item_probe, cost_behind, Stands, cost_at};
 
+use fields::field::wide;
 use measure::{FanOut, path_selectivity};
 use prices::items::Item;
-use samples::cost::memo::Sampling;
-use samples::fields::field::wide;
-use samples::query::statistics::denominator;
+use query::statistics::denominator;
+use samples::below::Sampling;
 use samples::sampled::{Probe, sampled};
 
 // A cost, and what is remembered behind it.

@@ -2,7 +2,3 @@
 #![tactic(auto)]
 
 pub mod items;
-
-pub use prices;
-pub use prices::{binding, lowering};
-pub use samples::{cost, memo_entries};

@@ -10,20 +10,20 @@ use lib.ListN.{length, get_or, take}
 use lib.Seq.{take_all}
 use borrow.Author.Tests.{not-true, not-false}
 use Rattle.hexadecimal.specs.Digits.{digits_of}
-use Rattle.step_bytes.specs.Fields.{width}
-use Rattle.step_bytes.specs.Kinds.{kinds, kind_at, fixed_length, items_of}
-use Rattle.step_bytes.specs.Frames.{kind_of}
-use Rattle.model.specs.Atoms.{Operand, Lookup}
-use Rattle.model.specs.Bound.{Bound}
-use Rattle.set_model.specs.Lists.{one}
-use Rattle.model.specs.Lowering.{pv_is_bound, child_lookups, contains_lookups}
-use Rattle.step_bytes.specs.QueryAtoms.{operands_from}
-use Rattle.step_bytes.specs.Lookups.{operand_at}
-use Rattle.step_bytes.specs.StepFrames.{lookup_bytes}
-use Rattle.step_bytes.proofs.StepsRead.{lookup_wide}
-use Rattle.step_bytes.proofs.OperandLaws.{operands_more}
-use Rattle.step_bytes.specs.Written.{PutsBytes}
-use Rattle.step_bytes.proofs.PutLaws.{written_size, bytes_none, bytes_then}
+use Rattle.kinds.specs.Fields.{width}
+use Rattle.kinds.specs.Kinds.{kinds, kind_at, fixed_length, items_of}
+use Rattle.frames.specs.Frames.{kind_of}
+use Rattle.output.specs.Atoms.{Operand, Lookup}
+use Rattle.binding.specs.Bound.{Bound}
+use Rattle.output.specs.Lists.{one}
+use Rattle.binding.specs.Lowering.{pv_is_bound, child_lookups, contains_lookups}
+use Rattle.binding.specs.QueryAtoms.{operands_from}
+use Rattle.output.specs.Lookups.{operand_at}
+use Rattle.output.specs.StepFrames.{lookup_bytes}
+use Rattle.output.proofs.StepsRead.{lookup_wide}
+use Rattle.binding.proofs.OperandLaws.{operands_more}
+use Rattle.output.specs.Written.{PutsBytes}
+use Rattle.output.proofs.PutLaws.{written_size, bytes_none, bytes_then}
 use Rattle.step_bytes.specs.Pieces.{lookups_of, lookup_for}
 use Rattle.step_bytes.proofs.PieceLaws.{Placed, placed_items}
 use Rattle.join_lookups.specs.OperandLookups.{operand_lookups}

@@ -1,8 +1,8 @@
 -- The lookups of an atom by its operands that are bound.
 use Rattle.std.specs.Prelude.{ℕ, List, get_or, eqb}
-use Rattle.model.specs.Atoms.{Lookup}
-use Rattle.model.specs.Bound.{Bound}
-use Rattle.step_bytes.specs.ItemOperands.{item_operands}
+use Rattle.output.specs.Atoms.{Lookup}
+use Rattle.binding.specs.Bound.{Bound}
+use Rattle.binding.specs.ItemOperands.{item_operands}
 use Rattle.step_bytes.specs.Pieces.{lookups_of}
 
 -- the lookups by its operands that are bound: those of a Plain by their positions

@@ -2,6 +2,3 @@
 #![tactic(auto)]
 
 pub mod operands;
-
-pub use step_bytes;
-pub use step_bytes::{binding, kinds, output};

@@ -1,18 +1,18 @@
 // The lookups of a Join by the operands that are bound.
 ghost use Rattle.std.specs.Prelude.{◌≡◌, ◌+◌, ◌<◌, ◌≤◌, length};
 ghost use mathlib.Core.List.{flat_map};
-ghost use Rattle.step_bytes.specs.Kinds.{items_of};
-ghost use Rattle.step_bytes.specs.Frames.{kind_of};
-ghost use Rattle.step_bytes.specs.StepFrames.{lookup_bytes};
-ghost use Rattle.step_bytes.specs.Written.{PutsBytes};
+ghost use Rattle.kinds.specs.Kinds.{items_of};
+ghost use Rattle.frames.specs.Frames.{kind_of};
+ghost use Rattle.output.specs.StepFrames.{lookup_bytes};
+ghost use Rattle.output.specs.Written.{PutsBytes};
 ghost use Rattle.join_lookups.specs.OperandLookups.{operand_lookups};
 
+use binding::operands::pv_is_bound;
+use frames::frame::items_of;
 use hexadecimal::byte_at;
-use step_bytes::binding::operands::pv_is_bound;
-use step_bytes::frames::frame::items_of;
-use step_bytes::kinds::table::{fixed_length, item_width};
+use kinds::table::{fixed_length, item_width};
+use output::bytes::put_first;
 use step_bytes::operand::lookup_at;
-use step_bytes::output::bytes::put_first;
 
 // How many operands are bound.
 pub fn count_bound(frame: &[u8], bound: &[bool]) -> u8

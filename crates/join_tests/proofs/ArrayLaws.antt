@@ -7,9 +7,9 @@ use lib.Dec.{eqb, leb}
 use lib.ListN.{length, get_or, get_or-eq_default, get_or-map}
 use native.Mathlib.Omega.{arith}
 use borrow.Author.Tests.{eq-eqb, ne_eqb}
-use Rattle.base.proofs.Lists.{any_default}
-use Rattle.model.specs.Atoms.{unset}
-use Rattle.model.specs.Bound.{has}
+use Rattle.fields.proofs.Lists.{any_default}
+use Rattle.records.specs.Atoms.{unset}
+use Rattle.records.specs.Bound.{has}
 use Rattle.join_tests.specs.Arrays.{is_bound, is_picked, bound_in, picked_in, ops_in, given, reach_fits}
 
 -- ---- a variable's mark

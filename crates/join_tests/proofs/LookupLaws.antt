@@ -6,8 +6,8 @@ use mathlib.Core.List.{List, [], ◌∷◌}
 use native.Mathlib.Omega.{arith}
 use lib.ListN.{get_or}
 use borrow.Author.Tests.{eq-eqb, ne_eqb, lt-ltb, le-ltb, not-true, not-false}
-use Rattle.model.specs.Atoms.{Operand, local, global, wild, Lookup, ByOp, ByChildPos, ByRepr, ByContains}
-use Rattle.model.specs.Bound.{Bound, has}
+use Rattle.records.specs.Atoms.{Operand, local, global, wild, Lookup, ByOp, ByChildPos, ByRepr, ByContains}
+use Rattle.records.specs.Bound.{Bound, has}
 use Rattle.records.specs.Items.{items_at}
 use Rattle.records.specs.Lookups.{operand_at, lookup_at}
 use Rattle.join_tests.specs.Arrays.{given, reach_fits}

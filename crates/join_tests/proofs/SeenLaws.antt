@@ -7,11 +7,11 @@ use native.Mathlib.Omega.{arith}
 use native.Mathlib.Decide.{dec_lt}
 use lib.Dec.{eqb, leb}
 use borrow.Author.Tests.{ne_eqb, lt-ltb, le-ltb, le-leb, lt-leb}
-use Rattle.base.specs.Choose.{pick}
-use Rattle.model.specs.Atoms.{Operand, local, global, wild, local_of, Lookup, ByOp, ByChildPos, ByRepr, ByContains}
-use Rattle.model.specs.Bound.{Bound, has, has_all}
-use Rattle.model.specs.Reading.{lookup_reads, is_repr, named_by_repr}
-use Rattle.model.specs.Refusing.{count_ops, join_op}
+use Rattle.hexadecimal.specs.Choose.{pick}
+use Rattle.records.specs.Atoms.{Operand, local, global, wild, local_of, Lookup, ByOp, ByChildPos, ByRepr, ByContains}
+use Rattle.records.specs.Bound.{Bound, has, has_all}
+use Rattle.records.specs.Reading.{lookup_reads, is_repr, named_by_repr}
+use Rattle.records.specs.Refusing.{count_ops, join_op}
 use Rattle.join_tests.specs.Arrays.{fits_shape, reach_of}
 use Rattle.join_tests.specs.Lookups.{op_seen, operand_seen, larger, lookup_seen, none_seen, seen_from, seen_in}
 use Rattle.join_tests.specs.declared.seen.Seen.{Seen}

@@ -1,9 +1,9 @@
 -- Numbers for each variable, operator and global: M marks of variables, F shapes of operators, G classes of globals.
 use Rattle.std.specs.Prelude.{ℕ, ◌+◌, ◌-◌, ◌≡◌, Bool, true, not, List, map, length, get_or, eqb, leb, ltb}
-use Rattle.base.specs.Choose.{pick}
-use Rattle.model.specs.Atoms.{Row, Node, Literal, unset}
-use Rattle.model.specs.Bound.{Bound}
-use Rattle.model.specs.Refusing.{all_rows}
+use Rattle.hexadecimal.specs.Choose.{pick}
+use Rattle.records.specs.Atoms.{Row, Node, Literal, unset}
+use Rattle.records.specs.Bound.{Bound}
+use Rattle.records.specs.Refusing.{all_rows}
 
 -- a variable's mark: 0 unbound, 1 bound, 2 and the operator where a Join picked its row
 abbrev pub is_bound : ℕ → Bool

@@ -1,8 +1,8 @@
 -- What the lookups of a Join ask, seen one after the other: B bound, G the classes of globals, v the Join's target.
 use Rattle.std.specs.Prelude.{ℕ, ◌+◌, true, not, ◌&&◌, ◌||◌, List, [], ◌∷◌, get_or, eqb, ltb}
-use Rattle.base.specs.Choose.{pick}
-use Rattle.model.specs.Atoms.{Operand, local, global, wild, Lookup, ByOp, ByChildPos, ByRepr, ByContains}
-use Rattle.model.specs.Bound.{Bound, has}
+use Rattle.hexadecimal.specs.Choose.{pick}
+use Rattle.records.specs.Atoms.{Operand, local, global, wild, Lookup, ByOp, ByChildPos, ByRepr, ByContains}
+use Rattle.records.specs.Bound.{Bound, has}
 use Rattle.records.specs.Lookups.{lookups_of}
 use Rattle.join_tests.specs.Arrays.{given, reach_fits, reach_of}
 use Rattle.join_tests.specs.declared.seen.Seen.{Seen}

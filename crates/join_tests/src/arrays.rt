@@ -1,9 +1,9 @@
 // What the arrays say: a variable's mark, the shape of an operator, whether a global has a class.
 ghost use Rattle.std.specs.Prelude.{◌≡◌, get_or};
-ghost use Rattle.model.specs.Bound.{has};
+ghost use Rattle.records.specs.Bound.{has};
 ghost use Rattle.join_tests.specs.Arrays.{bound_in, given, reach_fits};
 
-use records::fields::field::wide;
+use fields::field::wide;
 
 // 0 unbound, 1 bound, 2 and the operator where a Join picked its row.
 pub fn mark_at(marks: &[u16], v: u8) -> u16

@@ -5,7 +5,7 @@ ghost use Rattle.join_tests.specs.Lookups.{seen_fault, join_tested};
 
 use super::arrays::reach_fits;
 use super::seen::{Seen, lookups_seen};
-use records::fields::field::wide;
+use fields::field::wide;
 
 // A fault's number, or 0; and the operator of a Join's ByOp.
 #[derive(Clone, Copy)]

@@ -4,5 +4,3 @@
 pub mod arrays;
 pub mod joins;
 pub mod seen;
-
-pub use records::{fields, frame_tests, frames, indexing};

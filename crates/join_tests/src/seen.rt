@@ -5,8 +5,8 @@ ghost use Rattle.join_tests.specs.Arrays.{bound_in};
 ghost use Rattle.join_tests.specs.Lookups.{op_seen, repr_seen, operand_seen, position_seen, lookup_seen, none_seen, seen_in};
 
 use super::arrays::{is_bound, is_given};
+use fields::field::wide;
 use hexadecimal::byte_at;
-use records::fields::field::wide;
 
 // What the lookups ask.
 #[derive(Clone, Copy)]

@@ -5,17 +5,17 @@ use mathlib.Core.Bool.{Bool, true, false}
 use mathlib.Core.List.{List, [], ◌∷◌, flat_map}
 use native.Mathlib.Omega.{arith}
 use lib.ListN.{length, get_or, take}
-use Rattle.join_lookups.specs.Fields.{width}
-use Rattle.join_lookups.specs.Kinds.{kinds, kind_at, fixed_length}
-use Rattle.join_lookups.specs.Frames.{frame_length}
-use Rattle.join_lookups.specs.Sheet.{frame_at}
-use Rattle.model.specs.Atoms.{Lookup, ByOp, ByRepr, Join}
-use Rattle.model.specs.Bound.{Bound, has}
-use Rattle.model.specs.Limits.{line_end}
-use Rattle.join_lookups.specs.PlanText.{text_length}
-use Rattle.join_lookups.specs.StepFrames.{lookup_bytes, frame_of}
-use Rattle.join_lookups.specs.Written.{Puts, PutsBytes, PutsFrames, PutsStep}
-use Rattle.join_lookups.proofs.PutLaws.{bytes_then, line_put}
+use Rattle.kinds.specs.Fields.{width}
+use Rattle.kinds.specs.Kinds.{kinds, kind_at, fixed_length}
+use Rattle.output.specs.Frames.{frame_length}
+use Rattle.output.specs.Sheet.{frame_at}
+use Rattle.output.specs.Atoms.{Lookup, ByOp, ByRepr, Join}
+use Rattle.binding.specs.Bound.{Bound, has}
+use Rattle.output.specs.Limits.{line_end}
+use Rattle.output.specs.PlanText.{text_length}
+use Rattle.output.specs.StepFrames.{lookup_bytes, frame_of}
+use Rattle.output.specs.Written.{Puts, PutsBytes, PutsFrames, PutsStep}
+use Rattle.output.proofs.PutLaws.{bytes_then, line_put}
 use Rattle.join_lookups.specs.OperandLookups.{operand_lookups}
 use Rattle.joining.specs.Joins.{join_of}
 

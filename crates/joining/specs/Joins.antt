@@ -1,8 +1,8 @@
 -- The Join of an atom, by its frame and what is bound.
 use Rattle.std.specs.Prelude.{ℕ, List, get_or}
-use Rattle.model.specs.Atoms.{Step, Join}
-use Rattle.model.specs.Bound.{Bound, has}
-use Rattle.model.specs.Lowering.{join_lookups}
+use Rattle.output.specs.Atoms.{Step, Join}
+use Rattle.binding.specs.Bound.{Bound, has}
+use Rattle.binding.specs.Lowering.{join_lookups}
 use Rattle.join_lookups.specs.OperandLookups.{operand_lookups}
 
 -- as atom k

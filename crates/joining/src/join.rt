@@ -1,19 +1,19 @@
 // The Join of an atom: its lookups are chosen before its node is bound.
 ghost use Rattle.std.specs.Prelude.{◌≡◌, ◌∷◌, ◌+◌, ◌<◌, length, get_or};
-ghost use Rattle.join_lookups.specs.Kinds.{items_of};
-ghost use Rattle.join_lookups.specs.Frames.{kind_of};
-ghost use Rattle.model.specs.Atoms.{ByOp, Join};
-ghost use Rattle.join_lookups.specs.Written.{PutsStep};
+ghost use Rattle.kinds.specs.Kinds.{items_of};
+ghost use Rattle.output.specs.Frames.{kind_of};
+ghost use Rattle.output.specs.Atoms.{ByOp, Join};
+ghost use Rattle.output.specs.Written.{PutsStep};
 ghost use Rattle.join_lookups.specs.OperandLookups.{operand_lookups};
 ghost use Rattle.joining.specs.Joins.{join_of};
 
+use binding::sets::is_set;
 use hexadecimal::byte_at;
-use join_lookups::binding::sets::is_set;
-use join_lookups::kinds::table::{fixed_length, item_width};
 use join_lookups::operands::{count_bound, put_lookups};
-use join_lookups::output::bytes::{put_end, put_first};
-use join_lookups::output::parts::put_frame;
-use join_lookups::step_bytes::joins::{class_join, op_join};
+use kinds::table::{fixed_length, item_width};
+use output::bytes::{put_end, put_first};
+use output::parts::put_frame;
+use step_bytes::joins::{class_join, op_join};
 
 // By the operator, and by the operands that are bound: so many.
 fn keyed_join(frame: &[u8], k: u8, count: u8, bound: &[bool], out: &mut [u8], at: usize) -> usize

@@ -8,10 +8,10 @@ use native.Mathlib.Omega.{arith}
 use lib.Dec.{T, leb, ltb, leb→le, ltb→lt}
 use lib.ListN.{get_or, length, length-map, get_or-map, get_or-eq_default}
 use borrow.Author.Tests.{lt-ltb, le-ltb}
-use Rattle.base.specs.Choose.{pick}
-use Rattle.base.proofs.Lists.{map_at}
-use Rattle.base.proofs.TableLaws.{both_left, both_right, tabulates, entry}
-use Rattle.base.specs.Table.{all}
+use Rattle.fields.specs.Choose.{pick}
+use Rattle.fields.proofs.Lists.{map_at}
+use Rattle.fields.proofs.TableLaws.{both_left, both_right, tabulates, entry}
+use Rattle.fields.specs.Table.{all}
 use Rattle.fields.specs.declared.field.Field.{Field}
 use Rattle.fields.specs.declared.field.Field.TheVariants.{Free}
 use Rattle.fields.specs.Fields.{width}

@@ -1,7 +1,7 @@
 -- "The first byte is the kind. .. Each kind's fixed length and item width stand in one table. .. `n` counts the items after it."
 -- The table by kind: the text that a kind belongs to, how many of its leading bytes are its key, its fields, and the field of its items.
 use Rattle.std.specs.Prelude.{ℕ, ◌+◌, ◌-◌, ◌*◌, List, [], ◌∷◌, ◌++◌, get_or, replicate, eqb}
-use Rattle.base.specs.Choose.{pick}
+use Rattle.fields.specs.Choose.{pick}
 use Rattle.fields.specs.Limits.{variables_most, globals_most, literals_most, items_most, lookups_most, nodes_most, classes_most, k_most, idempotent_most}
 use Rattle.fields.specs.Fields.{width}
 use Rattle.fields.specs.declared.field.Field.{Field}

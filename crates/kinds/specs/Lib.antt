@@ -1,8 +1,10 @@
 pub mod Kinds
 pub mod Rows
+pub use Rattle.fields.specs.Choose
 pub use Rattle.fields.specs.Codes
 pub use Rattle.fields.specs.Fields
 pub use Rattle.fields.specs.Limits
+pub use Rattle.fields.specs.Table
 pub use Rattle.fields.specs.Unread
 pub use Rattle.fields.specs.declared.field.Counts
 pub use Rattle.fields.specs.declared.field.Field

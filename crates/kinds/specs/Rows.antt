@@ -1,7 +1,7 @@
 -- The table by kind as the program keeps it: a byte with the lengths, and one number with the rest but the key, a field by its code. Each is made
 -- from the table of Kinds.
 use Rattle.std.specs.Prelude.{ℕ, ◌+◌, ◌*◌, ◌/◌, ◌%◌, ◌^◌, List, [], ◌∷◌, map, get_or}
-use Rattle.base.specs.Choose.{pick}
+use Rattle.fields.specs.Choose.{pick}
 use Rattle.fields.specs.Fields.{width}
 use Rattle.kinds.specs.Kinds.{Kind, fixed_length}
 use Rattle.fields.specs.Unread.{looks_any}

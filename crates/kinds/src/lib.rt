@@ -1,6 +1,5 @@
 // The table by kind.
 #![tactic(auto)]
 
+pub mod below;
 pub mod table;
-
-pub use fields;

@@ -5,9 +5,9 @@ use mathlib.Core.List.{List, [], ◌∷◌}
 use native.Mathlib.Omega.{arith}
 use lib.ListN.{length}
 use Rattle.hexadecimal.specs.Digits.{short_at}
-use Rattle.records.specs.Kinds.{kind_at}
-use Rattle.records.specs.Index.{Proper}
-use Rattle.records.specs.Keys.{find}
+use Rattle.indexing.specs.Kinds.{kind_at}
+use Rattle.indexing.specs.Index.{Proper}
+use Rattle.indexing.specs.Keys.{find}
 use Rattle.records.specs.Leaders.{leader_from, leader_in}
 
 pub leads_itself : (l : List ℕ) (c : ℕ) → length l ≡ 0 → c ≡ leader_from l c

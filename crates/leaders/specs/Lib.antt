@@ -1,3 +1,0 @@
-pub use Rattle.records.specs.Items
-pub use Rattle.records.specs.Leaders
-pub use Rattle.records.specs.Rows

@@ -1,11 +1,11 @@
 // "Frame 34 class(2) leader(2) says so."
 ghost use Rattle.std.specs.Prelude.{◌≡◌};
-ghost use Rattle.records.specs.Sheet.{frames_in};
-ghost use Rattle.records.specs.Index.{Indexed};
+ghost use Rattle.indexing.specs.Sheet.{frames_in};
+ghost use Rattle.indexing.specs.Index.{Indexed};
 ghost use Rattle.records.specs.Leaders.{leader_from, leader_in};
 
 use hexadecimal::short_at;
-use records::indexing::index::{find_by, is_absent};
+use indexing::index::{find_by, is_absent};
 use records::shorts::{high_of, low_of};
 
 // The leader that a frame 34 gives; the class itself where there is no frame.

@@ -5,14 +5,14 @@ use mathlib.Core.Bool.{Bool, true, false}
 use mathlib.Core.Option.{some}
 use mathlib.Core.List.{List, ◌++◌}
 use lib.ListN.{take}
-use Rattle.fitting.specs.Sheet.{frames_in}
-use Rattle.fitting.specs.First.{frames_of, Sheet}
-use Rattle.fitting.specs.Text.TheVariants.{Table}
-use Rattle.fitting.specs.Reading.{Reading}
-use Rattle.fitting.specs.Reading.TheVariants.{Accepted, Refused}
-use Rattle.fitting.specs.Second.{reading, query_reading}
-use Rattle.fitting.specs.Asks.{asks_table}
-use Rattle.fitting.specs.Sampled.{sampled_from}
+use Rattle.reading.specs.Sheet.{frames_in}
+use Rattle.first_reading.specs.First.{frames_of, Sheet}
+use Rattle.first_reading.specs.Text.TheVariants.{Table}
+use Rattle.first_reading.specs.declared.first.Reading.{Reading}
+use Rattle.first_reading.specs.declared.first.Reading.TheVariants.{Accepted, Refused}
+use Rattle.reading.specs.Second.{reading, query_reading}
+use Rattle.given.specs.Asks.{asks_table}
+use Rattle.given.specs.Sampled.{sampled_from}
 use Rattle.fitting.specs.Planner.{Plan, Result, plan_with, plan_of, fitted, refused_with, plan}
 use Rattle.fitting.specs.Entry.{plan_on, planned_result}
 use Rattle.fitting.specs.declared.fit.Planned.TheVariants.{Refused as Refuses}

@@ -1,25 +1,24 @@
 // The plan of a query that is read onto a lent sheet.
 ghost use Rattle.std.specs.Prelude.{◌≡◌, true, ◌≤◌, length};
 ghost use Rattle.std.proofs.Math.Option.{some};
-ghost use Rattle.fitting.specs.First.{frames_of};
-ghost use Rattle.fitting.specs.IndexedReading.{Lent};
-ghost use Rattle.fitting.specs.RowIndex.{rows_at};
-ghost use Rattle.fitting.specs.Asks.{asks_table};
-ghost use Rattle.fitting.specs.Given.{Given};
+ghost use Rattle.first_reading.specs.First.{frames_of};
+ghost use Rattle.reading.specs.IndexedReading.{Lent};
+ghost use Rattle.buckets.specs.RowIndex.{rows_at};
+ghost use Rattle.given.specs.Asks.{asks_table};
+ghost use Rattle.given.specs.Given.{Given};
 ghost use Rattle.fitting.specs.Planner.{fitted, plan as planned};
 ghost use Rattle.fitting.specs.Accepts.{Accepts};
 ghost use Rattle.fitting.specs.Handed.{handed_if};
 ghost use Rattle.fitting.specs.Gathered.{Asks};
 ghost use Rattle.fitting.specs.Entry.{plan_on, planned_result};
 
-use fitting::buckets::index::TABLE_INDEX;
-use fitting::first_reading::first::{Reading, sheet_size};
+use buckets::index::TABLE_INDEX;
+use first_reading::first::{Reading, sheet_size};
+use fitting::below::{BOTH_SHEETS, gather, plan_order};
 use fitting::fit::{Planned, plan_in_order};
-use fitting::gathering::gather::{BOTH_SHEETS, gather};
-use fitting::given::search::asks_table;
-use fitting::ordering::order::plan_order;
-use fitting::placing::places::atom_places;
-use fitting::reading::second::{LONG_INDEX, read_query};
+use given::search::asks_table;
+use placing::places::atom_places;
+use reading::second::{LONG_INDEX, read_query};
 
 fn plan_accepted(sheet: &[u8], index: &[u16], out: &mut [u8]) -> Planned
     requires accepts { Accepts sheet.now }

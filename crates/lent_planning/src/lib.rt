@@ -2,6 +2,4 @@
 #![tactic(auto)]
 
 pub mod accepted;
-
-pub use fitting;
-pub use fitting::{gathering, reading};
+pub mod below;

@@ -1,6 +1,6 @@
 -- Where the first reading stands between two lines, and how a line moves it on or ends it.
 use Rattle.std.specs.Prelude.{ℕ, ◌+◌, ◌-◌, ◌/◌, ◌<◌, ◌≤◌, List, length, get_or, take, drop, eqb}
-use Rattle.base.specs.Choose.{pick}
+use Rattle.frame_tests.specs.Choose.{pick}
 use Rattle.frame_tests.specs.Faults.{counted, frame_fault}
 use Rattle.frame_tests.specs.declared.tests.Text.{Text}
 use Rattle.line_steps.specs.declared.stand.Stand.{Stand}

@@ -2,8 +2,8 @@
 ghost use Rattle.std.specs.Prelude.{◌≡◌, ◌+◌, length};
 ghost use Rattle.line_steps.specs.Steps.{at_start, ended_at, after_frame, after_line, Few, LineRoom};
 
+use frame_tests::below::byte_at;
 use frame_tests::tests::{Text, counted, frame_fault};
-use hexadecimal::byte_at;
 
 // Where the first reading stands: its places in the text and on the sheet, how many lines are passed and how many of them counted, where it
 // ends, and the test that the last line failed, or 0.

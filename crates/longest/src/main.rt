@@ -4,9 +4,9 @@
 
 ghost use Rattle.std.specs.Prelude.{◌≤◌, length};
 
+use entries::run::run;
 use hexadecimal::hex_digit;
-use printing::entries::run::run;
-use printing::modes::mode::DeltaAtom;
+use modes::mode::DeltaAtom;
 use printing::print_run;
 
 // Joins by operator alone, which bind a variable each and are the shortest, and those that name a bound one by ByRepr.

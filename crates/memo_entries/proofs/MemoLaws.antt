@@ -9,8 +9,8 @@ use lib.ListN.{length, get_or, set}
 use lib.Seq.{get_or-set_same, get_or-set_other}
 use native.Mathlib.Numerals.{add-one}
 use borrow.Author.Tests.{eqb-true, lt-ltb, le-ltb}
-use Rattle.base.specs.Choose.{pick}
-use Rattle.model.proofs.Bools.{first, second}
+use Rattle.measure.specs.Choose.{pick}
+use Rattle.plan_facts.proofs.Bools.{first, second}
 use Rattle.plan_facts.specs.Sampling.{same_key, is_known}
 use Rattle.plan_facts.specs.Memo.{unpack_key, entry_key, memo_at}
 use Rattle.plan_facts.proofs.Remembered.{same_self}

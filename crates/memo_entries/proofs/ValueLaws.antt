@@ -5,7 +5,7 @@ use mathlib.Core.List.{List}
 use lib.ListN.{length, get_or}
 use lib.Ieee.{Float}
 use borrow.Author.Tests.{eq-eqb, ne_eqb}
-use Rattle.base.proofs.Lists.{any_default}
+use Rattle.measure.proofs.Lists.{any_default}
 use Rattle.measure.specs.Selectivity.{zero64}
 use Rattle.measure.specs.declared.FanOut.TheVariants.{Measured, Unmeasured}
 use Rattle.plan_facts.specs.Memo.{has_value}

@@ -7,7 +7,7 @@ ghost use Rattle.plan_facts.specs.Costs.{or_measured};
 ghost use Rattle.memo_entries.specs.Remembered.{memo_value, Placed, measured_fan, entry_of, fan_value};
 
 use measure::FanOut;
-use plan_facts::cost::draws::Measurement;
+use plan_facts::below::Measurement;
 
 // The most keys: 64 atoms of 16 items.
 pub const KEYS_MOST: usize = 1024;

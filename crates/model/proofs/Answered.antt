@@ -8,8 +8,8 @@ use mathlib.Core.List.{List, [], ◌∷◌, map, Memᴰ}
 use lib.Dec.{leb, ltb}
 use lib.ListN.{length}
 use borrow.Author.Tests.{leb-true, leb-false, ltb-false}
-use Rattle.base.specs.Choose.{pick}
-use Rattle.base.proofs.ChooseLaws.{pick_elim}
+use Rattle.set_model.specs.Choose.{pick}
+use Rattle.set_model.proofs.ChooseLaws.{pick_elim}
 use Rattle.model.specs.Atoms.{Atom, Step, Table}
 use Rattle.model.specs.Running.{Mode, Env, runs, Event, attempt, found, trace, founds, attempts}
 use Rattle.model.specs.Matching.{Line, Counts, line, IsMatch, Exact}

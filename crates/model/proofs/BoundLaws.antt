@@ -6,7 +6,7 @@ use mathlib.Core.List.{List, [], ◌∷◌}
 use lib.Dec.{T, eqb}
 use native.Mathlib.Decide.{ℕ_discrete}
 use borrow.Author.Tests.{eq-eqb, ne_eqb}
-use Rattle.base.proofs.Lists.{blank_at}
+use Rattle.set_model.proofs.Lists.{blank_at}
 use Rattle.model.specs.Bound.{put, is_in, Bound, has, add, add_all, bound_most, blank}
 pub use Rattle.set_model.proofs.ListsLaws.{put_same, put_other, put_set}
 

@@ -8,7 +8,7 @@ use mathlib.Core.List.{List, [], ◌∷◌, Memᴰ}
 use lib.Dec.{T, eqb}
 use lib.ListN.{get_or}
 use native.Mathlib.Decide.{ℕ_discrete}
-use Rattle.base.specs.Choose.{pick}
+use Rattle.set_model.specs.Choose.{pick}
 use Rattle.model.proofs.ListsLaws.{from}
 use Rattle.model.proofs.Bools.{first, second}
 use Rattle.model.specs.Equality.{same_class}

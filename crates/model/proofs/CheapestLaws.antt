@@ -8,7 +8,7 @@ use mathlib.Core.Option.{Option, none, some}
 use mathlib.Core.List.Memᴰ
 use mathlib.Core.List.{List, [], ◌∷◌, Memᴰ}
 use borrow.Author.Tests.{not-true}
-use Rattle.base.specs.Choose.{pick}
+use Rattle.set_model.specs.Choose.{pick}
 use Rattle.model.proofs.Bools.{first, second}
 use Rattle.model.specs.Atoms.{Atom}
 use Rattle.model.specs.Bound.{has}

@@ -30,3 +30,4 @@ pub mod TabulateLaws
 pub mod Traces
 pub mod Unlowered
 pub mod Whole
+pub use Rattle.set_model.proofs.Lists

@@ -12,8 +12,8 @@ use native.Mathlib.Nat.{add-zero}
 use native.Mathlib.Numerals.{add-one}
 use borrow.Author.Tests.{eqb-true, eq-eqb}
 use lib.Seq.{get_or-drop, drop-drop}
-use Rattle.base.specs.Choose.{pick}
-use Rattle.base.proofs.ChooseLaws.{pick_elim}
+use Rattle.set_model.specs.Choose.{pick}
+use Rattle.set_model.proofs.ChooseLaws.{pick_elim}
 use Rattle.set_model.specs.Lists.{one, Pairs}
 use Rattle.model.proofs.ListsLaws.{pairs_left, pairs_right, pairs_map, Finds, flat, finds_iff, finds_none, flat_map_lem}
 use Rattle.model.proofs.Bools.{both, first, second, true_false}

@@ -11,7 +11,7 @@ use lib.Dec.{T, eqb}
 use lib.ListN.{length}
 use native.Mathlib.Decide.{ℕ_discrete}
 use borrow.Author.Tests.{eqb-true, eqb-false}
-use Rattle.base.specs.Choose.{pick}
+use Rattle.set_model.specs.Choose.{pick}
 use Rattle.model.proofs.ListsLaws.{get_d_mem}
 use Rattle.model.proofs.TabulateLaws.{At, mem_tabulate, tabulate_mem}
 use Rattle.model.specs.Atoms.{Atom, Plain, Lit, LitBind, Eq, EqGlobal, Pred, Variadic, Step}

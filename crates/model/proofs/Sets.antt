@@ -8,7 +8,7 @@ use mathlib.Core.Option.{Option, none, some, some-injective, some-ne-none}
 use mathlib.Core.List.Memᴰ
 use mathlib.Core.List.{List, [], ◌∷◌, ◌++◌, map, flat_map, append-nil, Memᴰ}
 use lib.ListN.{length, get_or}
-use Rattle.base.specs.Choose.{pick}
+use Rattle.set_model.specs.Choose.{pick}
 use Rattle.set_model.specs.Lists.{one as maybe, without}
 use Rattle.set_model.proofs.ListsLaws.{From as Source, from as source_of, into as into_flat, is_in_lem, in_is, without_mem}
 use Rattle.set_model.specs.Moves.{Move as Turn, offered, taken, moves as turns, ends}

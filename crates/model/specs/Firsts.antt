@@ -1,6 +1,6 @@
 -- The first of each, in a list in which some are equal. Assumes nothing.
 use Rattle.std.specs.Prelude.{Bool, false, ◌||◌, List, [], ◌∷◌, ◌++◌}
-use Rattle.base.specs.Choose.{pick}
+use Rattle.set_model.specs.Choose.{pick}
 
 module _ {A : Type 0} (same : A → A → Bool) where
   unfoldable pub is_among : A → List A → Bool

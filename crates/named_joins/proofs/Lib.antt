@@ -1,3 +1,2 @@
 pub mod NamedLaws
-pub use Rattle.modes.proofs.ModeLaws
 pub use Rattle.validation.proofs.PlanLaws

@@ -7,19 +7,19 @@ use mathlib.Core.Option.{some}
 use native.Mathlib.Omega.{arith}
 use lib.Dec.{eqb}
 use lib.ListN.{length, get_or, drop}
-use Rattle.modes.specs.Sheet.{frame_at, frames_in}
-use Rattle.modes.proofs.SheetLaws.{frames_end, frame_within, frames_step}
-use Rattle.model.specs.Atoms.{Step, Join, ExtractChild, CheckChildEq, CheckEq, CheckEqGlobal, BindGlobal, CopyBinding, Expand, ExtractLitVal, CheckLit, CheckPred, is_join}
-use Rattle.model.specs.Refusing.{is_join_of, has_join}
-use Rattle.model.specs.Running.{Mode}
-use Rattle.model.proofs.Bools.{true_false}
-use Rattle.validation.specs.StepFrames.{step_of}
-use Rattle.validation.proofs.StepsRead.{no_join}
-use Rattle.validation.specs.Tables.{steps_in}
-use Rattle.validation.specs.Validation.{Passed, Invalid, and_then, named_joins}
-use Rattle.validation.specs.Verdict.{Verdict as Answer}
-use Rattle.validation.specs.Verdict.TheVariants.{Passed as NoFault, Invalid as Fault}
-use Rattle.validation.specs.Shapes.{verdict}
+use Rattle.frames.specs.Sheet.{frame_at, frames_in}
+use Rattle.frames.proofs.SheetLaws.{frames_end, frame_within, frames_step}
+use Rattle.modes.specs.Atoms.{Step, Join, ExtractChild, CheckChildEq, CheckEq, CheckEqGlobal, BindGlobal, CopyBinding, Expand, ExtractLitVal, CheckLit, CheckPred, is_join}
+use Rattle.modes.specs.Refusing.{is_join_of, has_join}
+use Rattle.modes.specs.Running.{Mode}
+use Rattle.modes.proofs.Bools.{true_false}
+use Rattle.table_tests.specs.StepFrames.{step_of}
+use Rattle.table_tests.proofs.StepsRead.{no_join}
+use Rattle.table_tests.specs.Tables.{steps_in}
+use Rattle.table_tests.specs.Validation.{Passed, Invalid, and_then, named_joins}
+use Rattle.table_tests.specs.declared.shapes.Verdict.{Verdict as Answer}
+use Rattle.table_tests.specs.declared.shapes.Verdict.TheVariants.{Passed as NoFault, Invalid as Fault}
+use Rattle.table_tests.specs.Shapes.{verdict}
 use Rattle.validation.specs.Plans.{PlanSheet, Validated}
 use Rattle.validation.proofs.PlanLaws.{behind, header_within}
 use Rattle.named_joins.specs.NamedJoins.{ValidatedWith}

@@ -1,12 +1,12 @@
 -- All tests of a run: what the code answers. x is the plan's sheet, y the table's.
 use Rattle.std.specs.Prelude.{ℕ, ◌≡◌, List}
-use Rattle.modes.specs.Sheet.{frames_in}
-use Rattle.model.specs.Running.{Mode}
-use Rattle.validation.specs.Tables.{table_in}
-use Rattle.validation.specs.Validation.{tests_with}
-use Rattle.validation.specs.Verdict.{Verdict as Answer}
-use Rattle.validation.specs.Verdict.TheVariants.{Passed as NoFault}
-use Rattle.validation.specs.Shapes.{verdict}
+use Rattle.frames.specs.Sheet.{frames_in}
+use Rattle.modes.specs.Running.{Mode}
+use Rattle.table_tests.specs.Tables.{table_in}
+use Rattle.table_tests.specs.Validation.{tests_with}
+use Rattle.table_tests.specs.declared.shapes.Verdict.{Verdict as Answer}
+use Rattle.table_tests.specs.declared.shapes.Verdict.TheVariants.{Passed as NoFault}
+use Rattle.table_tests.specs.Shapes.{verdict}
 
 -- the verdict, and where it passes the classes of the globals
 pub record ValidatedWith (x y : List ℕ) (md : Mode) (r : Answer) (G : List ℕ) : Type 0 where

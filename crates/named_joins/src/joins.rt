@@ -1,20 +1,20 @@
 // The last of a run's tests: the atom that it names has a Join.
 ghost use Rattle.std.specs.Prelude.{◌≡◌, length};
-ghost use Rattle.modes.specs.Sheet.{frames_in};
+ghost use Rattle.frames.specs.Sheet.{frames_in};
 ghost use Rattle.modes.specs.Index.{Indexed};
-ghost use Rattle.model.specs.Refusing.{is_join_of, has_join};
+ghost use Rattle.modes.specs.Refusing.{is_join_of, has_join};
 ghost use Rattle.modes.specs.Modes.{mode_of};
-ghost use Rattle.validation.specs.StepFrames.{step_of};
-ghost use Rattle.validation.specs.Tables.{steps_in};
-ghost use Rattle.validation.specs.Validation.{and_then, named_joins};
-ghost use Rattle.validation.specs.Shapes.{verdict};
+ghost use Rattle.table_tests.specs.StepFrames.{step_of};
+ghost use Rattle.table_tests.specs.Tables.{steps_in};
+ghost use Rattle.table_tests.specs.Validation.{and_then, named_joins};
+ghost use Rattle.table_tests.specs.Shapes.{verdict};
 ghost use Rattle.validation.specs.Plans.{PlanSheet};
 ghost use Rattle.named_joins.specs.NamedJoins.{ValidatedWith};
 
+use frames::frame::frame_at;
 use hexadecimal::byte_at;
-use modes::frames::frame::frame_at;
 use modes::mode::DeltaAtom;
-use validation::table_tests::shapes::Verdict;
+use table_tests::shapes::Verdict;
 use validation::validate::validate;
 
 // Whether a frame of the plan is a Join of that atom.

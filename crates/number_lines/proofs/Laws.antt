@@ -8,7 +8,7 @@ use lib.ListN.{length, take, drop, set, length-set, length-drop}
 use lib.Seq.{take-suc-set, take_all, drop-drop}
 use lib.Dec.{ltb}
 use borrow.Author.Tests.{lt-ltb, le-ltb, ne_eqb}
-use Rattle.base.specs.Choose.{pick}
+use Rattle.hexadecimal.specs.Choose.{pick}
 use Rattle.hex_lines.specs.declared.decode.Found.{Found}
 use Rattle.hex_lines.specs.declared.decode.Found.TheVariants.{At, Nothing}
 use Rattle.hexadecimal.specs.Digits.{bytes_of, long_at}

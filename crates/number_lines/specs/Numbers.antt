@@ -1,6 +1,6 @@
 -- A number of 64 bits on a line: 16 hexadecimal digits, the highest first, and byte 0a.
 use Rattle.std.specs.Prelude.{ℕ, zero, suc, List, [], ◌∷◌, ltb, eqb, length, take, drop}
-use Rattle.base.specs.Choose.{pick}
+use Rattle.hexadecimal.specs.Choose.{pick}
 use Rattle.hex_lines.specs.declared.decode.Found.{Found}
 use Rattle.hex_lines.specs.declared.decode.Found.TheVariants.{At, Nothing}
 use Rattle.hexadecimal.specs.Digits.{bytes_of, long_at}

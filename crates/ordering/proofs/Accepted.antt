@@ -8,44 +8,44 @@ use native.Mathlib.Omega.{arith}
 use lib.ListN.{length, get_or}
 use borrow.Author.Tests.{leb-true, eqb-true}
 use lib.Dec.{eqb}
-use Rattle.base.specs.Choose.{pick}
-use Rattle.base.proofs.ChooseLaws.{both_hold}
-use Rattle.hexadecimal.specs.Digits.{short_at}
-use Rattle.behind.specs.Limits.{atoms_most, items_most, k_most, bootstrap_most}
-use Rattle.behind.specs.Fields.{field_passes, field_fits, no_counts}
-use Rattle.behind.specs.Kinds.{kinds, kind_at, items_of}
-use Rattle.behind.specs.Frames.{kind_of, frame_passes}
-use Rattle.behind.specs.Faults.{is_atom}
-use Rattle.behind.specs.First.{frames_of}
-use Rattle.behind.specs.Counts.{Counts}
-use Rattle.behind.specs.Field.{Field}
-use Rattle.behind.specs.Test.TheVariants.{Limits}
-use Rattle.behind.specs.Text.TheVariants.{Query}
-use Rattle.behind.specs.Reading.TheVariants.{Accepted}
-use Rattle.behind.specs.Keys.{begins, find, is_found}
-use Rattle.behind.specs.Second.{counts_of, reading}
-use Rattle.behind.proofs.Passes.{frame_field}
-use Rattle.behind.proofs.Whole.{accepted, query_within}
-use Rattle.behind.proofs.Lookups.{find_some}
-use Rattle.measure.specs.declared.SamplerConfig.{SamplerConfig}
-use Rattle.behind.specs.Statistics.{sampled_of, settings}
-use Rattle.behind.specs.QuerySampled.TheVariants.{On}
-use Rattle.model.specs.Atoms.{Atom, Plain, Lit, LitBind, Eq, EqGlobal, Pred, Variadic}
-use Rattle.model.specs.Bound.{blank}
-use Rattle.model.specs.Scheduling.{unlowered, numbers}
-use Rattle.behind.specs.QueryAtoms.{atom_frames}
-use Rattle.behind.specs.Choice.{rounds, remembered}
-use Rattle.behind.specs.Items.{Each}
-use Rattle.scheduling.specs.PlanText.{plan_counts}
-use Rattle.scheduling.specs.StepFrames.{AtomFits}
+use Rattle.query.specs.Choose.{pick}
+use Rattle.query.proofs.ChooseLaws.{both_hold}
+use Rattle.query.specs.Digits.{short_at}
+use Rattle.query.specs.Limits.{atoms_most, items_most, k_most, bootstrap_most}
+use Rattle.query.specs.Fields.{field_passes, field_fits, no_counts}
+use Rattle.query.specs.Kinds.{kinds, kind_at, items_of}
+use Rattle.query.specs.Frames.{kind_of, frame_passes}
+use Rattle.query.specs.Faults.{is_atom}
+use Rattle.query.specs.First.{frames_of}
+use Rattle.query.specs.Counts.{Counts}
+use Rattle.query.specs.Field.{Field}
+use Rattle.query.specs.Test.TheVariants.{Limits}
+use Rattle.query.specs.Text.TheVariants.{Query}
+use Rattle.query.specs.Reading.TheVariants.{Accepted}
+use Rattle.query.specs.Keys.{begins, find, is_found}
+use Rattle.query.specs.Second.{counts_of, reading}
+use Rattle.memo_entries.proofs.Passes.{frame_field}
+use Rattle.memo_entries.proofs.Whole.{accepted, query_within}
+use Rattle.memo_entries.proofs.Lookups.{find_some}
+use Rattle.query.specs.SamplerConfig.{SamplerConfig}
+use Rattle.query.specs.Statistics.{sampled_of, settings}
+use Rattle.query.specs.declared.statistics.Sampled.TheVariants.{On}
+use Rattle.query.specs.Atoms.{Atom, Plain, Lit, LitBind, Eq, EqGlobal, Pred, Variadic}
+use Rattle.query.specs.Bound.{blank}
+use Rattle.query.specs.Scheduling.{unlowered, numbers}
+use Rattle.memo_entries.specs.QueryAtoms.{atom_frames}
+use Rattle.memo_entries.specs.Choice.{rounds, remembered}
+use Rattle.query.specs.Items.{Each}
+use Rattle.memo_entries.specs.PlanText.{plan_counts}
+use Rattle.memo_entries.specs.StepFrames.{AtomFits}
 use Rattle.behind.specs.AtomLines.{AtomLine}
 use Rattle.placing.proofs.LocatedPlaces.{frames_length}
 use Rattle.behind.proofs.AtomLaws.{by_kind}
 use Rattle.placing.proofs.AcceptedLaws.{atom_line}
-use Rattle.scheduling.proofs.AtomFrames.{Good}
-use Rattle.scheduling.specs.QueryPlans.{atoms_of, count_at}
-use Rattle.scheduling.proofs.QueryPlansLaws.{good, atoms_number, query_fits}
-use Rattle.scheduling.proofs.Remembered.{FewOperands, FewKeys, rounds_items, rounds_few}
+use Rattle.memo_entries.proofs.AtomFrames.{Good}
+use Rattle.memo_entries.specs.QueryPlans.{atoms_of, count_at}
+use Rattle.memo_entries.proofs.QueryPlansLaws.{good, atoms_number, query_fits}
+use Rattle.memo_entries.proofs.Remembered.{FewOperands, FewKeys, rounds_items, rounds_few}
 
 -- ---- the frames of atoms among frames
 

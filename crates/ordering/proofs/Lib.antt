@@ -1,3 +1,3 @@
 pub mod OrderLaws
 pub mod Accepted
-pub use Rattle.scheduling.proofs.QueryPlansLaws
+pub use Rattle.memo_entries.proofs.QueryPlansLaws

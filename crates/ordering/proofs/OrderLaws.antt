@@ -4,31 +4,31 @@ use mathlib.Core.Path.{◌≡◌, refl, sym, ◌∙◌, ap}
 use mathlib.Core.List.{List, [], ◌∷◌, append-nil}
 use native.Mathlib.Omega.{arith}
 use lib.ListN.{length, get_or}
-use Rattle.behind.specs.Sheet.{frames_in}
-use Rattle.behind.specs.First.{frames_of, Sheet}
-use Rattle.behind.specs.Text.TheVariants.{Query}
-use Rattle.behind.specs.Reading.{Reading}
-use Rattle.behind.specs.Reading.TheVariants.{Accepted}
-use Rattle.behind.specs.Limits.{items_most}
-use Rattle.behind.specs.Kinds.{kind_at, items_of}
-use Rattle.behind.specs.Frames.{kind_of}
-use Rattle.behind.specs.Second.{reading}
-use Rattle.measure.specs.declared.SamplerConfig.{SamplerConfig}
-use Rattle.behind.specs.Statistics.{sampled_of, settings}
-use Rattle.behind.specs.QuerySampled.TheVariants.{On, Off}
-use Rattle.model.specs.Bound.{bound_most}
-use Rattle.behind.specs.QueryAtoms.{atom_frames}
-use Rattle.behind.specs.Choice.{rounds, remembered}
-use Rattle.behind.specs.Memo.{keys_most}
-use Rattle.behind.proofs.KeyLaws.{proper}
+use Rattle.query.specs.Sheet.{frames_in}
+use Rattle.query.specs.First.{frames_of, Sheet}
+use Rattle.query.specs.Text.TheVariants.{Query}
+use Rattle.query.specs.Reading.{Reading}
+use Rattle.query.specs.Reading.TheVariants.{Accepted}
+use Rattle.query.specs.Limits.{items_most}
+use Rattle.query.specs.Kinds.{kind_at, items_of}
+use Rattle.query.specs.Frames.{kind_of}
+use Rattle.query.specs.Second.{reading}
+use Rattle.query.specs.SamplerConfig.{SamplerConfig}
+use Rattle.query.specs.Statistics.{sampled_of, settings}
+use Rattle.query.specs.declared.statistics.Sampled.TheVariants.{On, Off}
+use Rattle.query.specs.Bound.{bound_most}
+use Rattle.memo_entries.specs.QueryAtoms.{atom_frames}
+use Rattle.memo_entries.specs.Choice.{rounds, remembered}
+use Rattle.memo_entries.specs.Memo.{keys_most}
+use Rattle.query.proofs.KeyLaws.{proper}
 use Rattle.behind.proofs.BehindLaws.{find_behind, frames_of_atoms, atoms_behind}
-use Rattle.scheduling.specs.QueryPlans.{atoms_of}
-use Rattle.scheduling.proofs.Remembered.{FewKeys, never, nothing_sampled}
+use Rattle.memo_entries.specs.QueryPlans.{atoms_of}
+use Rattle.memo_entries.proofs.Remembered.{FewKeys, never, nothing_sampled}
 use Rattle.behind.specs.AtomLines.{AtomLine}
 use Rattle.placing.specs.Eager.{Located, sheet_atoms}
 use Rattle.placing.specs.Places.{Places}
 use Rattle.placing.proofs.LocatedPlaces.{frames_length, located}
-use Rattle.scheduling.specs.Prices.{row_size, table_size, FewItems}
+use Rattle.prices.specs.Prices.{row_size, table_size, FewItems}
 use Rattle.scheduling.specs.Remembering.{Samples}
 use Rattle.ordering.specs.Accepts.{Accepts}
 use Rattle.ordering.proofs.Accepted.{Small, frames_few, atom_lines, atom_items, rounds_memo, rounds_keys, few_keys, small_settings}

@@ -1,12 +1,12 @@
 -- What the parts of the planner rely on: the sheet of an accepted query text, and behind it that of a table where frame 24 asks for one.
 use Rattle.std.specs.Prelude.{ℕ, ◌<◌, ◌≡◌, List, ◌++◌, length}
-use Rattle.hexadecimal.specs.Digits.{bytes_of}
-use Rattle.behind.specs.Kinds.{table}
-use Rattle.behind.specs.Sheet.{frame_at, frames_in}
-use Rattle.behind.specs.First.{frames_of, first_line}
-use Rattle.behind.specs.Text.TheVariants.{Query}
-use Rattle.behind.specs.Reading.TheVariants.{Accepted}
-use Rattle.behind.specs.Second.{reading}
+use Rattle.query.specs.Digits.{bytes_of}
+use Rattle.query.specs.Kinds.{table}
+use Rattle.query.specs.Sheet.{frame_at, frames_in}
+use Rattle.query.specs.First.{frames_of, first_line}
+use Rattle.query.specs.Text.TheVariants.{Query}
+use Rattle.query.specs.Reading.TheVariants.{Accepted}
+use Rattle.query.specs.Second.{reading}
 use Rattle.behind.specs.Behind.{FramesOf}
 
 -- s begins with the sheet of an accepted query text; what follows are frames of a table

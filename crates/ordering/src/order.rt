@@ -1,19 +1,19 @@
 // The order in which the atoms of an accepted query are lowered, in the rounds up to number `last`, and the costs of the last one.
 ghost use Rattle.std.specs.Prelude.{◌≡◌, suc, ◌*◌, ◌≤◌, length};
-ghost use Rattle.behind.specs.Sheet.{frames_in};
-ghost use Rattle.behind.specs.Given.{Given};
-ghost use Rattle.behind.specs.Choice.{rounds};
-ghost use Rattle.behind.specs.Memo.{keys_most};
+ghost use Rattle.query.specs.Sheet.{frames_in};
+ghost use Rattle.query.specs.Given.{Given};
+ghost use Rattle.memo_entries.specs.Choice.{rounds};
+ghost use Rattle.memo_entries.specs.Memo.{keys_most};
 ghost use Rattle.placing.specs.Eager.{sheet_atoms};
 ghost use Rattle.placing.specs.Places.{Places};
-ghost use Rattle.scheduling.specs.Prices.{row_size};
+ghost use Rattle.prices.specs.Prices.{row_size};
 ghost use Rattle.scheduling.specs.Remembering.{Samples};
 ghost use Rattle.scheduling.specs.Rounds.{Scheduling, Rounded};
 ghost use Rattle.ordering.specs.Accepts.{Accepts};
 
-use behind::query::statistics::{Sampled, settings};
-use scheduling::memo_entries::entry::KEYS_MOST;
-use scheduling::prices::table::{ROW_SIZE, TABLE_SIZE, fill_prices};
+use memo_entries::entry::KEYS_MOST;
+use prices::table::{ROW_SIZE, TABLE_SIZE, fill_prices};
+use query::statistics::{Sampled, settings};
 use scheduling::schedule::{Scheduled, schedule};
 
 // The prices that no sample changes, then the rounds. The arrays lent are for prices, and for what is remembered.

@@ -9,10 +9,10 @@ use lib.ListN.{length, get_or, set, take, length-append, length-set}
 use lib.Seq.{set_out, length-sets, length-take-le, take-suc}
 use Rattle.hexadecimal.specs.Digits.{hex_digit, digits_of}
 use Rattle.hexadecimal.proofs.Bytes.{digits_length}
-use Rattle.plans.specs.Kinds.{kind_at, fixed_length}
-use Rattle.plans.specs.Frames.{kind_of, frame_length}
-use Rattle.plans.specs.Sheet.{frame_at}
-use Rattle.model.specs.Limits.{line_end}
+use Rattle.kinds.specs.Kinds.{kind_at, fixed_length}
+use Rattle.frames.specs.Frames.{kind_of, frame_length}
+use Rattle.frames.specs.Sheet.{frame_at}
+use Rattle.plans.specs.Limits.{line_end}
 use Rattle.plans.specs.PlanText.{text_of, text_length}
 use Rattle.plans.proofs.Texts.{text_length_lem}
 use Rattle.plans.specs.StepFrames.{word_bytes}

@@ -1,6 +1,13 @@
 pub mod Written
-pub use Rattle.plans.specs.Fields
-pub use Rattle.plans.specs.Frames
+pub use Rattle.frames.specs.Frames
+pub use Rattle.frames.specs.Sheet
+pub use Rattle.kinds.specs.Fields
+pub use Rattle.plans.specs.Atoms
+pub use Rattle.plans.specs.Limits
+pub use Rattle.plans.specs.Lists
 pub use Rattle.plans.specs.Lookups
+pub use Rattle.plans.specs.Matching
 pub use Rattle.plans.specs.PlanText
+pub use Rattle.plans.specs.Running
 pub use Rattle.plans.specs.StepFrames
+pub use Rattle.plans.specs.Tabulate

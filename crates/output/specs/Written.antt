@@ -2,11 +2,11 @@
 use Rattle.std.specs.Prelude.{ℕ, ◌+◌, ◌*◌, ◌≤◌, ◌≡◌, List, [], ◌∷◌, length, take}
 use Rattle.std.proofs.lemmas.List.Edits.{sets}
 use Rattle.hexadecimal.specs.Digits.{digits_of}
-use Rattle.plans.specs.Kinds.{fixed_length}
-use Rattle.plans.specs.Frames.{kind_of}
+use Rattle.kinds.specs.Kinds.{fixed_length}
+use Rattle.frames.specs.Frames.{kind_of}
 use Rattle.plans.specs.PlanText.{text_of, text_length}
 use Rattle.plans.specs.StepFrames.{frame_of}
-use Rattle.model.specs.Atoms.{Step}
+use Rattle.plans.specs.Atoms.{Step}
 
 -- the fixed part that the bytes b begin with, by the table of kinds
 abbrev pub fixed_in : List ℕ → List ℕ

@@ -1,11 +1,11 @@
 // Bytes as digits, and the end of a line.
 ghost use Rattle.std.specs.Prelude.{◌≡◌, [], ◌∷◌, ◌+◌, ◌*◌, ◌/◌, ◌%◌, ◌<◌, ◌≤◌, length, take};
-ghost use Rattle.model.specs.Limits.{line_end};
+ghost use Rattle.plans.specs.Limits.{line_end};
 ghost use Rattle.plans.specs.StepFrames.{word_bytes};
 ghost use Rattle.output.specs.Written.{Puts, PutsBytes};
 
 use hexadecimal::hex_digit;
-use plans::records::shorts::{high_of, low_of};
+use plans::below::{high_of, low_of};
 
 pub fn put_end(out: &mut [u8], at: usize) -> usize
     requires { at < 0x8000_0000 }

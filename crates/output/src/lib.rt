@@ -3,5 +3,3 @@
 
 pub mod bytes;
 pub mod parts;
-
-pub use plans::{fields, frames, kinds};

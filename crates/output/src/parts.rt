@@ -1,14 +1,14 @@
 // The lines of frames: of the bytes that are lent as many as the table of kinds has.
 ghost use Rattle.std.specs.Prelude.{[], ◌∷◌, ◌<◌, ◌≤◌, length};
-ghost use Rattle.plans.specs.Kinds.{fixed_length};
-ghost use Rattle.plans.specs.Frames.{kind_of, frame_length};
-ghost use Rattle.plans.specs.Sheet.{frame_at};
+ghost use Rattle.kinds.specs.Kinds.{fixed_length};
+ghost use Rattle.frames.specs.Frames.{kind_of, frame_length};
+ghost use Rattle.frames.specs.Sheet.{frame_at};
 ghost use Rattle.output.specs.Written.{fixed_in, PutsFrames};
 
 use super::bytes::{put_end, put_first};
+use frames::frame::frame_length;
 use hexadecimal::byte_at;
-use plans::frames::frame::frame_length;
-use plans::kinds::table::fixed_length;
+use kinds::table::fixed_length;
 
 // The line of a frame without items: as many bytes as its kind has.
 pub fn put_line(out: &mut [u8], at: usize, bytes: &[u8]) -> usize

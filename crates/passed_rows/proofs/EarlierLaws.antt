@@ -11,10 +11,10 @@ use lib.Dec.{eqb}
 use lib.ListN.{length, get_or, take, length-append, length-map}
 use lib.Seq.{take-suc}
 use borrow.Author.Tests.{eq-eqb, ne_eqb}
-use Rattle.model.specs.Atoms.{Row}
-use Rattle.model.specs.Firsts.{is_among, firsts}
-use Rattle.model.proofs.Bools.{true_false, either, bool_ext}
-use Rattle.model.proofs.FirstLaws.{first_mem, mem_first}
+use Rattle.standing.specs.Atoms.{Row}
+use Rattle.standing.specs.Firsts.{is_among, firsts}
+use Rattle.standing.proofs.Bools.{true_false, either, bool_ext}
+use Rattle.standing.proofs.ModelFirstLaws.{first_mem, mem_first}
 use Rattle.standing.specs.Leaders.{leader_in, led_row, led_rows, same_row, standing_below}
 use Rattle.standing.specs.Rows.{rows_in}
 use Rattle.standing.proofs.RowFrames.{equal_rows}

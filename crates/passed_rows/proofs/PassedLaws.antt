@@ -4,14 +4,14 @@ use mathlib.Core.Path.{◌≡◌, sym, ◌∙◌}
 use mathlib.Core.List.{List}
 use native.Mathlib.Omega.{arith}
 use lib.ListN.{length, take}
-use Rattle.standing.specs.Text.TheVariants.{Table}
-use Rattle.standing.specs.First.{sheet_size}
-use Rattle.standing.specs.Reading.{Reading}
-use Rattle.standing.specs.Reading.TheVariants.{Accepted}
-use Rattle.standing.specs.Index.{Indexed}
-use Rattle.standing.specs.Second.{reading}
-use Rattle.standing.specs.IndexedReading.{ReadIndexed}
-use Rattle.standing.proofs.ReadLaws.{read_sheet, read_index}
+use Rattle.reading.specs.Text.TheVariants.{Table}
+use Rattle.reading.specs.First.{sheet_size}
+use Rattle.reading.specs.Reading.{Reading}
+use Rattle.reading.specs.Reading.TheVariants.{Accepted}
+use Rattle.reading.specs.Index.{Indexed}
+use Rattle.reading.specs.Second.{reading}
+use Rattle.reading.specs.IndexedReading.{ReadIndexed}
+use Rattle.reading.proofs.ReadLaws.{read_sheet, read_index}
 use Rattle.standing.proofs.Whole.{table_rows}
 use Rattle.standing.specs.Stands.{RowsSheet}
 use Rattle.standing.proofs.AcceptedLaws.{rows_sheet}

@@ -1,4 +1,2 @@
 pub mod Passed
-pub use Rattle.standing.specs.Index
-pub use Rattle.standing.specs.Limits
 pub use Rattle.standing.specs.Stands

@@ -2,5 +2,3 @@
 #![tactic(auto)]
 
 pub mod passed;
-
-pub use standing::{fields, first_reading, frame_tests, frames, kinds, reading};

@@ -1,13 +1,13 @@
 // Which rows of a table are passed over.
 ghost use Rattle.std.specs.Prelude.{◌≡◌, ◌<◌};
-ghost use Rattle.standing.specs.Sheet.{frames_in};
-ghost use Rattle.standing.specs.Index.{Indexed};
+ghost use Rattle.reading.specs.Sheet.{frames_in};
+ghost use Rattle.reading.specs.Index.{Indexed};
 ghost use Rattle.standing.specs.Leaders.{standing_below};
 ghost use Rattle.standing.specs.Stands.{RowsSheet};
 ghost use Rattle.passed_rows.specs.Passed.{is_passed};
 
+use reading::second::LONG_SHEET;
 use standing::lay::{SEEN, lay_standing};
-use standing::reading::second::LONG_SHEET;
 
 // How many rows of the numbers below n stand.
 fn stood_below(sheet: &[u8], index: &[u16], n: usize) -> usize

@@ -7,20 +7,20 @@ use native.Mathlib.Omega.{arith}
 use lib.Dec.{eqb, ltb}
 use lib.ListN.{get_or, replicate}
 use borrow.Author.Tests.{ltb-true, lt-ltb}
-use Rattle.base.specs.Choose.{pick}
-use Rattle.base.proofs.ChooseLaws.{both_hold}
+use Rattle.fields.specs.Choose.{pick}
+use Rattle.fields.proofs.ChooseLaws.{both_hold}
 use Rattle.lowering.specs.Faults.{is_atom}
-use Rattle.lowering.specs.Fields.{width, field_in, field_passes, operand_in}
+use Rattle.fields.specs.Fields.{width, field_in, field_passes, operand_in}
 use Rattle.lowering.specs.Kinds.{kinds, kind_at}
 use Rattle.lowering.specs.Frames.{pass_all, frame_passes}
-use Rattle.lowering.specs.Counts.{Counts}
-use Rattle.lowering.specs.Field.{Field}
-use Rattle.lowering.specs.Field.TheVariants.{Operand, Element}
-use Rattle.lowering.specs.Test.TheVariants.{Range}
-use Rattle.model.specs.Atoms.{local, global, local_of, vars_in}
-use Rattle.model.proofs.Bools.{both, first, second}
-use Rattle.model.specs.Bound.{bound_most}
-use Rattle.model.specs.Premises.{numbers_below}
+use Rattle.fields.specs.declared.field.Counts.{Counts}
+use Rattle.fields.specs.declared.field.Field.{Field}
+use Rattle.fields.specs.declared.field.Field.TheVariants.{Operand, Element}
+use Rattle.fields.specs.declared.field.Test.TheVariants.{Range}
+use Rattle.lowering.specs.Atoms.{local, global, local_of, vars_in}
+use Rattle.lowering.proofs.Bools.{both, first, second}
+use Rattle.lowering.specs.Bound.{bound_most}
+use Rattle.lowering.specs.Premises.{numbers_below}
 use Rattle.lowering.specs.QueryAtoms.{operands_from, atom_of_frame}
 use Rattle.lowering.specs.AtomLines.{AtomLine}
 use Rattle.lowering.proofs.AtomLaws.{by_kind}

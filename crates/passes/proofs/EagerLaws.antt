@@ -10,17 +10,17 @@ use native.Mathlib.Omega.{arith}
 use native.Mathlib.Numerals.{add-one}
 use lib.Dec.{T, eqb}
 use borrow.Author.Tests.{eq-eqb, ne_eqb, eqb-true, eqb-false, not-true, not-false}
-use Rattle.base.specs.Choose.{pick}
+use Rattle.fields.specs.Choose.{pick}
 use lib.ListN.{length, get_or, take, drop, set, length-set, length-append}
 use lib.Seq.{take-suc, take-suc-set, take-length}
 use Rattle.lowering.proofs.SheetLaws.{frame_part}
 use Rattle.lowering.specs.Sheet.{frame_at}
-use Rattle.model.specs.Atoms.{Atom, Step}
-use Rattle.model.proofs.TabulateLaws.{tabulate_at, tabulate_length}
-use Rattle.model.specs.Bound.{Bound, has, add, add_all, bound_most}
-use Rattle.model.specs.Lowering.{Emitted, lower, Lowered, done, more}
-use Rattle.model.specs.Scheduling.{State, is_free, unlowered, try_at, eager_pass, lower_eager, atom_of, numbers}
-use Rattle.model.proofs.Scheduled.{unlowered_lt, lower_eager_is}
+use Rattle.lowering.specs.Atoms.{Atom, Step}
+use Rattle.lowering.proofs.TabulateLaws.{tabulate_at, tabulate_length}
+use Rattle.lowering.specs.Bound.{Bound, has, add, add_all, bound_most}
+use Rattle.lowering.specs.Lowering.{Emitted, lower, Lowered, done, more}
+use Rattle.lowering.specs.Scheduling.{State, is_free, unlowered, try_at, eager_pass, lower_eager, atom_of, numbers}
+use Rattle.lowering.proofs.Scheduled.{unlowered_lt, lower_eager_is}
 use Rattle.lowering.specs.QueryAtoms.{atom_of_frame}
 use Rattle.lowering.specs.AtomLines.{lowers, bound_behind, Lowers}
 use Rattle.passes.specs.Eager.{state, Went, Tries, sheet_atoms, Lined, Located, Ready, Passed, LoweredEager}

@@ -3,9 +3,4 @@ pub mod AcceptedLaws
 pub mod LocatedLaws
 pub use Rattle.lowering.proofs.AtomLaws
 pub use Rattle.lowering.proofs.ChoiceLaws
-pub use Rattle.lowering.proofs.LentLaws
-pub use Rattle.lowering.proofs.OperandLaws
-pub use Rattle.lowering.proofs.QueryLaws
-pub use Rattle.lowering.proofs.ReadLaws
-pub use Rattle.lowering.proofs.SheetLaws
 pub use Rattle.lowering.proofs.Tame

@@ -5,9 +5,9 @@ use mathlib.Core.List.{List, Memᴰ}
 use native.Mathlib.Omega.{arith}
 use lib.ListN.{length, get_or}
 use Rattle.lowering.specs.Sheet.{frame_at}
-use Rattle.model.specs.Bound.{bound_most}
-use Rattle.model.proofs.TabulateLaws.{mem_tabulate}
-use Rattle.model.specs.Scheduling.{numbers}
+use Rattle.lowering.specs.Bound.{bound_most}
+use Rattle.lowering.proofs.TabulateLaws.{mem_tabulate}
+use Rattle.lowering.specs.Scheduling.{numbers}
 use Rattle.lowering.specs.AtomLines.{AtomLine}
 use Rattle.passes.specs.Eager.{sheet_atoms, Lined, Located}
 

@@ -2,10 +2,10 @@
 use Rattle.std.specs.Prelude.{ℕ, ◌+◌, ◌<◌, ◌≤◌, ◌≡◌, length, get_or, take}
 use mathlib.Core.List.{List, ◌++◌, Memᴰ}
 use Rattle.lowering.specs.Sheet.{frame_at, frames_in}
-use Rattle.model.specs.Atoms.{Atom, Step}
-use Rattle.model.specs.Bound.{Bound, add_all, bound_most}
-use Rattle.model.specs.Lowering.{Lowered}
-use Rattle.model.specs.Scheduling.{State, unlowered, try_at, eager_pass, lower_eager, atom_of, numbers}
+use Rattle.lowering.specs.Atoms.{Atom, Step}
+use Rattle.lowering.specs.Bound.{Bound, add_all, bound_most}
+use Rattle.lowering.specs.Lowering.{Lowered}
+use Rattle.lowering.specs.Scheduling.{State, unlowered, try_at, eager_pass, lower_eager, atom_of, numbers}
 use Rattle.lowering.specs.QueryAtoms.{atom_of_frame, atoms_in}
 use Rattle.lowering.specs.AtomLines.{AtomLine}
 

@@ -1,13 +1,13 @@
 // Eager passes over the atoms of a sheet, each found by the place of its frame.
 ghost use Rattle.std.specs.Prelude.{◌≡◌, false, ◌+◌, ◌<◌, length, get_or};
 ghost use Rattle.lowering.specs.Sheet.{frame_at};
-ghost use Rattle.model.specs.Bound.{has, bound_most};
+ghost use Rattle.lowering.specs.Bound.{has, bound_most};
 ghost use Rattle.lowering.specs.AtomLines.{AtomLine};
 ghost use Rattle.passes.specs.Eager.{Tries, Lined, Located, Ready, Passed, LoweredEager};
 
+use fields::field::{narrow, wide_short};
 use lowering::atom::{is_free, lower_bound};
-use lowering::binding::sets::{is_set, set_bound};
-use lowering::fields::field::{narrow, wide_short};
+use lowering::below::{is_set, set_bound};
 
 // Takes atom i, by its frame, where it is not lowered yet and an eager pass lowers it; c atoms were taken before. How many now are.
 fn try_at(

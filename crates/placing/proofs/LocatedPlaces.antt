@@ -5,11 +5,11 @@ use mathlib.Core.Bool.{Bool, true, false}
 use mathlib.Core.List.{List, [], ◌∷◌}
 use native.Mathlib.Omega.{arith}
 use lib.ListN.{length, get_or}
-use Rattle.base.specs.Choose.{pick}
-use Rattle.passes.specs.Sheet.{frames_in}
+use Rattle.hexadecimal.specs.Choose.{pick}
+use Rattle.frames.specs.Sheet.{frames_in}
 use Rattle.passes.specs.Faults.{is_atom}
-use Rattle.model.specs.Bound.{bound_most}
-use Rattle.model.specs.Scheduling.{atom_of}
+use Rattle.passes.specs.Bound.{bound_most}
+use Rattle.passes.specs.Scheduling.{atom_of}
 use Rattle.passes.specs.QueryAtoms.{atom_of_frame, atom_frames, atoms_in}
 use Rattle.passes.specs.AtomLines.{AtomLine}
 use Rattle.passes.specs.Eager.{Located}

@@ -9,11 +9,11 @@ use native.Mathlib.Numerals.{add-one}
 use lib.ListN.{length, get_or, drop, set, length-set, length-drop}
 use lib.Seq.{drop-cons, get_or-set_same, get_or-set_other}
 use borrow.Author.Tests.{le-leb, lt-leb}
-use Rattle.base.specs.Choose.{pick}
-use Rattle.passes.specs.Sheet.{frame_at, frames_in}
+use Rattle.hexadecimal.specs.Choose.{pick}
+use Rattle.frames.specs.Sheet.{frame_at, frames_in}
 use Rattle.passes.specs.Faults.{is_atom}
-use Rattle.passes.proofs.SheetLaws.{frames_end, frame_some, frame_within, frames_step}
-use Rattle.model.specs.Bound.{bound_most}
+use Rattle.frames.proofs.SheetLaws.{frames_end, frame_some, frame_within, frames_step}
+use Rattle.passes.specs.Bound.{bound_most}
 use Rattle.passes.specs.QueryAtoms.{atom_frames}
 use Rattle.passes.specs.Eager.{Lined}
 use Rattle.placing.specs.Places.{Places, Noted}

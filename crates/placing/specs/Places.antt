@@ -1,9 +1,9 @@
 -- Where the frames of a sheet's atoms begin.
 use Rattle.std.specs.Prelude.{ℕ, ◌+◌, ◌<◌, ◌≤◌, ◌≡◌, List, [], length, get_or, set}
-use Rattle.base.specs.Choose.{pick}
-use Rattle.passes.specs.Sheet.{frame_at, frames_in}
+use Rattle.hexadecimal.specs.Choose.{pick}
+use Rattle.frames.specs.Sheet.{frame_at, frames_in}
 use Rattle.passes.specs.Faults.{is_atom}
-use Rattle.model.specs.Bound.{bound_most}
+use Rattle.passes.specs.Bound.{bound_most}
 use Rattle.passes.specs.QueryAtoms.{atom_frames}
 use Rattle.passes.specs.Eager.{Lined}
 

@@ -1,13 +1,13 @@
 // Where the frames of a sheet's atoms begin and end.
 ghost use Rattle.std.specs.Prelude.{◌≡◌, true, ◌+◌, ◌<◌, ◌≤◌, length, get_or};
 ghost use Rattle.passes.specs.Faults.{is_atom};
-ghost use Rattle.passes.specs.Sheet.{frames_in};
-ghost use Rattle.model.specs.Bound.{bound_most};
+ghost use Rattle.frames.specs.Sheet.{frames_in};
+ghost use Rattle.passes.specs.Bound.{bound_most};
 ghost use Rattle.passes.specs.QueryAtoms.{atom_frames};
 ghost use Rattle.placing.specs.Places.{Places, Noted};
 
+use frames::frame::frame_at;
 use hexadecimal::byte_at;
-use passes::frames::frame::frame_at;
 
 // Notes where a frame begins and ends, if it is an atom's; n are noted before. How many now are.
 fn note_place(frame: &[u8], at: usize, end: usize, from: &mut [u16], n: usize) -> usize

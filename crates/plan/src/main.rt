@@ -2,9 +2,9 @@
 // refused query or table the line ff number line(2).
 #![tactic(auto)]
 
+use gathering::beside::beside_if;
 use planner::entry::plan;
-use planner::fitting::fit::PLAN_MOST;
-use planner::gathering::beside::beside_if;
+use printing::below::PLAN_MOST;
 use printing::{TEXT_ROOM, print_planned};
 use table_file::read_table;
 

@@ -8,10 +8,10 @@ use lib.ListN.{length, get_or, replicate}
 use lib.Dec.{T, ltb, leb, eqb}
 use lib.Pow.{are_bytes}
 use borrow.Author.Tests.{ltb-true, leb-true}
-use Rattle.base.specs.Choose.{pick}
-use Rattle.base.proofs.ChooseLaws.{both_hold}
-use Rattle.hexadecimal.specs.Digits.{word_at}
-use Rattle.hexadecimal.proofs.Bytes.{byte_at}
+use Rattle.reading_facts.specs.Choose.{pick}
+use Rattle.reading_facts.proofs.ChooseLaws.{both_hold}
+use Rattle.reading_facts.specs.Digits.{word_at}
+use Rattle.reading_facts.proofs.Bytes.{byte_at}
 use Rattle.reading_facts.specs.Limits.{items_most}
 use Rattle.reading_facts.specs.Fields.{width, field_passes, field_fits, field_in, operand_in, no_counts}
 use Rattle.reading_facts.specs.Kinds.{kinds, kind_at, fixed_length}
@@ -21,7 +21,7 @@ use Rattle.reading_facts.specs.Field.{Field}
 use Rattle.reading_facts.specs.Field.TheVariants.{Operand as OperandField, Element as ElementField, Atom as AtomField}
 use Rattle.reading_facts.specs.Counts.{Counts}
 use Rattle.reading_facts.specs.Test.TheVariants.{Limits, Range}
-use Rattle.model.specs.Atoms.{local, global}
+use Rattle.plans.specs.Atoms.{local, global}
 use Rattle.cost.specs.QueryAtoms.{operands_from, bytes_from, atom_of_frame}
 use Rattle.cost.specs.Lookups.{operand_at}
 use Rattle.cost.proofs.Operands.{operands_length}

@@ -6,10 +6,10 @@ use mathlib.Core.Option.{Option, none, some}
 use mathlib.Core.List.{List, [], ◌∷◌}
 use native.Mathlib.Omega.{arith}
 use native.Mathlib.Decide.{ℕ_discrete}
-use Rattle.base.proofs.ChooseLaws.{pick_elim}
-use Rattle.model.specs.Atoms.{Operand, local, global, wild, Atom, Plain, Lit, LitBind, Eq, EqGlobal, Pred, Variadic}
-use Rattle.model.specs.Bound.{Bound, has, put}
-use Rattle.model.proofs.BoundLaws.{put_other}
+use Rattle.reading_facts.proofs.ChooseLaws.{pick_elim}
+use Rattle.plans.specs.Atoms.{Operand, local, global, wild, Atom, Plain, Lit, LitBind, Eq, EqGlobal, Pred, Variadic}
+use Rattle.plans.specs.Bound.{Bound, has, put}
+use Rattle.cost.proofs.BoundLaws.{put_other}
 use Rattle.cost.specs.Emitters.{Emitter, Emitters, emitter_of, from, or_keep, set_emitter, set_operand, set_children, set_elements, copy_emitter, record_atom, record_emitters}
 
 abbrev pub Keeps : Emitters → Emitters → Type 0

@@ -3,3 +3,7 @@ pub mod Emitted
 pub mod Pigeonhole
 pub mod QueryPlansLaws
 pub mod Remembered
+pub use Rattle.cost.proofs.Bools
+pub use Rattle.reading_facts.proofs.Lookups
+pub use Rattle.reading_facts.proofs.Passes
+pub use Rattle.reading_facts.proofs.Whole

@@ -6,7 +6,7 @@ use mathlib.Core.List.Memᴰ
 use mathlib.Core.List.{List, [], ◌∷◌, ◌++◌, Memᴰ}
 use native.Mathlib.Omega.{arith}
 use lib.ListN.{length, length-append}
-use Rattle.set_model.specs.Lists.{Pairs}
+use Rattle.plans.specs.Lists.{Pairs}
 
 -- a list around one of its elements
 record Around {A : Type 0} (x : A) (m : List A) : Type 0 where

@@ -8,8 +8,8 @@ use native.Mathlib.Omega.{arith}
 use native.Mathlib.Nat.{add-zero}
 use lib.ListN.{length, get_or}
 use lib.Pow.{are_bytes}
-use Rattle.base.specs.Choose.{pick}
-use Rattle.base.proofs.ChooseLaws.{is_true}
+use Rattle.reading_facts.specs.Choose.{pick}
+use Rattle.reading_facts.proofs.ChooseLaws.{is_true}
 use Rattle.reading_facts.specs.Limits.{atoms_most}
 use Rattle.reading_facts.specs.Faults.{is_atom}
 use Rattle.reading_facts.specs.First.{frames_of}
@@ -18,8 +18,8 @@ use Rattle.reading_facts.specs.Text.TheVariants.{Query}
 use Rattle.reading_facts.specs.Reading.TheVariants.{Accepted}
 use Rattle.reading_facts.specs.Second.{counts_of, reading}
 use Rattle.reading_facts.proofs.Whole.{count_from, accepted, query_within, frame_bytes}
-use Rattle.model.specs.Atoms.{Atom}
-use Rattle.model.specs.Scheduling.{State, Chosen, Fair, atom_of, numbers, schedule}
+use Rattle.plans.specs.Atoms.{Atom}
+use Rattle.plans.specs.Scheduling.{State, Chosen, Fair, atom_of, numbers, schedule}
 use Rattle.cost.specs.QueryAtoms.{atom_of_frame, atoms_in}
 use Rattle.plans.specs.Items.{Each}
 use Rattle.plans.proofs.PlanRead.{plan_length}

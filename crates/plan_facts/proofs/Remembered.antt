@@ -11,23 +11,23 @@ use native.Mathlib.Omega.{arith}
 use lib.ListN.{length, length-append}
 use borrow.Author.Tests.{eq-eqb}
 use lib.Ieee.{lt}
-use Rattle.base.specs.Choose.{pick}
-use Rattle.base.proofs.ChooseLaws.{pick_elim}
+use Rattle.reading_facts.specs.Choose.{pick}
+use Rattle.reading_facts.proofs.ChooseLaws.{pick_elim}
 use Rattle.reading_facts.specs.Limits.{items_most, atoms_most}
-use Rattle.measure.specs.declared.SamplerConfig.{SamplerConfig}
-use Rattle.measure.specs.declared.Estimate.{Estimate}
-use Rattle.measure.specs.declared.Estimate.TheVariants.{Accepted, Rejected}
+use Rattle.cost.specs.SamplerConfig.{SamplerConfig}
+use Rattle.cost.specs.Estimate.{Estimate}
+use Rattle.cost.specs.Estimate.TheVariants.{Accepted, Rejected}
 use Rattle.cost.specs.Statistics.{settings}
 use Rattle.cost.specs.Sampled.{Sampled}
 use Rattle.cost.specs.Sampled.TheVariants.{On, Off}
-use Rattle.model.specs.Atoms.{Operand, local, global, wild, Atom, Plain, Lit, LitBind, Eq, EqGlobal, Pred, Variadic}
-use Rattle.model.proofs.Bools.{both, true_false}
-use Rattle.set_model.specs.Lists.{Pairs}
-use Rattle.model.proofs.ListsLaws.{from, into}
-use Rattle.model.specs.Bound.{Bound, has}
-use Rattle.model.specs.Lowering.{pv_is_bound}
-use Rattle.model.specs.Scheduling.{State, Chosen, atom_of, numbers, lower_eager, emit_at, go_on, rounds_up_to, unplanned}
-use Rattle.model.specs.Cheapest.{Priced, Bid, Scan, scan, cheapest, better, is_candidate}
+use Rattle.plans.specs.Atoms.{Operand, local, global, wild, Atom, Plain, Lit, LitBind, Eq, EqGlobal, Pred, Variadic}
+use Rattle.cost.proofs.Bools.{both, true_false}
+use Rattle.plans.specs.Lists.{Pairs}
+use Rattle.plans.proofs.ListsLaws.{from, into}
+use Rattle.plans.specs.Bound.{Bound, has}
+use Rattle.plans.specs.Lowering.{pv_is_bound}
+use Rattle.plans.specs.Scheduling.{State, Chosen, atom_of, numbers, lower_eager, emit_at, go_on, rounds_up_to, unplanned}
+use Rattle.plans.specs.Cheapest.{Priced, Bid, Scan, scan, cheapest, better, is_candidate}
 use Rattle.cost.specs.declared.probes.Key.{Key}
 use Rattle.cost.specs.Emitters.{Emitter, Emitters, emitter_of}
 use Rattle.cost.specs.Sampling.{Tally, same_key, is_known, measure, tally_of, after_estimate}

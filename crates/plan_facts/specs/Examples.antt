@@ -2,14 +2,14 @@
 use Rattle.std.specs.Prelude.{◌≡◌, refl, ℕ, zero, suc, ◌+◌, ◌<◌, ltb, length, replicate}
 use Rattle.std.proofs.Common.{◌∙◌, ap, arith}
 use mathlib.Core.List.{List, map, flat_map}
-use Rattle.model.specs.Tabulate.{tabulate}
-use Rattle.model.proofs.TabulateLaws.{tabulate_length}
-use Rattle.model.specs.Atoms.{global, Atom, Plain}
-use Rattle.model.specs.Bound.{put, blank}
-use Rattle.model.specs.Lowering.{mark_all, emit_read_children, child_lookups, lower}
-use Rattle.model.specs.Scheduling.{State, unlowered, Chosen, Fair, eager_pass, passes_up_to, rounds_up_to, atom_of, numbers, schedule}
-use Rattle.model.specs.Cheapest.{Priced, scan, cheapest}
-use Rattle.model.proofs.CheapestLaws.{cheapest_fair}
+use Rattle.plans.specs.Tabulate.{tabulate}
+use Rattle.plans.proofs.TabulateLaws.{tabulate_length}
+use Rattle.plans.specs.Atoms.{global, Atom, Plain}
+use Rattle.plans.specs.Bound.{put, blank}
+use Rattle.plans.specs.Lowering.{mark_all, emit_read_children, child_lookups, lower}
+use Rattle.plans.specs.Scheduling.{State, unlowered, Chosen, Fair, eager_pass, passes_up_to, rounds_up_to, atom_of, numbers, schedule}
+use Rattle.plans.specs.Cheapest.{Priced, scan, cheapest}
+use Rattle.plans.proofs.CheapestLaws.{cheapest_fair}
 use Rattle.plans.specs.Items.{Each}
 use Rattle.plans.specs.StepFrames.{frame_of, AtomFits}
 use Rattle.plans.specs.PlanText.{text_length, plan_text, plan_counts, plan_most, QueryFits}

@@ -1,11 +1,11 @@
 -- An accepted query x and steps ss for it: its atoms and counts, the text of its plan, and what it is to be read back.
 use Rattle.std.specs.Prelude.{ℕ, ◌+◌, ◌≤◌, ◌≡◌, List, map, length, get_or, drop}
-use Rattle.hexadecimal.specs.Digits.{bytes_of}
+use Rattle.reading_facts.specs.Digits.{bytes_of}
 use Rattle.reading_facts.specs.First.{frames_of, first_line}
 use Rattle.reading_facts.specs.Text.TheVariants.{Plan}
 use Rattle.reading_facts.specs.Reading.TheVariants.{Accepted}
 use Rattle.reading_facts.specs.Second.{reading}
-use Rattle.model.specs.Atoms.{Atom, Step}
+use Rattle.plans.specs.Atoms.{Atom, Step}
 use Rattle.cost.specs.QueryAtoms.{atoms_in}
 use Rattle.plans.specs.StepFrames.{frame_of, step_of}
 use Rattle.plans.specs.PlanText.{text_length, plan_text, plan_most}

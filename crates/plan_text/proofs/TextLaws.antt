@@ -5,10 +5,10 @@ use mathlib.Core.Bool.{false}
 use mathlib.Core.List.{List, [], ◌∷◌, map}
 use native.Mathlib.Omega.{arith}
 use lib.ListN.{replicate}
-use Rattle.writing.specs.Text.TheVariants.{Query}
-use Rattle.writing.specs.Second.{counts_in}
-use Rattle.model.specs.Bound.{blank}
-use Rattle.model.specs.Scheduling.{atom_of}
+use Rattle.frame_tests.specs.declared.tests.Text.TheVariants.{Query}
+use Rattle.second_reading.specs.Second.{counts_in}
+use Rattle.writing.specs.Bound.{blank}
+use Rattle.writing.specs.Scheduling.{atom_of}
 use Rattle.writing.specs.StepFrames.{frame_of, header_of}
 use Rattle.writing.specs.PlanText.{text_length}
 use Rattle.writing.specs.Eager.{sheet_atoms}

@@ -1,18 +1,18 @@
 // The plan's text, by the order of the atoms.
 ghost use Rattle.std.specs.Prelude.{◌≡◌, ◌∷◌, map, ◌+◌, ◌<◌, take};
-ghost use Rattle.model.specs.Bound.{blank};
-ghost use Rattle.model.specs.Scheduling.{atom_of};
-ghost use Rattle.writing.specs.Text.TheVariants.{Query};
-ghost use Rattle.writing.specs.Second.{counts_in};
+ghost use Rattle.writing.specs.Bound.{blank};
+ghost use Rattle.writing.specs.Scheduling.{atom_of};
+ghost use Rattle.frame_tests.specs.declared.tests.Text.TheVariants.{Query};
+ghost use Rattle.second_reading.specs.Second.{counts_in};
 ghost use Rattle.writing.specs.PlanText.{text_length};
 ghost use Rattle.writing.specs.StepFrames.{frame_of, header_of};
 ghost use Rattle.writing.specs.Eager.{Located, sheet_atoms};
 ghost use Rattle.writing.specs.Steps.{Ordered, steps_along};
 ghost use Rattle.writing.specs.Written.{PutsFrames};
 
-use writing::frame_tests::tests::Text;
+use frame_tests::tests::Text;
+use second_reading::lines::counts_of;
 use writing::lines::header;
-use writing::second_reading::lines::counts_of;
 use writing::steps::write_steps;
 
 fn narrow(x: usize) -> u16

@@ -7,11 +7,11 @@ use mathlib.Core.List.{List}
 use native.Mathlib.Omega.{arith}
 use lib.ListN.{length}
 use lib.Dec.{ltb}
-use Rattle.base.proofs.ChooseLaws.{pick_elim}
-use Rattle.lent_planning.specs.Kinds.{query}
-use Rattle.lent_planning.specs.Text.TheVariants.{Query}
-use Rattle.lent_planning.specs.Reading.TheVariants.{Accepted}
-use Rattle.lent_planning.specs.Second.{reading}
+use Rattle.reading.proofs.ChooseLaws.{pick_elim}
+use Rattle.reading.specs.Kinds.{query}
+use Rattle.reading.specs.Text.TheVariants.{Query}
+use Rattle.reading.specs.Reading.TheVariants.{Accepted}
+use Rattle.reading.specs.Second.{reading}
 use Rattle.lent_planning.specs.Planner.{Answer, Result, given, plan, plan_of, steps_of, written, fitted, refused_with}
 use Rattle.lent_planning.proofs.Accepted.{few_keys}
 use Rattle.lent_planning.specs.Promised.{read_back}

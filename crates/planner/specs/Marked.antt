@@ -7,22 +7,22 @@ use mathlib.Core.List.{List, [], ◌∷◌, map, ◌++◌, flat_map}
 use Rattle.std.specs.Int.Count.{count_leading_zeros}
 use Rattle.std.specs.Float.{binary64}
 use Rattle.std.specs.Float.Ieee.{of_int, of_bits, to_bits, lt, mul, div}
-use Rattle.sqrt.specs.Sqrt.{whole_root, sqrt}
-use Rattle.measure.specs.Selectivity.{path_selectivity}
-use Rattle.measure.specs.declared.FanOut.TheVariants.{Measured}
-use Rattle.hex_lines.specs.Lines.{split}
-use Rattle.lent_planning.specs.Fields.{field_passes}
-use Rattle.lent_planning.specs.Kinds.{kind_at, query as query_text}
-use Rattle.lent_planning.specs.Frames.{pass_all}
-use Rattle.lent_planning.specs.First.{frames_of}
-use Rattle.lent_planning.specs.Keys.{begins, find}
-use Rattle.lent_planning.specs.Second.{query_reading}
+use Rattle.lent_planning.specs.Sqrt.{whole_root, sqrt}
+use Rattle.lent_planning.specs.Selectivity.{path_selectivity}
+use Rattle.lent_planning.specs.FanOut.TheVariants.{Measured}
+use Rattle.reading.specs.Lines.{split}
+use Rattle.reading.specs.Fields.{field_passes}
+use Rattle.reading.specs.Kinds.{kind_at, query as query_text}
+use Rattle.reading.specs.Frames.{pass_all}
+use Rattle.reading.specs.First.{frames_of}
+use Rattle.reading.specs.Keys.{begins, find}
+use Rattle.reading.specs.Second.{query_reading}
 use Rattle.lent_planning.specs.Ascii.{ascii}
-use Rattle.model.specs.Bound.{put, has_all, blank}
-use Rattle.model.specs.Tabulate.{tabulate}
-use Rattle.model.specs.Lowering.{mark_all, emit_read_children, child_lookups, lower}
-use Rattle.model.specs.Scheduling.{unlowered, eager_pass, passes_up_to, rounds_up_to, atom_of}
-use Rattle.model.specs.Cheapest.{scan, cheapest}
+use Rattle.lent_planning.specs.Bound.{put, has_all, blank}
+use Rattle.lent_planning.specs.Tabulate.{tabulate}
+use Rattle.lent_planning.specs.Lowering.{mark_all, emit_read_children, child_lookups, lower}
+use Rattle.lent_planning.specs.Scheduling.{unlowered, eager_pass, passes_up_to, rounds_up_to, atom_of}
+use Rattle.lent_planning.specs.Cheapest.{scan, cheapest}
 use Rattle.lent_planning.specs.Statistics.{op_card, atom_card, base_card, denominator, by_child_pos, settings}
 use Rattle.lent_planning.specs.QueryAtoms.{operands_from, bytes_from, atom_of_frame, atoms_in}
 use Rattle.lent_planning.specs.Emitters.{set_children, record_atom, record_emitters}

@@ -5,9 +5,8 @@ ghost use Rattle.lent_planning.specs.Entry.{planned_result};
 ghost use Rattle.lent_planning.specs.Handed.{handed};
 
 use lent_planning::accepted::plan_by;
-use lent_planning::fitting::fit::Planned;
-use lent_planning::gathering::beside::{Beside, is_handed};
-use lent_planning::reading::second::{
+use lent_planning::below::{Beside, Planned, is_handed};
+use reading::second::{
     LONG_INDEX, LONG_SHEET, MIDDLE_INDEX, MIDDLE_SHEET, MIDDLE_TEXT, SHORT_INDEX, SHORT_SHEET,
     SHORT_TEXT, TINY_INDEX, TINY_SHEET, TINY_TEXT,
 };

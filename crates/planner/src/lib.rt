@@ -2,5 +2,3 @@
 #![tactic(auto)]
 
 pub mod entry;
-
-pub use lent_planning::{fitting, gathering};

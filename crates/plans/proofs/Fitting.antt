@@ -11,13 +11,13 @@ use native.Mathlib.Omega.{arith}
 use lib.ListN.{length}
 use Rattle.records.specs.Limits.{items_most}
 use Rattle.records.specs.Counts.{Counts}
-use Rattle.set_model.specs.Lists.{one}
-use Rattle.model.proofs.TabulateLaws.{tabulate_mem}
-use Rattle.model.specs.Atoms.{Operand, local, global, wild, Form, A, AC, ACI, Atom, Plain, Lit, LitBind, Eq, EqGlobal, Pred, Variadic, Lookup, ByChildPos, ByContains, Step, Join, CheckEq, CheckEqGlobal, BindGlobal, CopyBinding}
-use Rattle.model.specs.Bound.{Bound, has, add}
-use Rattle.model.specs.Lowering.{pv_is_bound, pv_mark_bound, read_child, emit_read_children, child_lookups, contains_lookups, join_lookups, Emitted, expansion_of, lower_eq, lower_eq_global, lower, Lowered, done, more}
-use Rattle.model.specs.Scheduling.{State, Chosen, Fair, atom_of, numbers, schedule}
-use Rattle.model.proofs.Scheduled.{ordered, number_mem, reached}
+use Rattle.records.specs.Lists.{one}
+use Rattle.records.proofs.TabulateLaws.{tabulate_mem}
+use Rattle.records.specs.Atoms.{Operand, local, global, wild, Form, A, AC, ACI, Atom, Plain, Lit, LitBind, Eq, EqGlobal, Pred, Variadic, Lookup, ByChildPos, ByContains, Step, Join, CheckEq, CheckEqGlobal, BindGlobal, CopyBinding}
+use Rattle.records.specs.Bound.{Bound, has, add}
+use Rattle.records.specs.Lowering.{pv_is_bound, pv_mark_bound, read_child, emit_read_children, child_lookups, contains_lookups, join_lookups, Emitted, expansion_of, lower_eq, lower_eq_global, lower, Lowered, done, more}
+use Rattle.records.specs.Scheduling.{State, Chosen, Fair, atom_of, numbers, schedule}
+use Rattle.records.proofs.Scheduled.{ordered, number_mem, reached}
 use Rattle.records.specs.Items.{Each}
 use Rattle.plans.specs.StepFrames.{Byte, OperandFits, LookupFits, FormFits, ExpansionFits, StepFits, AtomFits}
 

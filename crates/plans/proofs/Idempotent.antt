@@ -6,11 +6,11 @@ use mathlib.Core.Option.{some}
 use mathlib.Core.List.{List, [], ◌∷◌, map}
 use native.Mathlib.Omega.{arith}
 use lib.ListN.{get_or}
-use Rattle.model.specs.Atoms.{Operand, local, global, wild, Form, A, AC, ACI, Atom, Plain, Lit, LitBind, Eq, EqGlobal, Pred, Variadic, Step, Expand}
-use Rattle.model.specs.Bound.{Bound, has, add}
-use Rattle.model.specs.Lowering.{pv_is_bound, pv_mark_bound, read_child, emit_read_children, Emitted, expansion_of, lower}
-use Rattle.model.specs.Scheduling.{State, Chosen, Fair, atom_of, numbers, schedule}
-use Rattle.model.proofs.Scheduled.{ordered, reached}
+use Rattle.records.specs.Atoms.{Operand, local, global, wild, Form, A, AC, ACI, Atom, Plain, Lit, LitBind, Eq, EqGlobal, Pred, Variadic, Step, Expand}
+use Rattle.records.specs.Bound.{Bound, has, add}
+use Rattle.records.specs.Lowering.{pv_is_bound, pv_mark_bound, read_child, emit_read_children, Emitted, expansion_of, lower}
+use Rattle.records.specs.Scheduling.{State, Chosen, Fair, atom_of, numbers, schedule}
+use Rattle.records.proofs.Scheduled.{ordered, reached}
 use Rattle.records.specs.Items.{Each}
 use Rattle.plans.specs.StepFrames.{frame_of}
 use Rattle.plans.proofs.Fitting.{each_append, emitted_have, eq_have, global_has, lowered_each}

@@ -8,19 +8,19 @@ use mathlib.Core.List.{List, [], ◌∷◌, ◌++◌, map, Memᴰ}
 use native.Mathlib.Omega.{arith}
 use native.Mathlib.Nat.{mul-le-mul_left, mul-suc}
 use lib.ListN.{length, drop}
-use Rattle.base.specs.Choose.{pick}
+use Rattle.records.specs.Choose.{pick}
 use Rattle.records.specs.First.{frames_of}
 use Rattle.records.specs.Counts.{Counts}
 use Rattle.records.specs.Text.TheVariants.{Plan}
-use Rattle.records.specs.Reading.TheVariants.{Accepted}
+use Rattle.records.specs.FirstReadingReading.TheVariants.{Accepted}
 use Rattle.records.specs.Second.{reading}
-use Rattle.model.proofs.TabulateLaws.{tabulate_length}
-use Rattle.model.specs.Atoms.{Operand, local, global, wild, Atom, Plain, Lit, LitBind, Eq, EqGlobal, Pred, Variadic, Lookup, Expansion, ExpandA, DecomposeAC, DecomposeACI, Step, Join, Expand}
-use Rattle.model.specs.Bound.{Bound, has, add}
-use Rattle.model.specs.Lowering.{pv_is_bound, pv_mark_bound, read_child, emit_read_children, child_lookups, contains_lookups, join_lookups, Emitted, expansion_of, lower}
-use Rattle.model.specs.Scheduling.{State, unplanned, Chosen, Fair, unlowered, atom_of, numbers, schedule}
-use Rattle.model.proofs.Scheduled.{Reached, fresh, takes, unlowered_lt, number_mem, reached}
-use Rattle.model.proofs.Lengths.{flat_length}
+use Rattle.records.proofs.TabulateLaws.{tabulate_length}
+use Rattle.records.specs.Atoms.{Operand, local, global, wild, Atom, Plain, Lit, LitBind, Eq, EqGlobal, Pred, Variadic, Lookup, Expansion, ExpandA, DecomposeAC, DecomposeACI, Step, Join, Expand}
+use Rattle.records.specs.Bound.{Bound, has, add}
+use Rattle.records.specs.Lowering.{pv_is_bound, pv_mark_bound, read_child, emit_read_children, child_lookups, contains_lookups, join_lookups, Emitted, expansion_of, lower}
+use Rattle.records.specs.Scheduling.{State, unplanned, Chosen, Fair, unlowered, atom_of, numbers, schedule}
+use Rattle.records.proofs.Scheduled.{Reached, fresh, takes, unlowered_lt, number_mem, reached}
+use Rattle.records.proofs.Lengths.{flat_length}
 use Rattle.records.specs.Items.{Each}
 use Rattle.plans.specs.StepFrames.{operand_bytes, lookup_bytes, elements_of, element_bytes, frame_of, step_of, AtomFits}
 use Rattle.plans.specs.PlanText.{text_length, plan_text, plan_counts, plan_most, QueryFits}

@@ -10,7 +10,7 @@ use lib.ListN.{length, get_or, drop, length-map}
 use lib.Dec.{eqb}
 use lib.Pow.{are_bytes}
 use borrow.Author.Tests.{lt-ltb, le-ltb, le-leb, eq-eqb, ne_eqb, eqb-true}
-use Rattle.hexadecimal.specs.Digits.{bytes_of, digits_of}
+use Rattle.records.specs.Digits.{bytes_of, digits_of}
 use Rattle.records.specs.Limits.{text_most, variables_most, globals_most, literals_most}
 use Rattle.records.specs.Fields.{field_passes, field_fits, field_in, field_real, no_counts}
 use Rattle.records.specs.Kinds.{kinds, kind_at}
@@ -19,13 +19,13 @@ use Rattle.records.specs.Faults.{belongs, frame_fault}
 use Rattle.records.specs.First.{frames_of, line_fault, first_lines, first_from, first_line, steps_say, steps_right, first_reading}
 use Rattle.records.specs.Counts.{Counts}
 use Rattle.records.specs.Text.TheVariants.{Plan}
-use Rattle.records.specs.Reading.{Reading}
-use Rattle.records.specs.Reading.TheVariants.{Accepted}
+use Rattle.records.specs.FirstReadingReading.{Reading}
+use Rattle.records.specs.FirstReadingReading.TheVariants.{Accepted}
 use Rattle.records.specs.Keys.{key_given}
 use Rattle.records.specs.FromTable.{takes_table}
 use Rattle.records.specs.Leading.{leads}
 use Rattle.records.specs.Second.{counts_of, second_fault, second_from, reading}
-use Rattle.model.specs.Atoms.{Step}
+use Rattle.records.specs.Atoms.{Step}
 use Rattle.records.specs.Items.{Each}
 use Rattle.plans.specs.StepFrames.{frame_of, header_of, step_of, CountsFit, StepFits}
 use Rattle.plans.specs.PlanText.{text_length, plan_frames, plan_text, plan_counts}

@@ -12,7 +12,7 @@ use lib.Pow.{are_bytes}
 use borrow.Author.Tests.{lt-ltb, le-leb}
 use Rattle.records.specs.Limits.{items_most, lookups_most, idempotent_most}
 use Rattle.records.specs.Fields.{field_fits, field_in, field_real, field_passes, operand_in, lookup_in}
-use Rattle.field_values.specs.FieldValues.{lookup_fits, ends_fit, rest_fits}
+use Rattle.records.specs.FieldValues.{lookup_fits, ends_fit, rest_fits}
 use Rattle.records.specs.Kinds.{kinds, kind_at}
 use Rattle.records.specs.Frames.{frame_length, pass_all, frame_passes}
 use Rattle.records.specs.Faults.{belongs}
@@ -21,9 +21,9 @@ use Rattle.records.specs.Counts.{Counts}
 use Rattle.records.specs.Test.TheVariants.{Limits, Range, Reals}
 use Rattle.records.specs.Text.TheVariants.{Plan}
 use Rattle.records.specs.Keys.{key_given}
-use Rattle.model.proofs.Bools.{both, first, second}
-use Rattle.model.specs.Atoms.{Operand, local, global, wild, Lookup, ByOp, ByChildPos, ByRepr, ByContains, ExpandA, DecomposeAC, DecomposeACI, Step, Join, ExtractChild, CheckChildEq, CheckEq, CheckEqGlobal, BindGlobal, CopyBinding, Expand, ExtractLitVal, CheckLit, CheckPred}
-use Rattle.model.proofs.Lengths.{flat_length}
+use Rattle.records.proofs.Bools.{both, first, second}
+use Rattle.records.specs.Atoms.{Operand, local, global, wild, Lookup, ByOp, ByChildPos, ByRepr, ByContains, ExpandA, DecomposeAC, DecomposeACI, Step, Join, ExtractChild, CheckChildEq, CheckEq, CheckEqGlobal, BindGlobal, CopyBinding, Expand, ExtractLitVal, CheckLit, CheckPred}
+use Rattle.records.proofs.Lengths.{flat_length}
 use Rattle.records.specs.Items.{Each}
 use Rattle.plans.specs.StepFrames.{tag_of, index_of, operand_bytes, lookup_bytes, Element, elements_of, element_bytes, flag_of, or_zero, truth_byte, ends_flags, frame_of, Byte, CountsFit, OperandFits, LookupFits, HandleFits, StepFits}
 use Rattle.records.proofs.ItemsLaws.{behind}

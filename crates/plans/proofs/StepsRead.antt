@@ -9,10 +9,10 @@ use lib.ListN.{length, get_or}
 use lib.Seq.{get_or-append-add}
 use lib.Dec.{eqb, leb}
 use borrow.Author.Tests.{ne_eqb}
-use Rattle.base.specs.Choose.{pick}
-use Rattle.hexadecimal.specs.Digits.{word_at}
+use Rattle.records.specs.Choose.{pick}
+use Rattle.records.specs.Digits.{word_at}
 use Rattle.records.specs.Counts.{Counts}
-use Rattle.model.specs.Atoms.{Operand, local, global, wild, Lookup, ByOp, ByChildPos, ByRepr, ByContains, ExpandA, DecomposeAC, DecomposeACI, Step, Join, ExtractChild, CheckChildEq, CheckEq, CheckEqGlobal, BindGlobal, CopyBinding, Expand, ExtractLitVal, CheckLit, CheckPred, is_join}
+use Rattle.records.specs.Atoms.{Operand, local, global, wild, Lookup, ByOp, ByChildPos, ByRepr, ByContains, ExpandA, DecomposeAC, DecomposeACI, Step, Join, ExtractChild, CheckChildEq, CheckEq, CheckEqGlobal, BindGlobal, CopyBinding, Expand, ExtractLitVal, CheckLit, CheckPred, is_join}
 use Rattle.records.specs.Items.{items_at, Each}
 use Rattle.records.specs.Lookups.{operand_at, lookup_at}
 use Rattle.plans.specs.StepFrames.{operand_bytes, lookup_bytes, Element, elements_of, element_bytes, flag_of, or_zero, truth_byte, ends_flags, word_bytes, frame_of, element_at, some_if, step_of, OperandFits, LookupFits, StepFits}

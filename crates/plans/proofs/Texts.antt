@@ -10,12 +10,12 @@ use lib.Seq.{take-append_seam}
 use lib.Dec.{T, eqb, ltb}
 use lib.Pow.{are_bytes}
 use borrow.Author.Tests.{ltb-true, ne_eqb, eq-eqb}
-use Rattle.hexadecimal.specs.Digits.{digit_value, bytes_of, hex_digit, digits_of}
-use Rattle.hex_lines.specs.Lines.{split, with_line, all_digits, is_hex, end_of}
-use Rattle.hexadecimal.proofs.Bytes.{digit_read, digit_above, bytes_read, digits_length}
-use Rattle.hex_lines.proofs.Cuts.{end_is}
+use Rattle.records.specs.Digits.{digit_value, bytes_of, hex_digit, digits_of}
+use Rattle.records.specs.Lines.{split, with_line, all_digits, is_hex, end_of}
+use Rattle.records.proofs.Bytes.{digit_read, digit_above, bytes_read, digits_length}
+use Rattle.records.proofs.Cuts.{end_is}
 use Rattle.records.specs.First.{frames_of, first_line}
-use Rattle.model.proofs.Bools.{first, second}
+use Rattle.records.proofs.Bools.{first, second}
 use Rattle.records.specs.Items.{Each}
 use Rattle.plans.specs.PlanText.{text_of, text_length}
 

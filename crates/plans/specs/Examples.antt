@@ -1,7 +1,7 @@
 -- The plan of document 01's example as frames and text. Computed.
 use Rattle.std.specs.Prelude.{◌≡◌, refl, ℕ}
 use mathlib.Core.List.{List, [], ◌∷◌, flat_map}
-use Rattle.model.specs.Atoms.{ByOp, ByRepr, Step, Join, ExtractChild}
+use Rattle.records.specs.Atoms.{ByOp, ByRepr, Step, Join, ExtractChild}
 use Rattle.plans.specs.StepFrames.{frame_of}
 use Rattle.plans.specs.PlanText.{text_of, plan_text}
 

@@ -1,5 +1,4 @@
 // The plan as text: definitions in specs/, theorems in proofs/.
 #![tactic(auto)]
 
-pub use records;
-pub use records::{fields, first_reading, frame_tests, frames, kinds};
+pub mod below;

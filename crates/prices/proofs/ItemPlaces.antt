@@ -5,11 +5,11 @@ use mathlib.Core.Bool.{Bool}
 use mathlib.Core.List.{List}
 use lib.Dec.{ltb}
 use lib.ListN.{get_or}
-use Rattle.passes.specs.Fields.{width}
-use Rattle.passes.specs.Kinds.{kind_at, fixed_length, items_of}
-use Rattle.passes.specs.Frames.{kind_of}
-use Rattle.model.specs.Bound.{Bound}
-use Rattle.model.specs.Lowering.{pv_is_bound}
+use Rattle.fields.specs.Fields.{width}
+use Rattle.kinds.specs.Kinds.{kind_at, fixed_length, items_of}
+use Rattle.frames.specs.Frames.{kind_of}
+use Rattle.passes.specs.Bound.{Bound}
+use Rattle.passes.specs.Lowering.{pv_is_bound}
 use Rattle.passes.specs.Lookups.{operand_at}
 use Rattle.prices.specs.Items.{ItemsOf, item_at}
 use Rattle.prices.specs.declared.items.Items.{Items}

@@ -1,4 +1,2 @@
 pub mod ItemPlaces
 pub mod PriceLaws
-pub use Rattle.passes.proofs.AtomLaws
-pub use Rattle.passes.proofs.OperandLaws

@@ -9,19 +9,19 @@ use lib.ListN.{length, get_or, take, drop, set, length-set, length-drop, take-ap
 use lib.Seq.{get_or-set_same, get_or-set_other, get_or-take, take-set-le, length-take-le, take-append-le, drop-append-le, take_at, drop_at}
 use lib.Ieee.{Float, binary64, mul}
 use borrow.Author.Tests.{ltb-true, ltb-false}
-use Rattle.passes.specs.Sheet.{frame_at, frames_in}
-use Rattle.passes.specs.Kinds.{items_of}
-use Rattle.passes.specs.Frames.{kind_of}
+use Rattle.frames.specs.Sheet.{frame_at, frames_in}
+use Rattle.kinds.specs.Kinds.{items_of}
+use Rattle.frames.specs.Frames.{kind_of}
 use Rattle.measure.specs.Selectivity.{zero64, path_selectivity}
 use Rattle.measure.specs.declared.FanOut.{FanOut}
 use Rattle.measure.specs.declared.FanOut.TheVariants.{Measured, Unmeasured}
 use Rattle.passes.specs.Statistics.{base_card, denominator, by_child_pos, by_contains, by_repr, nodes}
-use Rattle.model.specs.Bound.{Bound}
+use Rattle.passes.specs.Bound.{Bound}
 use Rattle.prices.specs.Items.{item_fan, or_fan, ItemsOf, item_at, repr_selectivity, repr_cost}
 use Rattle.prices.specs.Prices.{row_size, item_price, ItemPriced, ItemsPriced, RowItems, AtomPrices, row_at, atom_frame, FewItems, Priced}
 use Rattle.prices.specs.declared.items.Items.{Items}
 use Rattle.prices.specs.declared.items.Item.{Item}
-use Rattle.base.proofs.Lists.{any_default}
+use Rattle.hexadecimal.proofs.Lists.{any_default}
 
 -- ---- what is read of a row
 

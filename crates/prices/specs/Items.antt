@@ -6,11 +6,11 @@ use Rattle.measure.specs.Selectivity.{path_selectivity}
 use Rattle.measure.specs.declared.FanOut.{FanOut}
 use Rattle.measure.specs.declared.FanOut.TheVariants.{Measured, Unmeasured}
 use Rattle.passes.specs.Statistics.{base_card, by_child_pos, by_contains, by_repr, nodes}
-use Rattle.passes.specs.Fields.{width as width_of}
-use Rattle.passes.specs.Kinds.{fixed_length, items_of}
-use Rattle.passes.specs.Frames.{kind_of}
-use Rattle.model.specs.Bound.{Bound}
-use Rattle.model.specs.Lowering.{pv_is_bound}
+use Rattle.fields.specs.Fields.{width as width_of}
+use Rattle.kinds.specs.Kinds.{fixed_length, items_of}
+use Rattle.frames.specs.Frames.{kind_of}
+use Rattle.passes.specs.Bound.{Bound}
+use Rattle.passes.specs.Lowering.{pv_is_bound}
 use Rattle.passes.specs.Lookups.{operand_at}
 use Rattle.prices.specs.declared.items.Items.{Items}
 use Rattle.prices.specs.declared.items.Item.{Item}

@@ -1,4 +1,3 @@
 pub mod Items
 pub mod Prices
-pub use Rattle.passes.specs.AtomLines
 pub use Rattle.passes.specs.ItemOperands

@@ -1,9 +1,9 @@
 -- The prices of a query's atoms that no sample changes, in one table: each is found once, before the rounds.
 use Rattle.std.specs.Prelude.{ℕ, ◌+◌, ◌*◌, ◌<◌, ◌≤◌, ◌≡◌, Bool, List, ltb, length, get_or, take, drop, Float}
-use Rattle.passes.specs.Limits.{atoms_most}
-use Rattle.passes.specs.Sheet.{frame_at, frames_in}
-use Rattle.passes.specs.Kinds.{items_of}
-use Rattle.passes.specs.Frames.{kind_of}
+use Rattle.fields.specs.Limits.{atoms_most}
+use Rattle.frames.specs.Sheet.{frame_at, frames_in}
+use Rattle.kinds.specs.Kinds.{items_of}
+use Rattle.frames.specs.Frames.{kind_of}
 use Rattle.measure.specs.Selectivity.{zero64, path_selectivity}
 use Rattle.passes.specs.Statistics.{base_card, denominator}
 use Rattle.prices.specs.Items.{item_fan, repr_cost}

@@ -2,11 +2,11 @@
 ghost use Rattle.std.specs.Prelude.{◌≡◌, ◌+◌, ◌*◌, ◌<◌};
 ghost use Rattle.prices.specs.Items.{ItemsOf, item_at};
 
+use fields::field::narrow;
+use frames::frame::items_of;
 use hexadecimal::byte_at;
-use passes::binding::operands::pv_is_bound;
-use passes::fields::field::narrow;
-use passes::frames::frame::items_of;
-use passes::kinds::table::{fixed_length, item_width};
+use kinds::table::{fixed_length, item_width};
+use passes::below::pv_is_bound;
 
 // The items of a frame: the byte of the first, the width and number of all, the atom's operator, and whether they are elements.
 #[derive(Clone, Copy)]

@@ -3,5 +3,3 @@
 
 pub mod items;
 pub mod table;
-
-pub use passes::{binding, lowering};

@@ -1,20 +1,18 @@
 // The prices of a query's atoms that no sample changes, in one table: each is found once, before the rounds.
 ghost use Rattle.std.specs.Prelude.{◌≡◌, ◌+◌, ◌-◌, ◌*◌, ◌<◌, ◌≤◌, length, take, drop};
-ghost use Rattle.passes.specs.Sheet.{frames_in};
-ghost use Rattle.passes.specs.Kinds.{items_of};
-ghost use Rattle.passes.specs.Frames.{kind_of};
+ghost use Rattle.frames.specs.Sheet.{frames_in};
+ghost use Rattle.kinds.specs.Kinds.{items_of};
+ghost use Rattle.frames.specs.Frames.{kind_of};
 ghost use Rattle.passes.specs.Given.{Given};
 ghost use Rattle.passes.specs.Eager.{Located};
 ghost use Rattle.prices.specs.Items.{item_fan, repr_selectivity};
 ghost use Rattle.prices.specs.Prices.{row_size, ItemsPriced, AtomPrices, FewItems, Priced};
 
 use super::items::{Items, items_at};
+use fields::field::narrow;
 use measure::{FanOut, path_selectivity};
+use passes::below::{base_card, by_child_pos, by_contains, by_repr, denominator, nodes};
 use passes::eager::atom_line;
-use passes::fields::field::narrow;
-use passes::query::statistics::{
-    base_card, by_child_pos, by_contains, by_repr, denominator, nodes,
-};
 
 // How many numbers a row has, and a table of 64 rows.
 pub const ROW_SIZE: usize = 18;

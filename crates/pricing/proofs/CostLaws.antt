@@ -7,31 +7,31 @@ use lib.Dec.{T}
 use lib.Ieee.{Float}
 use lib.ListN.{length, get_or}
 use borrow.Author.Tests.{not-true, not-false}
-use Rattle.base.specs.Choose.{pick}
-use Rattle.item_pricing.specs.Faults.{is_atom}
-use Rattle.item_pricing.specs.Kinds.{kinds, kind_at}
-use Rattle.measure.specs.Selectivity.{zero64}
-use Rattle.item_pricing.specs.Statistics.{base_card}
-use Rattle.item_pricing.specs.Sampled.{Sampled}
-use Rattle.model.specs.Atoms.{Atom, Plain, Lit, LitBind, Eq, EqGlobal, Pred, Variadic}
-use Rattle.model.specs.Bound.{Bound, has}
-use Rattle.model.specs.Scheduling.{scans}
-use Rattle.item_pricing.specs.Sampling.{Tally}
-use Rattle.item_pricing.specs.Emitters.{Emitters}
-use Rattle.item_pricing.specs.Memo.{tally_at}
-use Rattle.item_pricing.specs.QueryAtoms.{operands_from, atom_of_frame}
-use Rattle.item_pricing.specs.Costs.{Costed as Cost, child_costs, element_costs, by_repr_cost, estimate_cost}
-use Rattle.item_pricing.specs.CostSampling.{Sampling}
-use Rattle.item_pricing.specs.AtomLines.{AtomLine}
-use Rattle.item_pricing.specs.ItemOperands.{item_operands}
-use Rattle.item_pricing.proofs.AtomLaws.{by_kind}
+use Rattle.hexadecimal.specs.Choose.{pick}
+use Rattle.cost.specs.Faults.{is_atom}
+use Rattle.cost.specs.Kinds.{kinds, kind_at}
+use Rattle.cost.specs.Selectivity.{zero64}
+use Rattle.cost.specs.Statistics.{base_card}
+use Rattle.cost.specs.Sampled.{Sampled}
+use Rattle.cost.specs.Atoms.{Atom, Plain, Lit, LitBind, Eq, EqGlobal, Pred, Variadic}
+use Rattle.cost.specs.Bound.{Bound, has}
+use Rattle.cost.specs.Scheduling.{scans}
+use Rattle.cost.specs.Sampling.{Tally}
+use Rattle.cost.specs.Emitters.{Emitters}
+use Rattle.cost.specs.Memo.{tally_at}
+use Rattle.cost.specs.QueryAtoms.{operands_from, atom_of_frame}
+use Rattle.cost.specs.Costs.{Costed as Cost, child_costs, element_costs, by_repr_cost, estimate_cost}
+use Rattle.cost.specs.declared.memo.Sampling.{Sampling}
+use Rattle.lowering.specs.AtomLines.{AtomLine}
+use Rattle.binding.specs.ItemOperands.{item_operands}
+use Rattle.lowering.proofs.AtomLaws.{by_kind}
 use Rattle.item_pricing.specs.ItemCosts.{item_costs, frame_costs, Stands, cost_at}
 use Rattle.pricing.specs.LiteralKinds.{literal_kind}
-use Rattle.item_pricing.specs.Prices.{AtomPrices}
+use Rattle.prices.specs.Prices.{AtomPrices}
 use Rattle.item_pricing.specs.Remembering.{Remembers}
 use Rattle.item_pricing.specs.declared.items.Costed.{Costed}
 use Rattle.pricing.proofs.ItemsLaws.{children_are, elements_are}
-use Rattle.item_pricing.proofs.PriceLaws.{row_base, row_node}
+use Rattle.prices.proofs.PriceLaws.{row_base, row_node}
 
 module _ (fs : List (List ℕ)) (em : Emitters) (B : Bound) (i : ℕ) (t : Tally) where
   -- 04, 05, 06

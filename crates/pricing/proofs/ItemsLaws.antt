@@ -7,20 +7,20 @@ use native.Mathlib.Omega.{arith}
 use native.Mathlib.Numerals.{add-one}
 use lib.Ieee.{Float}
 use lib.ListN.{length}
-use Rattle.item_pricing.specs.Sampled.{Sampled}
-use Rattle.model.specs.Atoms.{Operand}
-use Rattle.model.specs.Bound.{Bound}
-use Rattle.item_pricing.specs.Emitters.{Emitters}
-use Rattle.item_pricing.specs.QueryAtoms.{operands_from}
-use Rattle.item_pricing.specs.Costs.{Costed as Cost, child_costs, element_costs}
+use Rattle.cost.specs.Sampled.{Sampled}
+use Rattle.cost.specs.Atoms.{Operand}
+use Rattle.cost.specs.Bound.{Bound}
+use Rattle.cost.specs.Emitters.{Emitters}
+use Rattle.cost.specs.QueryAtoms.{operands_from}
+use Rattle.cost.specs.Costs.{Costed as Cost, child_costs, element_costs}
 use Rattle.item_pricing.proofs.Remembered.{children_grow, elements_grow}
-use Rattle.item_pricing.proofs.OperandLaws.{operands_more}
+use Rattle.binding.proofs.OperandLaws.{operands_more}
 use Rattle.item_pricing.specs.ItemCosts.{item_cost, one_cost, item_costs, cost_behind, frame_costs, Stands, cost_at}
-use Rattle.item_pricing.specs.Items.{ItemsOf, item_at}
+use Rattle.prices.specs.Items.{ItemsOf, item_at}
 use Rattle.item_pricing.specs.Remembering.{Remembers}
 use Rattle.item_pricing.specs.declared.items.Costed.{Costed}
-use Rattle.item_pricing.specs.PricesItems.{Items}
-use Rattle.item_pricing.specs.Item.{Item}
+use Rattle.prices.specs.declared.items.Items.{Items}
+use Rattle.prices.specs.declared.items.Item.{Item}
 
 module _ (fs : List (List ℕ)) (em : Emitters) (B : Bound) (o : ℕ) where
   pub children_are : (cs : List Operand) (p : ℕ) (c : Cost) → item_costs fs em B o false p cs c ≡ child_costs fs em B o p cs c

@@ -1,23 +1,23 @@
 // The cost of an atom, read off its frame. "Costs: each operation rounded once, in the order given by the Rust."
 ghost use Rattle.std.specs.Prelude.{◌≡◌, map, ◌≤◌, length};
-ghost use Rattle.item_pricing.specs.Sheet.{frames_in};
-ghost use Rattle.item_pricing.specs.Given.{Given};
-ghost use Rattle.item_pricing.specs.Costs.{estimate_cost};
-ghost use Rattle.item_pricing.specs.Emitters.{decode};
-ghost use Rattle.item_pricing.specs.Memo.{tally_at};
-ghost use Rattle.item_pricing.specs.QueryAtoms.{atom_of_frame};
-ghost use Rattle.item_pricing.specs.AtomLines.{AtomLine};
+ghost use Rattle.cost.specs.Sheet.{frames_in};
+ghost use Rattle.cost.specs.Given.{Given};
+ghost use Rattle.cost.specs.Costs.{estimate_cost};
+ghost use Rattle.cost.specs.Emitters.{decode};
+ghost use Rattle.cost.specs.Memo.{tally_at};
+ghost use Rattle.cost.specs.QueryAtoms.{atom_of_frame};
+ghost use Rattle.lowering.specs.AtomLines.{AtomLine};
 ghost use Rattle.item_pricing.specs.Remembering.{Samples, Remembers};
-ghost use Rattle.item_pricing.specs.Prices.{AtomPrices};
+ghost use Rattle.prices.specs.Prices.{AtomPrices};
 ghost use Rattle.item_pricing.specs.ItemCosts.{Stands};
 ghost use Rattle.pricing.specs.LiteralKinds.{literal_kind};
 
 use super::items::item_costs;
+use binding::sets::is_set;
+use cost::memo::Sampling;
 use hexadecimal::byte_at;
-use item_pricing::binding::sets::is_set;
-use item_pricing::cost::memo::Sampling;
 use item_pricing::items::Costed;
-use item_pricing::lowering::atom::scans;
+use lowering::atom::scans;
 
 // Whether a kind is Lit or LitBind.
 fn is_literal(kind: u8) -> bool

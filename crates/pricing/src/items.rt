@@ -1,14 +1,14 @@
 // The items of an atom's frame, one behind the other.
 ghost use Rattle.std.specs.Prelude.{map, ◌+◌, ◌<◌, ◌≤◌, length};
-ghost use Rattle.item_pricing.specs.Sheet.{frames_in};
-ghost use Rattle.item_pricing.specs.Given.{Given};
-ghost use Rattle.item_pricing.specs.Emitters.{decode};
+ghost use Rattle.cost.specs.Sheet.{frames_in};
+ghost use Rattle.cost.specs.Given.{Given};
+ghost use Rattle.cost.specs.Emitters.{decode};
 ghost use Rattle.item_pricing.specs.Remembering.{Samples, Remembers};
-ghost use Rattle.item_pricing.specs.Prices.{RowItems};
+ghost use Rattle.prices.specs.Prices.{RowItems};
 ghost use Rattle.item_pricing.specs.ItemCosts.{frame_costs, Stands, cost_at};
 
 use item_pricing::items::{Costed, item_cost};
-use item_pricing::prices::items::{item_at, items_at};
+use prices::items::{item_at, items_at};
 
 // The items of a frame, one behind the other.
 pub fn item_costs(

@@ -1,13 +1,11 @@
 // What the programs share: room for a text, and answers on standard output.
 #![tactic(auto)]
 
+pub mod below;
+
 use answer_lines::{end_line, refusal_line, run_refusal_line};
-pub use entries;
 use entries::run::{Outcome, status_number};
-pub use entries::{modes, named_joins};
-pub use fitting;
 use fitting::fit::Planned;
-pub use fitting::gathering;
 
 // Room for a text: one byte more than it may have, so that a longer text is seen to be too long.
 pub const TEXT_ROOM: usize = 65537;

@@ -7,11 +7,11 @@ use native.Mathlib.Omega.{arith}
 use lib.ListN.{length, get_or, replicate, length-replicate}
 use lib.Dec.{leb, eqb}
 use borrow.Author.Tests.{leb-true}
-use Rattle.base.specs.Choose.{pick}
-use Rattle.base.proofs.ChooseLaws.{both_hold}
-use Rattle.base.proofs.Lists.{blank_at}
+use Rattle.second_reading.specs.Choose.{pick}
+use Rattle.second_reading.proofs.ChooseLaws.{both_hold}
+use Rattle.second_reading.proofs.Lists.{blank_at}
 use Rattle.second_reading.specs.Sets.{set_words}
-use Rattle.hex_lines.specs.Lines.{split}
+use Rattle.second_reading.specs.Lines.{split}
 use Rattle.second_reading.specs.Kinds.{kinds, kind_at}
 use Rattle.second_reading.specs.Among.{is_between, has_kinds}
 use Rattle.second_reading.specs.Sheet.{frames_in}

@@ -4,7 +4,7 @@ use mathlib.Core.Path.{◌≡◌}
 use mathlib.Core.List.{List}
 use native.Mathlib.Omega.{arith}
 use lib.ListN.{length, replicate, length-replicate}
-use Rattle.base.proofs.Lists.{blank_at}
+use Rattle.second_reading.proofs.Lists.{blank_at}
 use Rattle.second_reading.specs.Limits.{text_most}
 use Rattle.second_reading.specs.Index.{slots_for}
 use Rattle.reading.specs.IndexedReading.{sheet_for, index_for, Lent}

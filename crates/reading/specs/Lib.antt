@@ -1,8 +1,11 @@
 pub mod IndexedReading
 pub use Rattle.second_reading.specs.Among
+pub use Rattle.second_reading.specs.Choose
 pub use Rattle.second_reading.specs.Counts
+pub use Rattle.second_reading.specs.Digits
 pub use Rattle.second_reading.specs.Faults
 pub use Rattle.second_reading.specs.Field
+pub use Rattle.second_reading.specs.FieldValues
 pub use Rattle.second_reading.specs.Fields
 pub use Rattle.second_reading.specs.First
 pub use Rattle.second_reading.specs.Frames
@@ -12,9 +15,11 @@ pub use Rattle.second_reading.specs.Keys
 pub use Rattle.second_reading.specs.Kinds
 pub use Rattle.second_reading.specs.Leading
 pub use Rattle.second_reading.specs.Limits
+pub use Rattle.second_reading.specs.Lines
 pub use Rattle.second_reading.specs.Reading
 pub use Rattle.second_reading.specs.Rereading
 pub use Rattle.second_reading.specs.Second
 pub use Rattle.second_reading.specs.Sheet
+pub use Rattle.second_reading.specs.Table
 pub use Rattle.second_reading.specs.Test
 pub use Rattle.second_reading.specs.Text

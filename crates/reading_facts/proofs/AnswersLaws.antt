@@ -8,10 +8,10 @@ use native.Mathlib.Omega.{arith}
 use lib.ListN.{length, get_or, length-map}
 use borrow.Author.Tests.{lt-ltb, le-ltb, ne_eqb, ltb-true, ltb-false, eqb-true}
 use lib.Dec.{ltb, eqb}
-use Rattle.base.specs.Choose.{pick}
-use Rattle.base.proofs.ChooseLaws.{pick_elim}
-use Rattle.hexadecimal.specs.Digits.{bytes_of, short_at}
-use Rattle.hex_lines.specs.Lines.{split, is_hex}
+use Rattle.reading.specs.Choose.{pick}
+use Rattle.reading.proofs.ChooseLaws.{pick_elim}
+use Rattle.reading.specs.Digits.{bytes_of, short_at}
+use Rattle.reading.specs.Lines.{split, is_hex}
 use Rattle.reading.specs.Limits.{text_most}
 use Rattle.reading.specs.Fields.{field_passes, no_counts}
 use Rattle.reading.specs.Among.{is_between, has_kinds}

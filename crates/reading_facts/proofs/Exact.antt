@@ -9,9 +9,9 @@ use lib.ListN.{length, get_or, take}
 use lib.Seq.{get_or-take, length-take-le}
 use lib.Dec.{ltb, eqb}
 use borrow.Author.Tests.{lt-ltb, le-ltb, eq-eqb, ne_eqb, eqb-false}
-use Rattle.base.specs.Choose.{pick}
-use Rattle.hexadecimal.specs.Digits.{bytes_of}
-use Rattle.hex_lines.specs.Lines.{split, is_hex}
+use Rattle.reading.specs.Choose.{pick}
+use Rattle.reading.specs.Digits.{bytes_of}
+use Rattle.reading.specs.Lines.{split, is_hex}
 use Rattle.reading.specs.Limits.{text_most}
 use Rattle.reading.specs.Frames.{kind_of}
 use Rattle.reading.specs.Faults.{is_counted, counted_most, counted, has_room}

@@ -7,9 +7,9 @@ use native.Mathlib.Omega.{arith}
 use lib.ListN.{length, get_or, length-map}
 use lib.Dec.{ltb, eqb}
 use borrow.Author.Tests.{le-ltb, ne_eqb, ltb-true, ltb-false}
-use Rattle.base.proofs.ChooseLaws.{pick_elim}
-use Rattle.hexadecimal.specs.Digits.{bytes_of}
-use Rattle.hex_lines.specs.Lines.{Split, split, with_line, with_byte}
+use Rattle.reading.proofs.ChooseLaws.{pick_elim}
+use Rattle.reading.specs.Digits.{bytes_of}
+use Rattle.reading.specs.Lines.{Split, split, with_line, with_byte}
 use Rattle.reading.specs.Limits.{text_most}
 use Rattle.reading.specs.Faults.{counted}
 use Rattle.reading.specs.First.{frames_of, line_fault, or_else, first_lines, first_from, steps_say, steps_right}

@@ -7,8 +7,8 @@ use native.Mathlib.Omega.{arith}
 use lib.ListN.{length, get_or}
 use lib.Dec.{eqb}
 use borrow.Author.Tests.{eqb-true}
-use Rattle.base.specs.Choose.{pick}
-use Rattle.base.proofs.ChooseLaws.{both_hold}
+use Rattle.reading.specs.Choose.{pick}
+use Rattle.reading.proofs.ChooseLaws.{both_hold}
 use Rattle.reading.specs.Keys.{begins, find, is_found}
 
 no_truth : false ≡ true → ⊥

@@ -5,9 +5,9 @@ use mathlib.Core.Bool.{Bool, true}
 use mathlib.Core.List.{List, [], ◌∷◌, map}
 use lib.ListN.{get_or, take}
 use lib.Dec.{eqb}
-use Rattle.hexadecimal.specs.Digits.{bytes_of}
-use Rattle.hex_lines.specs.Lines.{split, end_of}
-use Rattle.hex_lines.proofs.Case.{lowered, lower, bytes_lower, length_lower, hex_lower, end_lowered, split_lower}
+use Rattle.reading.specs.Digits.{bytes_of}
+use Rattle.reading.specs.Lines.{split, end_of}
+use Rattle.reading.proofs.Case.{lowered, lower, bytes_lower, length_lower, hex_lower, end_lowered, split_lower}
 use Rattle.reading.specs.Faults.{counted}
 use Rattle.reading.specs.First.{frames_of, line_fault, first_lines, first_from, first_line, steps_right, first_reading}
 use Rattle.reading.specs.Text.{Text}

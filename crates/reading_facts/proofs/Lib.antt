@@ -6,10 +6,7 @@ pub mod Lookups
 pub mod Passes
 pub mod Whole
 pub mod Found
-pub use Rattle.reading.proofs.BehindLaws
-pub use Rattle.reading.proofs.LentLaws
-pub use Rattle.reading.proofs.NoteLaws
-pub use Rattle.reading.proofs.ReadLaws
-pub use Rattle.reading.proofs.ReadingLaws
+pub use Rattle.reading.proofs.Bytes
+pub use Rattle.reading.proofs.ChooseLaws
+pub use Rattle.reading.proofs.Lists
 pub use Rattle.reading.proofs.SheetLaws
-pub use Rattle.reading.proofs.SlotLaws

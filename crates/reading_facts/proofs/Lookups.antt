@@ -5,7 +5,7 @@ use mathlib.Core.Bool.{Bool, true, false}
 use mathlib.Core.List.{List, [], ◌∷◌}
 use native.Mathlib.Omega.{arith}
 use lib.ListN.{length, get_or}
-use Rattle.base.specs.Choose.{pick}
+use Rattle.reading.specs.Choose.{pick}
 use Rattle.reading.specs.Keys.{begins, find, is_found}
 
 -- what is found stands in the text

@@ -6,7 +6,7 @@ use mathlib.Core.List.{List, [], ◌∷◌}
 use native.Mathlib.Omega.{arith}
 use native.Mathlib.Nat.{add-zero, add_assoc, mul-suc}
 use lib.ListN.{length, get_or, take, replicate}
-use Rattle.base.proofs.ChooseLaws.{both_hold}
+use Rattle.reading.proofs.ChooseLaws.{both_hold}
 use Rattle.reading.specs.Fields.{width}
 use Rattle.reading.specs.Kinds.{none, widths, fixed_length, items_of}
 use Rattle.reading.specs.Frames.{kind_of, pass_all, frame_passes}

@@ -11,12 +11,12 @@ use lib.Seq.{get_or-take, length-take-le}
 use lib.Dec.{T, leb, eqb}
 use lib.Pow.{are_bytes}
 use borrow.Author.Tests.{leb-true, eqb-true, eq-eqb, ne_eqb}
-use Rattle.base.specs.Choose.{pick}
-use Rattle.base.proofs.ChooseLaws.{both_hold}
-use Rattle.hexadecimal.specs.Digits.{bytes_of}
-use Rattle.hexadecimal.proofs.Bytes.{digits_bytes}
-use Rattle.hex_lines.specs.Lines.{split, is_hex, end_of}
-use Rattle.hex_lines.proofs.Cuts.{cut, end_is, all_rest}
+use Rattle.reading.specs.Choose.{pick}
+use Rattle.reading.proofs.ChooseLaws.{both_hold}
+use Rattle.reading.specs.Digits.{bytes_of}
+use Rattle.reading.proofs.Bytes.{digits_bytes}
+use Rattle.reading.specs.Lines.{split, is_hex, end_of}
+use Rattle.reading.proofs.Cuts.{cut, end_is, all_rest}
 use Rattle.reading.specs.Limits.{text_most, variables_most, globals_most, literals_most, atoms_most, rows_most}
 use Rattle.reading.specs.Fields.{field_passes, no_counts}
 use Rattle.reading.specs.Kinds.{kind_at, query, plan}

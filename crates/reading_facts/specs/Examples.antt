@@ -1,7 +1,7 @@
 -- Worked examples of readings: the refusal table's for the query text, and the points where the document leaves room.
 -- Each is computed. Assumes nothing.
 use Rattle.std.specs.Prelude.{ℕ, ◌≡◌, refl, Bool, true, false, List, [], ◌∷◌, ◌++◌, map}
-use Rattle.hex_lines.specs.Lines.{split}
+use Rattle.reading.specs.Lines.{split}
 use Rattle.reading.specs.Fields.{field_passes}
 use Rattle.reading.specs.Kinds.{kind_at}
 use Rattle.reading.specs.Among.{has_kinds}

@@ -1,5 +1,2 @@
 // What holds of every reading of a text: an answer's number and line in specs/, theorems in proofs/.
 #![tactic(auto)]
-
-pub use reading;
-pub use reading::{fields, first_reading, frame_tests, frames, indexing, kinds};

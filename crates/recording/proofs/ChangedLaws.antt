@@ -8,13 +8,13 @@ use native.Mathlib.Numerals.{add-one}
 use lib.ListN.{length, get_or, take, drop, set, length-set, length-take, drop_of_length-le}
 use lib.Seq.{drop-cons, take-suc-set, get_or-take}
 use borrow.Author.Tests.{lt-ltb, le-ltb}
-use Rattle.base.specs.Choose.{pick}
-use Rattle.passes.specs.Sheet.{frame_at}
-use Rattle.model.specs.Atoms.{Atom, Eq}
-use Rattle.model.specs.Bound.{Bound, has, bound_most}
-use Rattle.model.specs.Scheduling.{atom_of}
-use Rattle.passes.specs.QueryAtoms.{atom_of_frame}
-use Rattle.emitters.specs.Emitters.{Emitters, decode, record_atom, record_emitters}
+use Rattle.hexadecimal.specs.Choose.{pick}
+use Rattle.frames.specs.Sheet.{frame_at}
+use Rattle.binding.specs.Atoms.{Atom, Eq}
+use Rattle.binding.specs.Bound.{Bound, has, bound_most}
+use Rattle.binding.specs.Scheduling.{atom_of}
+use Rattle.binding.specs.QueryAtoms.{atom_of_frame}
+use Rattle.binding.specs.Emitters.{Emitters, decode, record_atom, record_emitters}
 use Rattle.passes.specs.Eager.{sheet_atoms, Located}
 use Rattle.recording.specs.Changed.{changed_from, record_number, record_numbers}
 

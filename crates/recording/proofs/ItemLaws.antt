@@ -7,16 +7,16 @@ use native.Mathlib.Omega.{arith}
 use native.Mathlib.Numerals.{add-one}
 use lib.Dec.{ltb}
 use lib.ListN.{length, get_or}
-use Rattle.passes.specs.Fields.{width}
-use Rattle.passes.specs.Kinds.{kind_at, fixed_length, items_of}
-use Rattle.passes.specs.Frames.{kind_of}
-use Rattle.model.specs.Atoms.{Operand, local_of}
-use Rattle.model.specs.Premises.{numbers_below}
-use Rattle.passes.specs.QueryAtoms.{operands_from}
-use Rattle.passes.specs.Lookups.{operand_at}
-use Rattle.emitters.specs.Emitters.{Emitters, decode, set_operand, set_children, set_elements}
-use Rattle.passes.specs.ItemOperands.{item_operands}
-use Rattle.passes.proofs.OperandLaws.{operands_more, below_next, items_are}
+use Rattle.fields.specs.Fields.{width}
+use Rattle.kinds.specs.Kinds.{kind_at, fixed_length, items_of}
+use Rattle.frames.specs.Frames.{kind_of}
+use Rattle.binding.specs.Atoms.{Operand, local_of}
+use Rattle.binding.specs.Premises.{numbers_below}
+use Rattle.binding.specs.QueryAtoms.{operands_from}
+use Rattle.binding.specs.Lookups.{operand_at}
+use Rattle.binding.specs.Emitters.{Emitters, decode, set_operand, set_children, set_elements}
+use Rattle.binding.specs.ItemOperands.{item_operands}
+use Rattle.binding.proofs.OperandLaws.{operands_more, below_next, items_are}
 use Rattle.recording.specs.Items.{item_emitter, set_items}
 
 -- children and elements are items

@@ -5,14 +5,14 @@ use mathlib.Core.Bool.{Bool, true}
 use mathlib.Core.List.{List, ◌∷◌}
 use lib.Dec.{T, ltb}
 use lib.ListN.{length, get_or}
-use Rattle.passes.specs.Faults.{is_atom}
-use Rattle.passes.specs.Kinds.{kinds, kind_at}
-use Rattle.model.specs.Atoms.{Operand}
-use Rattle.model.specs.Premises.{numbers_below}
-use Rattle.passes.specs.QueryAtoms.{operands_from, atom_of_frame}
-use Rattle.emitters.specs.Emitters.{Emitters, decode, from, emitter_of, set_emitter, set_elements, copy_emitter, record_atom}
+use Rattle.binding.specs.Faults.{is_atom}
+use Rattle.kinds.specs.Kinds.{kinds, kind_at}
+use Rattle.binding.specs.Atoms.{Operand}
+use Rattle.binding.specs.Premises.{numbers_below}
+use Rattle.binding.specs.QueryAtoms.{operands_from, atom_of_frame}
+use Rattle.binding.specs.Emitters.{Emitters, decode, from, emitter_of, set_emitter, set_elements, copy_emitter, record_atom}
 use Rattle.passes.specs.AtomLines.{AtomLine, scans_kind}
-use Rattle.passes.specs.ItemOperands.{item_operands}
+use Rattle.binding.specs.ItemOperands.{item_operands}
 use Rattle.passes.proofs.AtomLaws.{by_kind, scanning}
 use Rattle.recording.specs.Items.{set_items}
 use Rattle.recording.proofs.ItemLaws.{children_are, elements_are}

@@ -1,11 +1,11 @@
 -- The atoms that were lowered since emitters were last recorded, and atoms recorded by their numbers.
 use Rattle.std.specs.Prelude.{ℕ, zero, suc, List, [], ◌∷◌, ltb, length}
 use Rattle.std.specs.Bool.{beq}
-use Rattle.base.specs.Choose.{pick}
-use Rattle.model.specs.Atoms.{Atom}
-use Rattle.model.specs.Bound.{Bound, has}
-use Rattle.model.specs.Scheduling.{atom_of}
-use Rattle.emitters.specs.Emitters.{Emitters, record_atom}
+use Rattle.hexadecimal.specs.Choose.{pick}
+use Rattle.binding.specs.Atoms.{Atom}
+use Rattle.binding.specs.Bound.{Bound, has}
+use Rattle.binding.specs.Scheduling.{atom_of}
+use Rattle.binding.specs.Emitters.{Emitters, record_atom}
 
 -- the numbers of those of k atoms, from number i on, whose use has changed
 unfoldable pub changed_from : Bound → Bound → ℕ → ℕ → List ℕ

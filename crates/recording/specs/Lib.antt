@@ -1,14 +1,2 @@
 pub mod Items
 pub mod Changed
-pub use Rattle.emitters.specs.Choice
-pub use Rattle.emitters.specs.CostSampling
-pub use Rattle.emitters.specs.Costs
-pub use Rattle.emitters.specs.Emitters
-pub use Rattle.emitters.specs.Memo
-pub use Rattle.emitters.specs.Sampled
-pub use Rattle.emitters.specs.Sampling
-pub use Rattle.passes.specs.AtomLines
-pub use Rattle.passes.specs.Eager
-pub use Rattle.passes.specs.Given
-pub use Rattle.passes.specs.QueryAtoms
-pub use Rattle.passes.specs.Sheet

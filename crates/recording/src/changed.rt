@@ -1,10 +1,10 @@
 // The atoms that were lowered since emitters were last recorded.
 ghost use Rattle.std.specs.Prelude.{◌≡◌, ◌≤◌, length, take};
-ghost use Rattle.model.specs.Bound.{bound_most};
+ghost use Rattle.binding.specs.Bound.{bound_most};
 ghost use Rattle.recording.specs.Changed.{changed_from};
 
-use passes::binding::sets::is_set;
-use passes::fields::field::narrow;
+use binding::sets::is_set;
+use fields::field::narrow;
 
 // The numbers of those of the first n atoms whose use has changed, from the lowest on. How many they are.
 pub fn changed(before: &[bool], used: &[bool], n: usize, list: &mut [u8]) -> usize

@@ -3,7 +3,3 @@
 
 pub mod changed;
 pub mod record;
-
-pub use emitters::cost;
-pub use passes;
-pub use passes::{binding, fields, lowering, query};

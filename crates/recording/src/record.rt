@@ -1,23 +1,23 @@
 // The emitters that an atom gives, read off its frame.
 ghost use Rattle.std.specs.Prelude.{◌≡◌, true, ◌+◌, ◌*◌, ◌<◌, length, get_or, take, ltb};
 ghost use mathlib.Core.List.{map, flat_map};
-ghost use Rattle.model.specs.Atoms.{local_of};
-ghost use Rattle.model.specs.Bound.{bound_most};
-ghost use Rattle.model.specs.Premises.{numbers_below};
-ghost use Rattle.passes.specs.QueryAtoms.{operands_from, atom_of_frame};
-ghost use Rattle.emitters.specs.Emitters.{decode, from, set_emitter, record_atom};
+ghost use Rattle.binding.specs.Atoms.{local_of};
+ghost use Rattle.binding.specs.Bound.{bound_most};
+ghost use Rattle.binding.specs.Premises.{numbers_below};
+ghost use Rattle.binding.specs.QueryAtoms.{operands_from, atom_of_frame};
+ghost use Rattle.binding.specs.Emitters.{decode, from, set_emitter, record_atom};
 ghost use Rattle.passes.specs.AtomLines.{AtomLine};
-ghost use Rattle.passes.specs.ItemOperands.{item_operands};
+ghost use Rattle.binding.specs.ItemOperands.{item_operands};
 ghost use Rattle.passes.specs.Eager.{Located, sheet_atoms};
 ghost use Rattle.recording.specs.Items.{item_emitter, set_items};
 ghost use Rattle.recording.specs.Changed.{record_number, record_numbers};
 
 use emitters::numbers::{copy_emitter, packed, set_emitter, set_operand};
+use fields::field::{narrow, wide};
+use frames::frame::items_of;
 use hexadecimal::byte_at;
+use kinds::table::{fixed_length, item_width};
 use passes::eager::atom_line;
-use passes::fields::field::{narrow, wide};
-use passes::frames::frame::items_of;
-use passes::kinds::table::{fixed_length, item_width};
 
 // The number of the emitter of item p: an element, or the child at position p.
 fn item_emitter(atom: u8, elements: bool, p: u8) -> u32

@@ -9,8 +9,8 @@ use lib.Seq.{get_or-append-add, take_all}
 use lib.Dec.{T, ltb, eqb}
 use lib.Pow.{are_bytes}
 use borrow.Author.Tests.{ltb-true, eqb-true, eq-eqb}
-use Rattle.base.specs.Choose.{pick}
-use Rattle.hexadecimal.specs.Digits.{short_at}
+use Rattle.model.specs.Choose.{pick}
+use Rattle.reading.specs.Digits.{short_at}
 use Rattle.reading.specs.Kinds.{kinds, kind_at}
 use Rattle.reading.specs.Frames.{kind_of, frame_length}
 use Rattle.reading.specs.Sheet.{frame_at, Whole}

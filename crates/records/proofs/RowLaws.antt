@@ -5,7 +5,7 @@ use mathlib.Core.Bool.{Bool, true, false}
 use mathlib.Core.List.{List, [], ◌∷◌}
 use native.Mathlib.Omega.{arith}
 use lib.ListN.{length, get_or}
-use Rattle.base.specs.Choose.{pick}
+use Rattle.model.specs.Choose.{pick}
 use Rattle.reading.specs.Faults.{is_row}
 use Rattle.reading.specs.Text.TheVariants.{Table}
 use Rattle.reading.proofs.Formed.{count_from}

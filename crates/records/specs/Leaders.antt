@@ -1,7 +1,7 @@
 -- Note 5: one class under several numbers, and the rows that stand.
 use Rattle.std.specs.Prelude.{ℕ, Bool, false, ◌&&◌, List, ◌∷◌, map, length, take, eqb}
-use Rattle.base.specs.Choose.{pick}
-use Rattle.hexadecimal.specs.Digits.{short_at}
+use Rattle.model.specs.Choose.{pick}
+use Rattle.reading.specs.Digits.{short_at}
 use Rattle.reading.specs.Keys.{find, is_found}
 use Rattle.model.specs.Atoms.{Row, Node, Literal}
 use Rattle.model.specs.Equality.{same_list}

@@ -1,7 +1,7 @@
 -- Operands and lookups of a plan's frames: what begins at byte i of a frame.
 use Rattle.std.specs.Prelude.{ℕ, ◌+◌, List, get_or, eqb}
-use Rattle.base.specs.Choose.{pick}
-use Rattle.field_values.specs.FieldValues.{local_tag, by_op_tag, by_child_pos_tag, by_repr_tag}
+use Rattle.model.specs.Choose.{pick}
+use Rattle.reading.specs.FieldValues.{local_tag, by_op_tag, by_child_pos_tag, by_repr_tag}
 use Rattle.model.specs.Atoms.{Operand, local, global, Lookup, ByOp, ByChildPos, ByRepr, ByContains}
 use Rattle.records.specs.Items.{items_at}
 

@@ -1,8 +1,8 @@
 -- The rows of a table, read off its frames.
 use Rattle.std.specs.Prelude.{ℕ, ◌/◌, ◌%◌, length, get_or, eqb}
 use mathlib.Core.List.{List, [], ◌∷◌, ◌++◌, flat_map}
-use Rattle.base.specs.Choose.{pick}
-use Rattle.hexadecimal.specs.Digits.{short_at, word_at}
+use Rattle.model.specs.Choose.{pick}
+use Rattle.reading.specs.Digits.{short_at, word_at}
 use Rattle.reading.specs.Faults.{is_row}
 use Rattle.model.specs.Atoms.{Row, Node, Literal}
 use Rattle.model.specs.Limits.{class_bytes}

@@ -1,6 +1,6 @@
 -- Numbers of two bytes, copied from a frame into an array: the room that they need, and what is copied.
 use Rattle.std.specs.Prelude.{ℕ, ◌+◌, ◌<◌, ◌≤◌, ◌≡◌, List, ◌++◌, length, take}
-use Rattle.hexadecimal.specs.Digits.{short_at}
+use Rattle.reading.specs.Digits.{short_at}
 use Rattle.records.specs.Items.{items_at}
 
 pub record CopyRoom (i m : ℕ) (K : List ℕ) (k : ℕ) : Type 0 where

@@ -2,7 +2,5 @@
 // the copy of a frame's numbers into an array, and the bytes of a number.
 #![tactic(auto)]
 
+pub mod below;
 pub mod shorts;
-
-pub use reading;
-pub use reading::{fields, first_reading, frame_tests, frames, indexing, kinds, second_reading};

@@ -9,16 +9,16 @@
 ghost use Rattle.std.specs.Prelude.{◌≡◌, ◌+◌, ◌≤◌, length, take};
 ghost use Rattle.hexadecimal.specs.Digits.{bytes_of};
 
-use exports::entries::run::run;
-use exports::first_reading::first::Reading;
-use exports::fitting::fit::PLAN_MOST;
-use exports::frame_tests::tests::Text;
-use exports::gathering::beside::Beside;
-use exports::planner::entry::plan;
-use exports::reading::second::read_text;
-use exports::run_answers::atoms::{NO_ATOM, delta_atom};
+use entries::run::run;
+use exports::below::plan;
 use exports::some::rimdovek_some_match;
+use first_reading::first::Reading;
+use frame_tests::tests::Text;
+use gathering::beside::Beside;
+use printing::below::PLAN_MOST;
 use printing::{print_planned, print_run};
+use reading::second::read_text;
+use run_answers::atoms::{NO_ATOM, delta_atom};
 
 fn print_two(word: &[u8], a: usize, b: usize) {
     io::write_all(1, word);

@@ -4,10 +4,10 @@ use mathlib.Core.Path.{subst}
 use mathlib.Core.Option.{none}
 use mathlib.Core.List.{List}
 use lib.ListN.{length}
-use Rattle.choosing.specs.Sheet.{frames_in}
-use Rattle.model.specs.Scheduling.{State, numbers}
-use Rattle.choosing.specs.Memo.{tally_at}
-use Rattle.choosing.specs.Sampling.{Sampling}
+use Rattle.cost.specs.Sheet.{frames_in}
+use Rattle.cost.specs.Scheduling.{State, numbers}
+use Rattle.cost.specs.Memo.{tally_at}
+use Rattle.cost.specs.declared.memo.Sampling.{Sampling}
 use Rattle.choosing.specs.Eager.{sheet_atoms}
 use Rattle.choosing.specs.Choosing.{candidates}
 use Rattle.choosing.specs.Advancing.{emitters_of, Advances}

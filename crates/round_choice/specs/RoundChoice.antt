@@ -1,16 +1,16 @@
 -- A round over arrays: the eager round, the choice behind it, and the room that the choice asks of the memo.
 use Rattle.std.specs.Prelude.{ℕ, ◌≤◌, List, length, Float}
 use Rattle.std.proofs.Math.Option.{none}
-use Rattle.choosing.specs.Sheet.{frames_in}
-use Rattle.model.specs.Atoms.{Step}
-use Rattle.model.specs.Bound.{Bound}
-use Rattle.model.specs.Scheduling.{State, lower_eager, atom_of, numbers}
-use Rattle.choosing.specs.Sampled.{Sampled}
-use Rattle.choosing.specs.Emitters.{Emitters, record_emitters}
-use Rattle.choosing.specs.CostSampling.{Tally}
-use Rattle.choosing.specs.Memo.{tally_at}
-use Rattle.choosing.specs.Choice.{offers}
-use Rattle.choosing.specs.Sampling.{Sampling}
+use Rattle.cost.specs.Sheet.{frames_in}
+use Rattle.cost.specs.Atoms.{Step}
+use Rattle.cost.specs.Bound.{Bound}
+use Rattle.cost.specs.Scheduling.{State, lower_eager, atom_of, numbers}
+use Rattle.cost.specs.Sampled.{Sampled}
+use Rattle.cost.specs.Emitters.{Emitters, record_emitters}
+use Rattle.cost.specs.Sampling.{Tally}
+use Rattle.cost.specs.Memo.{tally_at}
+use Rattle.cost.specs.Choice.{offers}
+use Rattle.cost.specs.declared.memo.Sampling.{Sampling}
 use Rattle.choosing.specs.Eager.{state, sheet_atoms}
 use Rattle.choosing.specs.Advancing.{emitters_of, Advances}
 use Rattle.choosing.specs.Choosing.{candidates, Chose}

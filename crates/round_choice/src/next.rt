@@ -1,16 +1,15 @@
 // An eager round, and the cheapest of the atoms that are left behind it.
-ghost use Rattle.choosing.specs.Sheet.{frames_in};
-ghost use Rattle.choosing.specs.Given.{Given};
+ghost use Rattle.cost.specs.Sheet.{frames_in};
+ghost use Rattle.cost.specs.Given.{Given};
 ghost use Rattle.choosing.specs.Eager.{Located};
 ghost use Rattle.choosing.specs.Prices.{Priced};
 ghost use Rattle.choosing.specs.Remembering.{Samples, Remembers};
 ghost use Rattle.choosing.specs.Advancing.{Prepared};
 ghost use Rattle.round_choice.specs.RoundChoice.{Chooses, RoundRoom};
 
-use choosing::advancing::advance::{Scheduler, advance};
-use choosing::bidding::bid::Best;
+use choosing::below::{Best, Scheduler, advance};
 use choosing::choose::cheapest;
-use choosing::cost::memo::Sampling;
+use cost::memo::Sampling;
 
 // The state behind an eager round, and the cheapest of the atoms left.
 #[derive(Clone, Copy)]

@@ -6,14 +6,14 @@ use mathlib.Core.List.{List, Memᴰ}
 use native.Mathlib.Omega.{arith}
 use lib.ListN.{length}
 use lib.Ieee.{Float}
-use Rattle.fitting.specs.First.{frames_of}
-use Rattle.fitting.specs.Text.TheVariants.{Query}
-use Rattle.fitting.specs.Reading.TheVariants.{Accepted}
-use Rattle.fitting.specs.Second.{reading}
+use Rattle.first_reading.specs.First.{frames_of}
+use Rattle.first_reading.specs.Text.TheVariants.{Query}
+use Rattle.first_reading.specs.declared.first.Reading.TheVariants.{Accepted}
+use Rattle.reading.specs.Second.{reading}
 use Rattle.fitting.proofs.Whole.{query_within}
-use Rattle.model.specs.Atoms.{Atom}
-use Rattle.model.proofs.TabulateLaws.{tabulate_mem}
-use Rattle.model.specs.Scheduling.{State, atom_of, numbers, lower_eager, emit_at, go_on, rounds_up_to, unplanned}
+use Rattle.buckets.specs.Atoms.{Atom}
+use Rattle.buckets.proofs.TabulateLaws.{tabulate_mem}
+use Rattle.buckets.specs.Scheduling.{State, atom_of, numbers, lower_eager, emit_at, go_on, rounds_up_to, unplanned}
 use Rattle.fitting.specs.QueryAtoms.{atoms_in}
 use Rattle.fitting.specs.Choice.{Memory, fresh, recorded, emitted_by, by_cost, choose, rounds_from}
 use Rattle.fitting.proofs.ChoiceLaws.{choose_fair}

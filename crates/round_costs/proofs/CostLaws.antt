@@ -7,18 +7,18 @@ use mathlib.Core.List.{List, ◌++◌, map}
 use native.Mathlib.Omega.{arith}
 use lib.ListN.{length, take}
 use borrow.Author.Tests.{not-true, not-false}
-use Rattle.base.specs.Choose.{pick}
-use Rattle.fitting.specs.Sheet.{frames_in}
-use Rattle.fitting.specs.First.{frames_of, Sheet}
-use Rattle.fitting.specs.Text.TheVariants.{Table}
-use Rattle.fitting.specs.Reading.{Reading}
-use Rattle.fitting.specs.Reading.TheVariants.{Accepted, Refused}
-use Rattle.fitting.specs.Second.{reading, query_reading}
-use Rattle.model.specs.Atoms.{Atom}
+use Rattle.reading.specs.Choose.{pick}
+use Rattle.reading.specs.Sheet.{frames_in}
+use Rattle.first_reading.specs.First.{frames_of, Sheet}
+use Rattle.first_reading.specs.Text.TheVariants.{Table}
+use Rattle.first_reading.specs.declared.first.Reading.{Reading}
+use Rattle.first_reading.specs.declared.first.Reading.TheVariants.{Accepted, Refused}
+use Rattle.reading.specs.Second.{reading, query_reading}
+use Rattle.buckets.specs.Atoms.{Atom}
 use Rattle.fitting.specs.QueryAtoms.{atoms_in}
-use Rattle.fitting.specs.Asks.{asks_table}
-use Rattle.fitting.specs.Sampled.{sampled_from}
-use Rattle.fitting.specs.Eager.{sheet_atoms}
+use Rattle.given.specs.Asks.{asks_table}
+use Rattle.given.specs.Sampled.{sampled_from}
+use Rattle.placing.specs.Eager.{sheet_atoms}
 use Rattle.cost_bits.specs.CostBits.{cost_bits}
 use Rattle.fitting.specs.Rounds.{Rounded}
 use Rattle.fitting.specs.Scheduled.{Scheduled}

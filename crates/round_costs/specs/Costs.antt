@@ -1,8 +1,8 @@
 -- The costs of a round, for the caller: their bits in a lent array, and the atom chosen.
 use Rattle.std.specs.Prelude.{ℕ, suc, List, [], map, length, Float}
 use Rattle.std.proofs.Math.Option.{Option, none, some}
-use Rattle.fitting.specs.First.{frames_of}
-use Rattle.model.specs.Atoms.{Atom}
+use Rattle.first_reading.specs.First.{frames_of}
+use Rattle.buckets.specs.Atoms.{Atom}
 use Rattle.fitting.specs.QueryAtoms.{atoms_in}
 use Rattle.fitting.specs.Choice.{Memory, rounds}
 use Rattle.fitting.specs.Planner.{given, after_readings}

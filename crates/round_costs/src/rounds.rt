@@ -1,28 +1,26 @@
 // The costs of a round, for whoever asks how the order came about.
 ghost use Rattle.std.specs.Prelude.{◌≡◌, true, ◌≤◌, length};
 ghost use Rattle.std.proofs.Math.Option.{some};
-ghost use Rattle.fitting.specs.Sheet.{frames_in};
-ghost use Rattle.fitting.specs.First.{frames_of};
-ghost use Rattle.fitting.specs.IndexedReading.{Lent};
-ghost use Rattle.fitting.specs.RowIndex.{rows_at};
-ghost use Rattle.fitting.specs.Asks.{asks_table};
-ghost use Rattle.fitting.specs.Given.{Given};
-ghost use Rattle.fitting.specs.Eager.{sheet_atoms};
+ghost use Rattle.reading.specs.Sheet.{frames_in};
+ghost use Rattle.first_reading.specs.First.{frames_of};
+ghost use Rattle.reading.specs.IndexedReading.{Lent};
+ghost use Rattle.buckets.specs.RowIndex.{rows_at};
+ghost use Rattle.given.specs.Asks.{asks_table};
+ghost use Rattle.given.specs.Given.{Given};
+ghost use Rattle.placing.specs.Eager.{sheet_atoms};
 ghost use Rattle.fitting.specs.Accepts.{Accepts};
 ghost use Rattle.fitting.specs.Handed.{handed_if, handed};
 ghost use Rattle.fitting.specs.Gathered.{Asks};
 ghost use Rattle.round_costs.specs.Costs.{round_of, told, round_result, round_costs};
 
+use buckets::index::TABLE_INDEX;
 use cost_bits::bits::NO_COST;
 use cost_bits::told::put_round;
-use fitting::buckets::index::TABLE_INDEX;
-use fitting::first_reading::first::{Reading, sheet_size};
-use fitting::gathering::beside::{Beside, is_handed};
-use fitting::gathering::gather::{BOTH_SHEETS, gather};
-use fitting::given::search::asks_table;
-use fitting::ordering::order::find_order;
-use fitting::placing::places::atom_places;
-use fitting::reading::second::{
+use first_reading::first::{Reading, sheet_size};
+use fitting::below::{BOTH_SHEETS, Beside, find_order, gather, is_handed};
+use given::search::asks_table;
+use placing::places::atom_places;
+use reading::second::{
     LONG_INDEX, LONG_SHEET, MIDDLE_INDEX, MIDDLE_SHEET, MIDDLE_TEXT, SHORT_INDEX, SHORT_SHEET,
     SHORT_TEXT, TINY_INDEX, TINY_SHEET, TINY_TEXT, read_query,
 };

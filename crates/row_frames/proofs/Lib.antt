@@ -1,6 +1,9 @@
 pub mod RowLaws
+pub use Rattle.records.proofs.Bools
+pub use Rattle.records.proofs.BoundLaws
+pub use Rattle.records.proofs.CheapestLaws
+pub use Rattle.records.proofs.EqualityLaws
 pub use Rattle.records.proofs.ItemsLaws
-pub use Rattle.records.proofs.LentLaws
-pub use Rattle.records.proofs.QueryLaws
-pub use Rattle.records.proofs.ReadLaws
+pub use Rattle.records.proofs.Scheduled
 pub use Rattle.records.proofs.SheetLaws
+pub use Rattle.records.proofs.TabulateLaws

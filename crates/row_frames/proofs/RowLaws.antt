@@ -7,12 +7,12 @@ use native.Mathlib.Omega.{arith}
 use lib.ListN.{length, get_or, get_or-eq_default}
 use lib.Dec.{eqb}
 use borrow.Author.Tests.{eq-eqb, ne_eqb}
-use Rattle.base.specs.Choose.{pick}
-use Rattle.field_values.specs.FieldValues.{child_path}
-use Rattle.hexadecimal.specs.Digits.{short_at, word_at}
-use Rattle.model.specs.Atoms.{Node, Literal, op_of, children, child_at, unset}
-use Rattle.model.specs.Equality.{same_class}
-use Rattle.model.specs.Running.{among}
+use Rattle.records.specs.Choose.{pick}
+use Rattle.records.specs.FieldValues.{child_path}
+use Rattle.records.specs.Digits.{short_at, word_at}
+use Rattle.records.specs.Atoms.{Node, Literal, op_of, children, child_at, unset}
+use Rattle.records.specs.Equality.{same_class}
+use Rattle.records.specs.Running.{among}
 use Rattle.records.specs.Items.{items_at}
 use Rattle.records.specs.Rows.{row_of}
 use Rattle.records.proofs.ItemsLaws.{items_count, items_more, items_none}

@@ -1,13 +1,19 @@
 pub mod Wanted
+pub use Rattle.records.specs.Atoms
+pub use Rattle.records.specs.Bound
+pub use Rattle.records.specs.Cheapest
+pub use Rattle.records.specs.Choose
 pub use Rattle.records.specs.Counts
+pub use Rattle.records.specs.Equality
 pub use Rattle.records.specs.Examples
 pub use Rattle.records.specs.Faults
 pub use Rattle.records.specs.Field
+pub use Rattle.records.specs.FieldValues
 pub use Rattle.records.specs.Fields
 pub use Rattle.records.specs.First
+pub use Rattle.records.specs.FirstReadingReading as Reading
 pub use Rattle.records.specs.Frames
 pub use Rattle.records.specs.Index
-pub use Rattle.records.specs.IndexedReading
 pub use Rattle.records.specs.Items
 pub use Rattle.records.specs.Keys
 pub use Rattle.records.specs.Kinds
@@ -15,10 +21,14 @@ pub use Rattle.records.specs.Leaders
 pub use Rattle.records.specs.Leading
 pub use Rattle.records.specs.Limits
 pub use Rattle.records.specs.Lookups
-pub use Rattle.records.specs.Reading
+pub use Rattle.records.specs.Lowering
+pub use Rattle.records.specs.Premises
 pub use Rattle.records.specs.Rows
+pub use Rattle.records.specs.Running
+pub use Rattle.records.specs.Scheduling
 pub use Rattle.records.specs.Second
 pub use Rattle.records.specs.Sheet
 pub use Rattle.records.specs.Shorts
+pub use Rattle.records.specs.Tabulate
 pub use Rattle.records.specs.Test
 pub use Rattle.records.specs.Text

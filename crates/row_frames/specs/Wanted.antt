@@ -1,10 +1,10 @@
 -- Which rows of a table are asked for: those of an operator, those with a class at a place among their children, those with a class among them.
 use Rattle.std.specs.Prelude.{ℕ, Bool, false, List, get_or, eqb}
-use Rattle.base.specs.Choose.{pick}
-use Rattle.field_values.specs.FieldValues.{child_path}
-use Rattle.model.specs.Atoms.{Row, op_of, children, child_at, unset}
-use Rattle.model.specs.Equality.{same_class}
-use Rattle.model.specs.Running.{among}
+use Rattle.records.specs.Choose.{pick}
+use Rattle.records.specs.FieldValues.{child_path}
+use Rattle.records.specs.Atoms.{Row, op_of, children, child_at, unset}
+use Rattle.records.specs.Equality.{same_class}
+use Rattle.records.specs.Running.{among}
 use Rattle.row_frames.specs.declared.row.Want.{Want}
 
 -- how many children the row of a frame has

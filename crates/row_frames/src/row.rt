@@ -1,12 +1,11 @@
 // A row by its frame: its children, and whether it is one that is asked for.
 ghost use Rattle.std.specs.Prelude.{◌≡◌, ◌<◌};
-ghost use Rattle.model.specs.Atoms.{child_at, children};
-ghost use Rattle.model.specs.Running.{among};
+ghost use Rattle.records.specs.Atoms.{child_at, children};
+ghost use Rattle.records.specs.Running.{among};
 ghost use Rattle.records.specs.Rows.{row_of};
 ghost use Rattle.row_frames.specs.Wanted.{count_of, has_at, wanted};
 
-use hexadecimal::{byte_at, short_at};
-use records::fields::field::{wide, wide_short};
+use records::below::{byte_at, short_at, wide, wide_short};
 
 // What is asked of a row, by its path: an operator, a class at a place among the children, or a class anywhere among them.
 #[derive(Clone, Copy)]

@@ -8,7 +8,7 @@ use lib.ListN.{length, get_or, take, set, length-set}
 use lib.Seq.{get_or-set_same, get_or-set_other, take-set-le}
 use lib.Dec.{eqb}
 use borrow.Author.Tests.{eq-eqb, ne_eqb, eqb-true, eqb-false}
-use Rattle.base.specs.Choose.{pick}
+use Rattle.hexadecimal.specs.Choose.{pick}
 use Rattle.buckets.specs.RowIndex.{heads_at, row_slots, entries_at, head_at, row_at, next_at, chain_from, chain_at}
 use Rattle.buckets.proofs.IndexLaws.{chain_more}
 use Rattle.row_indexing.specs.Filling.{is_of, entered, entered_once, entries_then, EntryRoom, Entries}

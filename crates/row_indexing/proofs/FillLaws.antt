@@ -5,14 +5,14 @@ use mathlib.Core.List.{List, [], ◌∷◌}
 use native.Mathlib.Omega.{arith}
 use lib.ListN.{length, get_or, take, drop, length-drop, drop_of_length-le}
 use lib.Seq.{drop-cons, get_or-take}
-use Rattle.base.specs.Choose.{pick}
-use Rattle.buckets.specs.Limits.{items_most, rows_most}
-use Rattle.buckets.specs.Sheet.{frame_at}
-use Rattle.model.specs.Atoms.{Row, children}
-use Rattle.model.specs.Running.{no_row}
-use Rattle.model.proofs.TabulateLaws.{tabulate_at, tabulate_length}
-use Rattle.buckets.specs.Rows.{row_of}
-use Rattle.buckets.proofs.RowLaws.{row_count}
+use Rattle.hexadecimal.specs.Choose.{pick}
+use Rattle.fields.specs.Limits.{items_most, rows_most}
+use Rattle.frames.specs.Sheet.{frame_at}
+use Rattle.row_frames.specs.Atoms.{Row, children}
+use Rattle.row_frames.specs.Running.{no_row}
+use Rattle.row_frames.proofs.TabulateLaws.{tabulate_at, tabulate_length}
+use Rattle.row_frames.specs.Rows.{row_of}
+use Rattle.row_frames.proofs.RowLaws.{row_count}
 use Rattle.buckets.specs.Buckets.{numbers_from}
 use Rattle.buckets.specs.RowIndex.{rows_at, heads_at, row_slots, entries_at, place_at, head_at, chain_at, in_slot}
 use Rattle.buckets.proofs.NumberLaws.{each_map, each_at, numbers_range}

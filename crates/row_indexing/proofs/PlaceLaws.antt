@@ -9,13 +9,13 @@ use lib.ListN.{length, get_or, take, drop, set, length-set, length-drop}
 use lib.Seq.{drop-cons, get_or-set_same, get_or-set_other, take-set-le, take-take, ext_get_or}
 use lib.Dec.{eqb}
 use borrow.Author.Tests.{eqb-true, eqb-false, not-true, not-false}
-use Rattle.base.specs.Choose.{pick}
-use Rattle.buckets.specs.Faults.{is_row}
-use Rattle.buckets.specs.Sheet.{frame_at}
-use Rattle.buckets.proofs.SheetLaws.{frames_end, frame_some, frame_within, frames_step}
-use Rattle.model.specs.Atoms.{Row}
-use Rattle.model.specs.Running.{no_row}
-use Rattle.buckets.specs.Rows.{row_of, rows_in}
+use Rattle.hexadecimal.specs.Choose.{pick}
+use Rattle.frame_tests.specs.Faults.{is_row}
+use Rattle.frames.specs.Sheet.{frame_at}
+use Rattle.frames.proofs.SheetLaws.{frames_end, frame_some, frame_within, frames_step}
+use Rattle.row_frames.specs.Atoms.{Row}
+use Rattle.row_frames.specs.Running.{no_row}
+use Rattle.row_frames.specs.Rows.{row_of, rows_in}
 use Rattle.buckets.specs.RowIndex.{rows_at, heads_at, place_at, rows_on}
 use Rattle.row_indexing.specs.Filling.{rows_placed, FillRoom, Placed, TableIndexed, TableRoom}
 use Rattle.row_indexing.proofs.FillLaws.{placed_length, placed_at}

@@ -7,17 +7,17 @@ use native.Mathlib.Omega.{arith}
 use lib.ListN.{length, get_or, take, length-map}
 use lib.Dec.{eqb}
 use borrow.Author.Tests.{eq-eqb, ne_eqb, eqb-true, eqb-false}
-use Rattle.base.specs.Choose.{pick}
-use Rattle.buckets.specs.Limits.{items_most}
+use Rattle.hexadecimal.specs.Choose.{pick}
+use Rattle.fields.specs.Limits.{items_most}
 use Rattle.hexadecimal.specs.Digits.{short_at}
-use Rattle.model.specs.Atoms.{op_of, children}
-use Rattle.model.specs.Equality.{same_class}
-use Rattle.model.specs.Running.{among}
-use Rattle.buckets.specs.Items.{items_at, Each}
-use Rattle.buckets.specs.Rows.{row_of}
-use Rattle.buckets.proofs.ItemsLaws.{items_more, items_none}
-use Rattle.buckets.specs.Wanted.{count_of}
-use Rattle.buckets.proofs.RowLaws.{row_op, row_children, row_count}
+use Rattle.row_frames.specs.Atoms.{op_of, children}
+use Rattle.row_frames.specs.Equality.{same_class}
+use Rattle.row_frames.specs.Running.{among}
+use Rattle.row_frames.specs.Items.{items_at, Each}
+use Rattle.row_frames.specs.Rows.{row_of}
+use Rattle.row_frames.proofs.ItemsLaws.{items_more, items_none}
+use Rattle.row_frames.specs.Wanted.{count_of}
+use Rattle.row_frames.proofs.RowLaws.{row_op, row_children, row_count}
 use Rattle.buckets.specs.RowIndex.{heads_at, row_slots, head_at, row_at, next_at, chain_from, chain_at, class_slot, op_slot, slots_of, in_slot}
 use Rattle.buckets.proofs.IndexLaws.{chain_more, chain_none}
 use Rattle.row_indexing.specs.Filling.{is_of, entered, entered_once, entries_then, EntryRoom, Entries, RowRoom, RowEntered}

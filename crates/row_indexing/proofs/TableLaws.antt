@@ -7,13 +7,13 @@ use native.Mathlib.Omega.{arith}
 use lib.ListN.{length, get_or}
 use lib.Dec.{eqb}
 use borrow.Author.Tests.{eqb-true}
-use Rattle.base.specs.Choose.{pick}
-use Rattle.buckets.specs.Limits.{items_most}
-use Rattle.buckets.specs.Faults.{is_row}
-use Rattle.model.specs.Atoms.{children}
-use Rattle.buckets.specs.Items.{Each}
-use Rattle.buckets.specs.Rows.{row_of, rows_in}
-use Rattle.buckets.proofs.RowLaws.{row_count}
+use Rattle.hexadecimal.specs.Choose.{pick}
+use Rattle.fields.specs.Limits.{items_most}
+use Rattle.frame_tests.specs.Faults.{is_row}
+use Rattle.row_frames.specs.Atoms.{children}
+use Rattle.row_frames.specs.Items.{Each}
+use Rattle.row_frames.specs.Rows.{row_of, rows_in}
+use Rattle.row_frames.proofs.RowLaws.{row_count}
 
 pub narrow_rows : (fs : List (List ℕ)) → Each (λ f. get_or f 0 0 ≡ 0x30 → get_or f 4 0 ≤ items_most) fs → Each (λ r. length (children r) ≤ items_most) (rows_in fs)
 unfolding rows_in

@@ -1,13 +1,13 @@
 -- The index of a table's rows, made: the places from the first row on, then the entries from the last row on, so that each chain ascends.
 use Rattle.std.specs.Prelude.{ℕ, ◌+◌, ◌*◌, ◌<◌, ◌≤◌, ◌≡◌, Bool, false, List, [], ◌∷◌, length, get_or, take, drop, set, eqb}
-use Rattle.base.specs.Choose.{pick}
-use Rattle.buckets.specs.Limits.{items_most, rows_most}
-use Rattle.buckets.specs.Sheet.{frame_at}
-use Rattle.model.specs.Atoms.{Row, children}
-use Rattle.model.specs.Tabulate.{tabulate}
-use Rattle.buckets.specs.Items.{Each}
-use Rattle.buckets.specs.Rows.{row_of}
-use Rattle.buckets.specs.Wanted.{count_of}
+use Rattle.hexadecimal.specs.Choose.{pick}
+use Rattle.fields.specs.Limits.{items_most, rows_most}
+use Rattle.frames.specs.Sheet.{frame_at}
+use Rattle.row_frames.specs.Atoms.{Row, children}
+use Rattle.row_frames.specs.Tabulate.{tabulate}
+use Rattle.row_frames.specs.Items.{Each}
+use Rattle.row_frames.specs.Rows.{row_of}
+use Rattle.row_frames.specs.Wanted.{count_of}
 use Rattle.buckets.specs.RowIndex.{rows_at, heads_at, row_slots, entries_at, table_index, place_at, head_at, row_at, next_at, chain_at, in_slot, RowsIndexed, rows_on}
 
 -- ---- one entry

@@ -3,12 +3,12 @@ ghost use Rattle.std.specs.Prelude.{◌≡◌, ◌+◌, ◌<◌, drop};
 ghost use Rattle.buckets.specs.RowIndex.{rows_at, heads_at, row_slots, rows_on};
 ghost use Rattle.row_indexing.specs.Filling.{is_of, entered_once, entries_then, EntryRoom, RowRoom, RowEntered, rows_placed, FillRoom, Placed, TableIndexed, TableRoom};
 
-use buckets::fields::field::{wide, wide_short};
-use buckets::frame_tests::tests::is_row;
-use buckets::frames::frame::frame_at;
 use buckets::index::{CLASS_SLOTS, ENTRIES_AT, HEADS_AT, ROWS_AT, entry_row};
-use buckets::row_frames::row::child_count;
+use fields::field::{wide, wide_short};
+use frame_tests::tests::is_row;
+use frames::frame::frame_at;
 use hexadecimal::{byte_at, short_at};
+use row_frames::row::child_count;
 
 // Whether an entry is one of row j: there is no entry 0.
 fn is_of(index: &[u16], e: u16, j: u16) -> bool

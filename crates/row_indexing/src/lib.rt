@@ -2,5 +2,3 @@
 #![tactic(auto)]
 
 pub mod fill;
-
-pub use buckets;

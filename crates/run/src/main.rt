@@ -6,8 +6,8 @@
 
 use arguments::Argument;
 use arguments::words::{number_at, word_count};
-use entries::modes::mode::DeltaAtom;
 use entries::run::run;
+use modes::mode::DeltaAtom;
 use printing::{TEXT_ROOM, print_run};
 use table_file::read_table;
 

@@ -1,4 +1,3 @@
 pub mod RunLaws
 pub mod ReplyLaws
-pub use Rattle.entries.proofs.RefusalBounds
-pub use Rattle.packing.proofs.UnpackedLaws
+pub use Rattle.bindings.proofs.RefusalBounds

@@ -8,13 +8,13 @@ use lib.ListN.{length, get_or}
 use Rattle.packing.specs.Packed.{packed_refusal}
 use Rattle.hexadecimal.specs.Digits.{bytes_of}
 use Rattle.hex_lines.specs.Lines.{line_at}
-use Rattle.entries.proofs.ReadingLaws.{first_line_lem}
-use Rattle.model.specs.Running.{Mode}
-use Rattle.entries.specs.Run.{match_line, line_text, Replies}
-use Rattle.entries.specs.Written.{written, Puts}
-use Rattle.entries.specs.Envs.{held, env_of}
-use Rattle.entries.specs.MatchLines.{text_by}
-use Rattle.entries.specs.Env.{Env}
+use Rattle.modes.proofs.ReadingLaws.{first_line_lem}
+use Rattle.modes.specs.Running.{Mode}
+use Rattle.bindings.specs.Run.{match_line, line_text, Replies}
+use Rattle.match_lines.specs.Written.{written, Puts}
+use Rattle.bindings.specs.Envs.{held, env_of}
+use Rattle.match_lines.specs.MatchLines.{text_by}
+use Rattle.bindings.specs.declared.env.Env.{Env}
 use Rattle.entries.proofs.HaltLaws.{text_length_lem}
 use Rattle.entries.specs.Outcomes.{reply_of}
 use Rattle.entries.specs.declared.some.Reply.{Reply as ReplyAs}

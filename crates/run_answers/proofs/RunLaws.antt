@@ -5,8 +5,8 @@ use native.Mathlib.Omega.{arith}
 use Rattle.packing.specs.Packed.{packed_refusal, packed_written}
 use Rattle.packing.specs.Unpacked.{TellsRefusal}
 use Rattle.packing.proofs.UnpackedLaws.{refusal_told}
-use Rattle.model.specs.Limits.{Status, Done, Spent, Full}
-use Rattle.entries.proofs.RefusalBounds.{Within}
+use Rattle.modes.specs.Limits.{Status, Done, Spent, Full}
+use Rattle.bindings.proofs.RefusalBounds.{Within}
 use Rattle.entries.specs.Halts.{status_number}
 use Rattle.entries.specs.Outcomes.{status_of, outcome_of}
 use Rattle.entries.specs.declared.run.Status.{Status as StatusAs}

@@ -1,9 +1,9 @@
 -- The second entry's answer as one number, and its match as a line.
 use Rattle.std.specs.Prelude.{ℕ, ◌≡◌, List, ltb, length}
-use Rattle.base.specs.Choose.{pick}
-use Rattle.model.specs.Running.{Mode}
-use Rattle.entries.specs.Written.{written}
-use Rattle.entries.specs.Run.{line_text, Reply, Rejected, Match, None, Exhausted, Replies}
+use Rattle.hexadecimal.specs.Choose.{pick}
+use Rattle.modes.specs.Running.{Mode}
+use Rattle.match_lines.specs.Written.{written}
+use Rattle.bindings.specs.Run.{line_text, Reply, Rejected, Match, None, Exhausted, Replies}
 use Rattle.packing.specs.Packed.{packed_refusal}
 
 -- "some match, none .. or spent": 2, 0 or 1

@@ -2,7 +2,7 @@
 use Rattle.std.specs.Prelude.{ℕ}
 use Rattle.packing.specs.Packed.{packed_refusal, packed_written}
 use Rattle.entries.specs.Halts.{status_number}
-use Rattle.entries.specs.Run.{Outcome, Refused, Ran}
+use Rattle.bindings.specs.Run.{Outcome, Refused, Ran}
 
 -- a refusal, or how the run ended and the bytes written
 abbrev pub packed_run : Outcome → ℕ

@@ -1,9 +1,9 @@
 // The atom that a caller outside names by a number.
 ghost use Rattle.std.specs.Prelude.{◌≡◌};
-ghost use Rattle.entries.specs.Modes.{mode_of};
+ghost use Rattle.modes.specs.Modes.{mode_of};
 ghost use Rattle.run_answers.specs.Atoms.{mode_from};
 
-use entries::modes::mode::DeltaAtom;
+use modes::mode::DeltaAtom;
 
 // The largest number names none.
 pub const NO_ATOM: u64 = 0xffff_ffff_ffff_ffff;

@@ -2,8 +2,6 @@
 #![tactic(auto)]
 
 pub mod atoms;
+pub mod below;
 pub mod runs;
 pub mod some;
-
-pub use entries;
-pub use entries::{first_reading, frame_tests, reading};

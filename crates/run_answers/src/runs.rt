@@ -1,6 +1,6 @@
 // The answer of a run, and its counts.
 ghost use Rattle.std.specs.Prelude.{◌≡◌};
-ghost use Rattle.entries.specs.Run.{tries_in, matches_in};
+ghost use Rattle.bindings.specs.Run.{tries_in, matches_in};
 ghost use Rattle.entries.specs.Outcomes.{outcome_of};
 ghost use Rattle.run_answers.specs.Runs.{packed_run};
 

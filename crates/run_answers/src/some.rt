@@ -1,15 +1,15 @@
 // The reply of the second entry, and its match as a line.
 ghost use Rattle.std.specs.Prelude.{◌≡◌, []};
-ghost use Rattle.entries.specs.Envs.{env_of};
-ghost use Rattle.entries.specs.Run.{match_line, line_text};
+ghost use Rattle.bindings.specs.Envs.{env_of};
+ghost use Rattle.bindings.specs.Run.{match_line, line_text};
 ghost use Rattle.entries.specs.Outcomes.{reply_of};
 ghost use Rattle.run_answers.specs.Replied.{placed, Tells};
 
-use entries::bindings::env::Env;
-use entries::match_lines::lines::{line_length, write_match};
+use bindings::env::Env;
 use entries::some::Reply;
 use hex_lines::reader::line_from;
 use hexadecimal::line::byte_at;
+use match_lines::lines::{line_length, write_match};
 use packing::refusal;
 
 // Writes the line of a match where it has room; the plan's header gives the counts.

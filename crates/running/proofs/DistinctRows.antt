@@ -9,8 +9,8 @@ use mathlib.Core.List.{List, [], ◌∷◌, Memᴰ}
 use native.Mathlib.Omega.{arith}
 use lib.ListN.{length, get_or, take-append-drop}
 use lib.Pow.{are_bytes}
-use Rattle.base.specs.Choose.{pick}
-use Rattle.base.proofs.ChooseLaws.{is_true}
+use Rattle.reading_facts.specs.Choose.{pick}
+use Rattle.reading_facts.proofs.ChooseLaws.{is_true}
 use Rattle.reading_facts.specs.Kinds.{kinds, kind_at}
 use Rattle.reading_facts.specs.Faults.{is_row}
 use Rattle.reading_facts.specs.First.{frames_of}
@@ -19,9 +19,9 @@ use Rattle.reading_facts.specs.Reading.TheVariants.{Accepted}
 use Rattle.reading_facts.specs.Keys.{key_of}
 use Rattle.reading_facts.specs.Second.{reading}
 use Rattle.reading_facts.proofs.Whole.{accepted, frame_bytes}
-use Rattle.set_model.specs.Lists.{Pairs}
-use Rattle.model.specs.Atoms.{Row, rows}
-use Rattle.model.specs.Matching.{Distinct}
+use Rattle.plans.specs.Lists.{Pairs}
+use Rattle.plans.specs.Atoms.{Row, rows}
+use Rattle.plans.specs.Matching.{Distinct}
 use Rattle.plans.specs.Rows.{row_of, rows_in, row_frame}
 use Rattle.plans.specs.Leaders.{standing}
 use Rattle.plans.proofs.LeaderLaws.{standing_apart}

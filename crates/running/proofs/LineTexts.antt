@@ -10,14 +10,14 @@ use lib.ListN.{length, length-append, get_or, take}
 use lib.Pow.{are_bytes}
 use lib.Seq.{take_at}
 use borrow.Author.Tests.{lt-ltb}
-use Rattle.hexadecimal.specs.Digits.{digits_of, bytes_of}
-use Rattle.hexadecimal.proofs.Bytes.{bytes_read}
-use Rattle.model.specs.Tabulate.{tabulate}
-use Rattle.model.specs.Running.{Env, class}
-use Rattle.model.specs.Matching.{Line, Counts, line}
-use Rattle.model.proofs.Carried.{LitHas, EnvHas}
-use Rattle.model.specs.Limits.{class_bytes, lit_bytes, match_kind, match_frame, line_end}
-use Rattle.model.proofs.Frames.{frame_one}
+use Rattle.reading_facts.specs.Digits.{digits_of, bytes_of}
+use Rattle.reading_facts.proofs.Bytes.{bytes_read}
+use Rattle.plans.specs.Tabulate.{tabulate}
+use Rattle.plans.specs.Running.{Env, class}
+use Rattle.plans.specs.Matching.{Line, Counts, line}
+use Rattle.plans.proofs.Carried.{LitHas, EnvHas}
+use Rattle.plans.specs.Limits.{class_bytes, lit_bytes, match_kind, match_frame, line_end}
+use Rattle.plans.proofs.Frames.{frame_one}
 use Rattle.plans.specs.Items.{Each}
 use Rattle.plans.proofs.StepsPass.{bytes_append, items_bytes_lem}
 use Rattle.running.specs.Run.{line_text}

@@ -3,8 +3,8 @@
 use Prim.Native.Nat.{ℕ}
 use mathlib.Core.Path.{◌≡◌, refl}
 use mathlib.Core.List.{List}
-use Rattle.model.specs.Limits.{Played}
-use Rattle.model.specs.Running.{Mode}
+use Rattle.plans.specs.Limits.{Played}
+use Rattle.plans.specs.Running.{Mode}
 use Rattle.running.specs.Validation.{Verdict, Passed, Invalid, validation_with}
 use Rattle.running.specs.Run.{Refused, after_tests, run}
 

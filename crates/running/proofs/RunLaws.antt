@@ -2,10 +2,10 @@
 use Prim.Native.Nat.{ℕ}
 use mathlib.Core.Path.{◌≡◌, refl}
 use mathlib.Core.Option.{none}
-use Rattle.model.specs.Atoms.{unset}
-use Rattle.base.proofs.Lists.{blank_at}
-use Rattle.model.specs.Running.{no_row, row_at}
-use Rattle.model.proofs.Exactness.{Blank}
+use Rattle.plans.specs.Atoms.{unset}
+use Rattle.reading_facts.proofs.Lists.{blank_at}
+use Rattle.plans.specs.Running.{no_row, row_at}
+use Rattle.plans.proofs.Exactness.{Blank}
 use Rattle.running.specs.Run.{variables_room, literals_room, unbound}
 
 pub unbound_blank : Blank unbound

@@ -6,10 +6,10 @@ use mathlib.Core.List.{List, [], ◌∷◌, flat_map}
 use native.Mathlib.Omega.{arith}
 use native.Mathlib.Nat.{zero-add}
 use lib.ListN.{length}
-use Rattle.model.specs.Running.{Mode, Env, Event}
-use Rattle.model.specs.Limits.{Spent, no_tally, play, Answer, OutOfTries, tries_to_first, Answers, some_match, no_match, out_of_tries, first_match}
-use Rattle.model.proofs.Limited.{wrote, bounded}
-use Rattle.model.proofs.Answered.{first_answers, spent_to, spent_back}
+use Rattle.plans.specs.Running.{Mode, Env, Event}
+use Rattle.plans.specs.Limits.{Spent, no_tally, play, Answer, OutOfTries, tries_to_first, Answers, some_match, no_match, out_of_tries, first_match}
+use Rattle.plans.proofs.Limited.{wrote, bounded}
+use Rattle.plans.proofs.Answered.{first_answers, spent_to, spent_back}
 use Rattle.running.specs.Validation.{Verdict, Passed, Invalid, validation_with}
 use Rattle.running.specs.Run.{events, match_line, line_text, Ran, ran, after_tests, run, Reply, Rejected, Exhausted, replied, Replies, rejects, answers}
 

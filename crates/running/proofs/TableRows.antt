@@ -11,9 +11,9 @@ use native.Mathlib.Nat.{mul-suc}
 use native.Mathlib.Decide.{dec_lt}
 use lib.ListN.{get_or, get_or-eq_default}
 use borrow.Author.Tests.{leb-true}
-use Rattle.base.proofs.ChooseLaws.{pick_elim}
-use Rattle.hexadecimal.specs.Digits.{short_at, word_at}
-use Rattle.hexadecimal.proofs.Bytes.{byte_at}
+use Rattle.reading_facts.proofs.ChooseLaws.{pick_elim}
+use Rattle.reading_facts.specs.Digits.{short_at, word_at}
+use Rattle.reading_facts.proofs.Bytes.{byte_at}
 use Rattle.reading_facts.specs.Limits.{class_most, globals_most}
 use Rattle.reading_facts.specs.Fields.{field_passes, field_fits, no_counts}
 use Rattle.reading_facts.specs.Test.TheVariants.{Limits}
@@ -27,14 +27,14 @@ use Rattle.reading_facts.specs.Second.{reading}
 use Rattle.reading_facts.proofs.Passes.{frame_field, frame_item}
 use Rattle.reading_facts.proofs.Found.{begun_kind, found_at}
 use Rattle.reading_facts.proofs.Whole.{accepted, frame_bytes}
-use Rattle.model.specs.Tabulate.{tabulate}
-use Rattle.model.proofs.TabulateLaws.{tabulate_at, tabulate_length}
-use Rattle.model.specs.Atoms.{Row, Node, Literal, class_of, children, value_of, unset, rows, global_class}
-use Rattle.model.specs.Matching.{Proper}
-use Rattle.model.proofs.Carried.{TableHas}
+use Rattle.plans.specs.Tabulate.{tabulate}
+use Rattle.plans.proofs.TabulateLaws.{tabulate_at, tabulate_length}
+use Rattle.plans.specs.Atoms.{Row, Node, Literal, class_of, children, value_of, unset, rows, global_class}
+use Rattle.plans.specs.Matching.{Proper}
+use Rattle.plans.proofs.Carried.{TableHas}
 use Rattle.plans.specs.Items.{items_at}
 use Rattle.plans.specs.Rows.{row_of, rows_in}
-use Rattle.model.specs.Limits.{class_bytes}
+use Rattle.plans.specs.Limits.{class_bytes}
 use Rattle.plans.specs.Leaders.{leading_key, leader_in, led_row}
 use Rattle.plans.proofs.LeaderLaws.{stands_led}
 use Rattle.plans.proofs.RowFrames.{IsRow, is_node_lem, is_literal_lem, row_kind}

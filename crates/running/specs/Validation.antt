@@ -3,7 +3,7 @@
 use Rattle.std.specs.Prelude.{ℕ, zero, suc, Bool, true, false, ◌&&◌, not, length, get_or, replicate, eqb}
 use mathlib.Core.List.{List, [], ◌∷◌, ◌++◌, flat_map}
 use Rattle.std.proofs.Math.Option.{none, some}
-use Rattle.base.specs.Choose.{pick}
+use Rattle.reading_facts.specs.Choose.{pick}
 use Rattle.reading_facts.specs.Kinds.{plan, table}
 use Rattle.reading_facts.specs.Limits.{variables_most}
 use Rattle.reading_facts.specs.Faults.{is_row}
@@ -12,11 +12,11 @@ use Rattle.reading_facts.specs.Text.TheVariants.{Plan, Table as TableText}
 use Rattle.reading_facts.specs.Reading.{Reading}
 use Rattle.reading_facts.specs.Reading.TheVariants.{Accepted, Refused}
 use Rattle.reading_facts.specs.Second.{reading}
-use Rattle.model.specs.Atoms.{Operand, local, global, wild, Lookup, ByOp, ByChildPos, ByRepr, ByContains, Step, Join, ExtractChild, CheckChildEq, CheckEq, CheckEqGlobal, BindGlobal, CopyBinding, Expand, ExtractLitVal, CheckLit, CheckPred, Row, Node, Literal, op_of, unset, Table, global_class}
-use Rattle.model.specs.Bound.{Bound, blank}
-use Rattle.model.specs.Reading.{bound_by, picked_by, ready}
-use Rattle.model.specs.Refusing.{runnable, all_rows, fits, ops_by, has_join}
-use Rattle.model.specs.Running.{Mode}
+use Rattle.plans.specs.Atoms.{Operand, local, global, wild, Lookup, ByOp, ByChildPos, ByRepr, ByContains, Step, Join, ExtractChild, CheckChildEq, CheckEq, CheckEqGlobal, BindGlobal, CopyBinding, Expand, ExtractLitVal, CheckLit, CheckPred, Row, Node, Literal, op_of, unset, Table, global_class}
+use Rattle.plans.specs.Bound.{Bound, blank}
+use Rattle.plans.specs.Reading.{bound_by, picked_by, ready}
+use Rattle.plans.specs.Refusing.{runnable, all_rows, fits, ops_by, has_join}
+use Rattle.plans.specs.Running.{Mode}
 use Rattle.plans.specs.Rows.{row_of}
 use Rattle.running.specs.Tables.{table_in, steps_in, plan_steps}
 

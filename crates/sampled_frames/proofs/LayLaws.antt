@@ -7,11 +7,11 @@ use native.Mathlib.Numerals.{add-one}
 use native.Mathlib.Omega.{arith}
 use lib.ListN.{length, get_or, take, drop, set, length-map, length-take}
 use lib.Seq.{take-suc}
-use Rattle.plans.specs.Limits.{items_most}
-use Rattle.plans.specs.Kinds.{kinds, kind_at, table}
-use Rattle.plans.specs.Sheet.{frames_in}
-use Rattle.plans.specs.Leading.{has_leaders}
-use Rattle.model.specs.Atoms.{Row, Node, Literal, children}
+use Rattle.frames.specs.Limits.{items_most}
+use Rattle.frames.specs.Kinds.{kinds, kind_at, table}
+use Rattle.frames.specs.Sheet.{frames_in}
+use Rattle.reading.specs.Leading.{has_leaders}
+use Rattle.plans.specs.Atoms.{Row, Node, Literal, children}
 use Rattle.plans.specs.Items.{Each}
 use Rattle.plans.specs.Rows.{rows_in, row_frame}
 use Rattle.plans.specs.Leaders.{leader_in, led_row, standing}

@@ -1,10 +1,10 @@
 -- A table on a part of a sheet, and in its place the frames that samples are taken from.
 use Rattle.std.specs.Prelude.{ℕ, ◌+◌, ◌-◌, ◌≤◌, ◌≡◌, List, length, take, drop}
-use Rattle.plans.specs.Limits.{items_most, rows_most}
-use Rattle.plans.specs.Kinds.{table}
-use Rattle.plans.specs.Sheet.{frames_in}
-use Rattle.standing.specs.Index.{Indexed}
-use Rattle.model.specs.Atoms.{children}
+use Rattle.frames.specs.Limits.{items_most, rows_most}
+use Rattle.frames.specs.Kinds.{table}
+use Rattle.frames.specs.Sheet.{frames_in}
+use Rattle.reading.specs.Index.{Indexed}
+use Rattle.plans.specs.Atoms.{children}
 use Rattle.plans.specs.Items.{Each}
 use Rattle.plans.specs.Rows.{rows_in}
 use Rattle.standing.specs.Stands.{RowsSheet}

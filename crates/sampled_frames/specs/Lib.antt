@@ -2,15 +2,4 @@ pub mod Laid
 pub use Rattle.behind.specs.Asks
 pub use Rattle.behind.specs.Given
 pub use Rattle.behind.specs.Sampled
-pub use Rattle.plans.specs.Limits
-pub use Rattle.plans.specs.Rereading
-pub use Rattle.plans.specs.Sheet
-pub use Rattle.row_indexing.specs.Filling
-pub use Rattle.row_indexing.specs.RowIndex
 pub use Rattle.standing.specs.Ascii
-pub use Rattle.standing.specs.First
-pub use Rattle.standing.specs.Index
-pub use Rattle.standing.specs.IndexedReading
-pub use Rattle.standing.specs.Reading
-pub use Rattle.standing.specs.Second
-pub use Rattle.standing.specs.Text

@@ -1,13 +1,13 @@
 // The frames that samples are taken from, in the table's place on a sheet: the table's own, and of one with frames 34 those of the rows that stand.
 ghost use Rattle.std.specs.Prelude.{◌≡◌, true, take};
-ghost use Rattle.plans.specs.Sheet.{frames_in};
-ghost use Rattle.plans.specs.Leading.{has_leaders};
+ghost use Rattle.frames.specs.Sheet.{frames_in};
+ghost use Rattle.reading.specs.Leading.{has_leaders};
 ghost use Rattle.standing.specs.Laid.{Lays};
 ghost use Rattle.sampled_frames.specs.Laid.{CopyRoom, part_of, TableLaid, SampledLaid};
 
-use plans::frames::among::has_kinds;
+use frames::among::has_kinds;
+use reading::second::LONG_SHEET;
 use standing::lay::{SEEN, lay_standing};
-use standing::reading::second::LONG_SHEET;
 
 // Copies the first n bytes behind the first `at` of the sheet: where they end.
 fn copy_bytes(bytes: &[u8], n: usize, sheet: &mut [u8], at: usize) -> usize

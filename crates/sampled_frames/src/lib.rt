@@ -2,8 +2,3 @@
 #![tactic(auto)]
 
 pub mod lay;
-
-pub use plans::{first_reading, frame_tests};
-pub use row_indexing;
-pub use row_indexing::buckets;
-pub use standing::reading;

@@ -2,10 +2,5 @@
 #![tactic(auto)]
 
 pub mod ask;
+pub mod below;
 pub mod sheets;
-
-pub use query;
-pub use query::given;
-pub use table_samples::{
-    buckets, fields, first_reading, frame_tests, frames, kinds, reading, records, second_reading,
-};

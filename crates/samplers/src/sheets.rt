@@ -6,9 +6,8 @@ ghost use Rattle.query.specs.Statistics.{high as high_of, low as low_of, driver_
 ghost use Rattle.table_samples.specs.Listed.{Listed};
 
 use hexadecimal::{byte_at, word_at};
-use query::given::search::find_in;
-use table_samples::fields::field::wide;
-use table_samples::records::shorts::copy_shorts;
+use query::below::find_in;
+use table_samples::below::{copy_shorts, wide};
 use table_samples::tables::least;
 
 fn high(s: u16) -> u8

@@ -11,14 +11,14 @@ use lib.Ieee.{Float}
 use lib.ListN.{length, get_or, set, length-set}
 use lib.Seq.{get_or-set_same, get_or-set_other}
 use borrow.Author.Tests.{lt-ltb, le-ltb, ltb-true, ltb-false}
-use Rattle.memo_entries.specs.Given.{Given}
+use Rattle.query.specs.Given.{Given}
 use Rattle.measure.specs.Selectivity.{zero64}
 use Rattle.measure.specs.declared.FanOut.{FanOut}
 use Rattle.measure.specs.declared.FanOut.TheVariants.{Measured, Unmeasured}
 use Rattle.measure.specs.declared.SamplerConfig.{SamplerConfig}
 use Rattle.measure.specs.declared.Estimate.{Estimate}
 use Rattle.measure.specs.declared.Estimate.TheVariants.{Accepted, Rejected}
-use Rattle.memo_entries.specs.Sampled.TheVariants.{On}
+use Rattle.query.specs.declared.statistics.Sampled.TheVariants.{On}
 use Rattle.memo_entries.specs.Key.{Key}
 use Rattle.memo_entries.specs.Measurement.{Measurement}
 use Rattle.memo_entries.specs.Measurement.TheVariants.{NoDraws, Accepted as Taken, Rejected as Refused}

@@ -2,6 +2,4 @@ pub mod KeyLaws
 pub mod EstimateLaws
 pub mod SampleLaws
 pub mod OwnLaws
-pub use Rattle.memo_entries.proofs.AtomFrames
-pub use Rattle.memo_entries.proofs.QueryPlansLaws
 pub use Rattle.memo_entries.proofs.Remembered

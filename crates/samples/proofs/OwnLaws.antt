@@ -3,7 +3,7 @@ use Prim.Native.Nat.{ℕ}
 use mathlib.Core.Path.{sym, subst}
 use mathlib.Core.List.{List}
 use lib.Ieee.{Float}
-use Rattle.memo_entries.specs.Sampled.{Sampled}
+use Rattle.query.specs.declared.statistics.Sampled.{Sampled}
 use Rattle.memo_entries.specs.Sampling.{Sampling}
 use Rattle.samples.specs.Remembering.{Samples, Remembers}
 

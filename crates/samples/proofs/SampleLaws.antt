@@ -7,18 +7,18 @@ use native.Mathlib.Omega.{arith}
 use lib.Ieee.{Float}
 use lib.ListN.{length, get_or, get_or-map}
 use borrow.Author.Tests.{eq-eqb, ne_eqb}
-use Rattle.memo_entries.specs.Given.{Given}
+use Rattle.query.specs.Given.{Given}
 use Rattle.measure.specs.declared.FanOut.TheVariants.{Unmeasured}
 use Rattle.measure.specs.declared.SamplerConfig.{SamplerConfig}
-use Rattle.memo_entries.specs.Statistics.{settings}
-use Rattle.memo_entries.specs.Sampled.{Sampled}
-use Rattle.memo_entries.specs.Sampled.TheVariants.{On, Off}
+use Rattle.query.specs.Statistics.{settings}
+use Rattle.query.specs.declared.statistics.Sampled.{Sampled}
+use Rattle.query.specs.declared.statistics.Sampled.TheVariants.{On, Off}
 use Rattle.memo_entries.specs.Key.{Key}
 use Rattle.memo_entries.specs.Sampling.{Sampling}
 use Rattle.memo_entries.specs.CostSampling.{Tally, after_estimate}
 use Rattle.memo_entries.specs.Emitters.{Emitter, decode}
 use Rattle.memo_entries.specs.Memo.{tally_at}
-use Rattle.memo_entries.specs.Lookups.{operand_at}
+use Rattle.query.specs.Lookups.{operand_at}
 use Rattle.memo_entries.specs.Costs.{Estimated, estimate, sampled_by, sampled}
 use Rattle.samples.specs.Remembering.{number_key, Samples, Remembers, Gives}
 use Rattle.samples.specs.declared.memo.Sample.{Sample}

@@ -3,9 +3,9 @@ use Rattle.std.specs.Prelude.{ℕ, ◌-◌, ◌/◌, ◌%◌, ◌<◌, ◌≤◌
 use Rattle.measure.specs.Selectivity.{zero64}
 use Rattle.measure.specs.declared.SamplerConfig.{SamplerConfig}
 use Rattle.measure.specs.declared.FanOut.TheVariants.{Unmeasured}
-use Rattle.memo_entries.specs.Statistics.{settings}
-use Rattle.memo_entries.specs.Sampled.{Sampled}
-use Rattle.memo_entries.specs.Sampled.TheVariants.{On}
+use Rattle.query.specs.Statistics.{settings}
+use Rattle.query.specs.declared.statistics.Sampled.{Sampled}
+use Rattle.query.specs.declared.statistics.Sampled.TheVariants.{On}
 use Rattle.memo_entries.specs.CostSampling.{measure, value_of}
 use Rattle.memo_entries.specs.Memo.{entry_key, has_value, tally_at, keys_most}
 use Rattle.memo_entries.specs.Costs.{Estimated, or_measured}

@@ -1,17 +1,15 @@
 // The memo of what was measured, with the values: a known key gives its value again.
 ghost use Rattle.std.specs.Prelude.{◌<◌, ◌≤◌, length};
-ghost use Rattle.memo_entries.specs.Sheet.{frames_in};
-ghost use Rattle.memo_entries.specs.Given.{Given};
-ghost use Rattle.memo_entries.specs.Sampled.TheVariants.{On};
+ghost use Rattle.query.specs.Sheet.{frames_in};
+ghost use Rattle.query.specs.Given.{Given};
+ghost use Rattle.query.specs.declared.statistics.Sampled.TheVariants.{On};
 ghost use Rattle.memo_entries.specs.CostSampling.{after_estimate};
 ghost use Rattle.memo_entries.specs.Memo.{tally_at};
 ghost use Rattle.memo_entries.specs.Costs.{estimate as estimate_of};
 ghost use Rattle.samples.specs.Remembering.{Samples, Remembers, Gives};
 
 use measure::{FanOut, SamplerConfig};
-use memo_entries::cost::draws::measure_key;
-use memo_entries::cost::memo::{Sampling, counted, pack_key};
-use memo_entries::cost::probes::Key;
+use memo_entries::below::{Key, Sampling, counted, measure_key, pack_key};
 use memo_entries::entry::{entry_of, fan_at, fan_value, measured_fan, place_of};
 
 // A sampled fan-out, where there is one, and what is remembered behind it.

@@ -1,21 +1,20 @@
 // The sample of a probe, by the emitter of the operand that it goes by.
 ghost use Rattle.std.specs.Prelude.{◌≡◌, map, ◌<◌, ◌≤◌, length, get_or};
-ghost use Rattle.memo_entries.specs.Sheet.{frames_in};
-ghost use Rattle.memo_entries.specs.Given.{Given};
+ghost use Rattle.query.specs.Sheet.{frames_in};
+ghost use Rattle.query.specs.Given.{Given};
 ghost use Rattle.measure.specs.declared.FanOut.TheVariants.{Unmeasured};
 ghost use Rattle.memo_entries.specs.Costs.{sampled as sampled_of};
 ghost use Rattle.memo_entries.specs.Emitters.{decode};
 ghost use Rattle.memo_entries.specs.Memo.{tally_at};
-ghost use Rattle.memo_entries.specs.Lookups.{operand_at};
+ghost use Rattle.query.specs.Lookups.{operand_at};
 ghost use Rattle.samples.specs.Remembering.{number_key, Samples, Remembers, Gives};
 
 use super::memo::{Sample, estimate};
+use fields::field::wide;
 use hexadecimal::byte_at;
 use measure::FanOut;
-use memo_entries::cost::memo::Sampling;
-use memo_entries::cost::probes::Key;
-use memo_entries::fields::field::wide;
-use memo_entries::query::statistics::Sampled;
+use memo_entries::below::{Key, Sampling};
+use query::statistics::Sampled;
 
 // A probe of a candidate atom: its operator, and the path and place of the key.
 #[derive(Clone, Copy)]

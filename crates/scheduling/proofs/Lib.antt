@@ -1,4 +1,1 @@
 pub mod LoopLaws
-pub use Rattle.round_choice.proofs.AtomFrames
-pub use Rattle.round_choice.proofs.QueryPlansLaws
-pub use Rattle.round_choice.proofs.Remembered

@@ -10,38 +10,38 @@ use native.Mathlib.Omega.{arith}
 use lib.ListN.{length, take, replicate}
 use lib.Ieee.{Float, lt}
 use borrow.Author.Tests.{not-true, not-false}
-use Rattle.base.specs.Choose.{pick}
-use Rattle.round_choice.specs.Sheet.{frames_in}
-use Rattle.model.specs.Atoms.{Atom, Step}
-use Rattle.model.specs.Bound.{Bound, has, add, bound_most, blank}
-use Rattle.model.proofs.BoundLaws.{has_blank}
-use Rattle.model.specs.Tabulate.{tabulate}
-use Rattle.model.proofs.TabulateLaws.{tabulate_length, tabulate_mem}
-use Rattle.model.specs.Lowering.{Lowered, done}
-use Rattle.model.specs.Scheduling.{State, Chosen, Progress, scans, unlowered, lower_eager, emit_at, go_on, rounds_up_to, atom_of, numbers}
-use Rattle.model.specs.Cheapest.{Bid, Scan, scan, bidder, better, is_candidate, cheapest}
-use Rattle.round_choice.specs.Sampled.{Sampled}
-use Rattle.round_choice.specs.Emitters.{Emitters, record_atom, record_emitters}
-use Rattle.round_choice.specs.Sampling.{Tally}
-use Rattle.round_choice.specs.Costs.{Costed, estimate_cost}
-use Rattle.round_choice.specs.Memo.{memo_at, tally_at, keys_most}
-use Rattle.round_choice.specs.Choice.{Memory, offers, recorded, cost, emitted_by, by_cost, choose, rounds_from, rounds, planned, remembered}
-use Rattle.round_choice.proofs.ChoiceLaws.{choose_fair}
-use Rattle.round_choice.specs.CostSampling.{Sampling}
+use Rattle.cost.specs.Choose.{pick}
+use Rattle.query.specs.Sheet.{frames_in}
+use Rattle.query.specs.Atoms.{Atom, Step}
+use Rattle.query.specs.Bound.{Bound, has, add, bound_most, blank}
+use Rattle.cost.proofs.BoundLaws.{has_blank}
+use Rattle.query.specs.Tabulate.{tabulate}
+use Rattle.cost.proofs.TabulateLaws.{tabulate_length, tabulate_mem}
+use Rattle.query.specs.Lowering.{Lowered, done}
+use Rattle.cost.specs.Scheduling.{State, Chosen, Progress, scans, unlowered, lower_eager, emit_at, go_on, rounds_up_to, atom_of, numbers}
+use Rattle.cost.specs.Cheapest.{Bid, Scan, scan, bidder, better, is_candidate, cheapest}
+use Rattle.query.specs.declared.statistics.Sampled.{Sampled}
+use Rattle.cost.specs.Emitters.{Emitters, record_atom, record_emitters}
+use Rattle.cost.specs.Sampling.{Tally}
+use Rattle.cost.specs.Costs.{Costed, estimate_cost}
+use Rattle.cost.specs.Memo.{memo_at, tally_at, keys_most}
+use Rattle.cost.specs.Choice.{Memory, offers, recorded, cost, emitted_by, by_cost, choose, rounds_from, rounds, planned, remembered}
+use Rattle.cost.proofs.ChoiceLaws.{choose_fair}
+use Rattle.cost.specs.declared.memo.Sampling.{Sampling}
 use Rattle.round_choice.proofs.Remembered.{loop_grows}
 use Rattle.round_choice.specs.Eager.{state, Went, Located, Ready, sheet_atoms}
 use Rattle.round_choice.proofs.EagerLaws.{lowered_then}
 use Rattle.round_choice.specs.Remembering.{Remembers}
 use Rattle.round_choice.specs.Bidding.{bid_of, or_best}
 use Rattle.round_choice.specs.Choosing.{candidates}
-use Rattle.cost_bits.specs.CostBits.{cost_bits}
+use Rattle.round_choice.specs.CostBits.{cost_bits}
 use Rattle.round_choice.specs.Advancing.{emitters_of, Prepared, TakesNext}
 use Rattle.round_choice.specs.RoundChoice.{Chooses, RoundRoom}
 use Rattle.scheduling.specs.Rounds.{Ordering, Scheduling, Rounded}
 use Rattle.round_choice.specs.Scheduler.{Scheduler}
 use Rattle.round_choice.specs.declared.next.Round.{Round}
 use Rattle.scheduling.specs.declared.schedule.Scheduled.{Scheduled}
-use Rattle.round_choice.proofs.ChoosingChoiceLaws.{offers_number}
+use Rattle.round_choice.proofs.ChoiceLaws.{offers_number}
 
 -- ---- the choice by cost, over the tally alone
 

@@ -2,15 +2,15 @@
 use Rattle.std.specs.Prelude.{ℕ, suc, ◌≤◌, ◌≡◌, length, take}
 use Rattle.std.proofs.Math.Option.{Option, none, some}
 use mathlib.Core.List.{List, Memᴰ, map}
-use Rattle.base.specs.Choose.{pick}
-use Rattle.round_choice.specs.Sheet.{frames_in}
-use Rattle.model.specs.Atoms.{Step}
-use Rattle.model.specs.Bound.{Bound, bound_most, blank}
-use Rattle.model.specs.Lowering.{Lowered}
-use Rattle.model.specs.Scheduling.{Progress, atom_of, numbers}
-use Rattle.round_choice.specs.Choice.{Memory, rounds, planned, remembered}
+use Rattle.cost.specs.Choose.{pick}
+use Rattle.query.specs.Sheet.{frames_in}
+use Rattle.query.specs.Atoms.{Step}
+use Rattle.query.specs.Bound.{Bound, bound_most, blank}
+use Rattle.query.specs.Lowering.{Lowered}
+use Rattle.cost.specs.Scheduling.{Progress, atom_of, numbers}
+use Rattle.cost.specs.Choice.{Memory, rounds, planned, remembered}
 use Rattle.round_choice.specs.Eager.{state, sheet_atoms}
-use Rattle.cost_bits.specs.CostBits.{cost_bits}
+use Rattle.round_choice.specs.CostBits.{cost_bits}
 use Rattle.scheduling.specs.declared.schedule.Scheduled.{Scheduled}
 
 -- the atom chosen in the last round, where one was found

@@ -2,5 +2,3 @@
 #![tactic(auto)]
 
 pub mod schedule;
-
-pub use round_choice::{memo_entries, prices};

@@ -1,19 +1,18 @@
 // The greedy loop: an eager round, then the cheapest atom, until none is left.
 ghost use Rattle.std.specs.Prelude.{◌≡◌, false, suc, ◌≤◌, length};
-ghost use Rattle.round_choice.specs.Sheet.{frames_in};
-ghost use Rattle.round_choice.specs.Given.{Given};
-ghost use Rattle.round_choice.specs.Choice.{rounds};
-ghost use Rattle.round_choice.specs.Memo.{keys_most};
+ghost use Rattle.query.specs.Sheet.{frames_in};
+ghost use Rattle.query.specs.Given.{Given};
+ghost use Rattle.cost.specs.Choice.{rounds};
+ghost use Rattle.cost.specs.Memo.{keys_most};
 ghost use Rattle.round_choice.specs.Eager.{Located, sheet_atoms};
 ghost use Rattle.round_choice.specs.Prices.{Priced};
 ghost use Rattle.round_choice.specs.Remembering.{Samples};
 ghost use Rattle.scheduling.specs.Rounds.{Rounded};
 
-use round_choice::advancing::advance::{Scheduler, take_next};
-use round_choice::bidding::bid::Best;
-use round_choice::cost::memo::Sampling;
+use cost::memo::Sampling;
+use query::statistics::Sampled;
+use round_choice::below::{Best, Scheduler, take_next};
 use round_choice::next::choose_next;
-use round_choice::query::statistics::Sampled;
 
 // The atoms lowered in order, how many they are, the tallies, and the atom chosen in the last round, if one was found.
 #[derive(Clone, Copy)]

@@ -8,7 +8,7 @@ use native.Mathlib.Omega.{arith}
 use lib.ListN.{length, get_or}
 use lib.Dec.{eqb}
 use borrow.Author.Tests.{eqb-true, eqb-false}
-use Rattle.base.specs.Choose.{pick}
+use Rattle.class_sets.specs.Choose.{pick}
 use Rattle.indexing.specs.Kinds.{kinds, kind_at}
 use Rattle.indexing.specs.Frames.{kind_of, frame_length}
 use Rattle.indexing.specs.Keys.{begins, find, is_found, key_given}

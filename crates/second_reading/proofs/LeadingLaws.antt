@@ -7,8 +7,8 @@ use native.Mathlib.Omega.{arith}
 use lib.ListN.{length, get_or}
 use lib.Dec.{eqb}
 use borrow.Author.Tests.{eq-eqb, ne_eqb, eqb-true, eqb-false}
-use Rattle.base.specs.Choose.{pick}
-use Rattle.hexadecimal.specs.Digits.{short_at}
+use Rattle.class_sets.specs.Choose.{pick}
+use Rattle.class_sets.specs.Digits.{short_at}
 use Rattle.class_sets.specs.Sets.{set_words, has_class, with_class}
 use Rattle.class_sets.proofs.SetLaws.{class_more, same_words}
 use Rattle.indexing.specs.Kinds.{kinds, kind_at}

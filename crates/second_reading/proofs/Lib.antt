@@ -3,9 +3,11 @@ pub mod FromTableLaws
 pub mod LeadingLaws
 pub mod SecondLaws
 pub mod QueryLaws
+pub use Rattle.class_sets.proofs.Bytes
+pub use Rattle.class_sets.proofs.ChooseLaws
+pub use Rattle.class_sets.proofs.Lists
+pub use Rattle.first_reading.proofs.Case
+pub use Rattle.first_reading.proofs.Cuts
 pub use Rattle.first_reading.proofs.ReadingLaws
 pub use Rattle.indexing.proofs.BehindLaws
-pub use Rattle.indexing.proofs.NoteLaws
-pub use Rattle.indexing.proofs.SearchLaws
 pub use Rattle.indexing.proofs.SheetLaws
-pub use Rattle.indexing.proofs.SlotLaws

@@ -7,8 +7,8 @@ use native.Mathlib.Omega.{arith}
 use lib.ListN.{get_or}
 use lib.Dec.{eqb}
 use borrow.Author.Tests.{eq-eqb, ne_eqb, eqb-true, eqb-false}
-use Rattle.base.specs.Choose.{pick}
-use Rattle.hexadecimal.specs.Digits.{bytes_of}
+use Rattle.class_sets.specs.Choose.{pick}
+use Rattle.class_sets.specs.Digits.{bytes_of}
 use Rattle.class_sets.specs.Fields.{field_passes}
 use Rattle.class_sets.proofs.FieldLaws.{in_same}
 use Rattle.indexing.specs.Frames.{frame_passes}

@@ -8,7 +8,7 @@ use native.Mathlib.Omega.{arith}
 use lib.ListN.{length, get_or, drop}
 use lib.Dec.{eqb}
 use borrow.Author.Tests.{eq-eqb, ne_eqb, eqb-true, not-true, not-false}
-use Rattle.base.specs.Choose.{pick}
+use Rattle.class_sets.specs.Choose.{pick}
 use Rattle.class_sets.specs.Limits.{atoms_most}
 use Rattle.class_sets.specs.Fields.{field_passes}
 use Rattle.class_sets.specs.Sets.{set_words, has_class}

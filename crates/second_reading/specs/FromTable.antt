@@ -1,6 +1,6 @@
 -- Note 3: "query frame 24, without fields, takes samples from a table text handed in beside the query". Where it may stand.
 use Rattle.std.specs.Prelude.{ℕ, Bool, false, not, List, get_or, eqb}
-use Rattle.base.specs.Choose.{pick}
+use Rattle.class_sets.specs.Choose.{pick}
 use Rattle.indexing.specs.Among.{has_kinds}
 
 abbrev pub takes_table : List ℕ → Bool

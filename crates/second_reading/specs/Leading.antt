@@ -1,7 +1,7 @@
 -- Note 5: "Frame 34 class(2) leader(2)". Where it may stand.
 use Rattle.std.specs.Prelude.{ℕ, Bool, true, false, List, [], ◌∷◌, ◌++◌, get_or, eqb}
-use Rattle.base.specs.Choose.{pick}
-use Rattle.hexadecimal.specs.Digits.{short_at}
+use Rattle.class_sets.specs.Choose.{pick}
+use Rattle.class_sets.specs.Digits.{short_at}
 use Rattle.indexing.specs.Among.{has_kinds}
 use Rattle.indexing.specs.Keys.{find, is_found}
 

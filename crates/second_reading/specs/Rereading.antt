@@ -1,7 +1,7 @@
 -- The second reading over a sheet, with an index that it fills.
 use Rattle.std.specs.Prelude.{ℕ, ◌+◌, ◌*◌, ◌/◌, ◌≤◌, ◌≡◌, Bool, true, false, List, [], length, get_or}
-use Rattle.base.specs.Choose.{pick}
-use Rattle.hexadecimal.specs.Digits.{short_at}
+use Rattle.class_sets.specs.Choose.{pick}
+use Rattle.class_sets.specs.Digits.{short_at}
 use Rattle.class_sets.specs.Fields.{field_passes}
 use Rattle.indexing.specs.Frames.{frame_passes}
 use Rattle.indexing.specs.Sheet.{frames_in, Whole}

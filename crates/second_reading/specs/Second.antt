@@ -1,8 +1,8 @@
 -- "then a second reading tests 5, 6, 7 the same way": each line in turn; then the whole reading of a query, a plan or a table.
 -- Notes 3 and 5: 13 and 14 "in the second reading after 7".
 use Rattle.std.specs.Prelude.{ℕ, suc, Bool, true, List, [], ◌∷◌, ◌++◌, get_or}
-use Rattle.base.specs.Choose.{pick}
-use Rattle.hexadecimal.specs.Digits.{bytes_of}
+use Rattle.class_sets.specs.Choose.{pick}
+use Rattle.class_sets.specs.Digits.{bytes_of}
 use Rattle.class_sets.specs.Limits.{atoms_most, globals_most}
 use Rattle.class_sets.specs.Fields.{field_passes}
 use Rattle.indexing.specs.Frames.{frame_passes}

@@ -5,9 +5,9 @@ ghost use Rattle.indexing.specs.Index.{slots_for, Falling};
 ghost use Rattle.second_reading.specs.Leading.{leads};
 ghost use Rattle.second_reading.specs.Rereading.{chained_by, Marked};
 
+use class_sets::below::{byte_at, short_at};
 use class_sets::set::{add_class, has_class};
-use hexadecimal::{byte_at, short_at};
-use indexing::frame_keys::keys::begins;
+use indexing::below::begins;
 use indexing::index::{hash_of, key_given};
 
 // Whether the leader of a frame 34 has one: this one, or one that is entered; or whether its class is the leader of one that is entered.

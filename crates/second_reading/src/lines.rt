@@ -8,13 +8,11 @@ ghost use Rattle.indexing.specs.Index.{slots_for, hash_of, Falling, given_by};
 ghost use Rattle.second_reading.specs.Rereading.{fields_fault, chained_by, BlankFor, LeadersFor, Rereads};
 
 use crate::leading::{is_chained, mark_leader};
-use class_sets::fields::field::Counts;
+use class_sets::below::{Counts, byte_at};
+use first_reading::below::Text;
 use first_reading::first::Reading;
-use first_reading::frame_tests::tests::Text;
-use hexadecimal::byte_at;
-use indexing::frames::frame::{frame_at, range_passes, reals_pass};
+use indexing::below::{frame_at, key_length, range_passes, reals_pass, tests_of};
 use indexing::index::{hash_of, key_given, note};
-use indexing::kinds::table::{key_length, tests_of};
 
 // What a header says, with that many atoms, and with a table to take samples from or none.
 fn header_counts(table: bool, header: &[u8], atoms: usize) -> Counts

@@ -3,7 +3,7 @@ ghost use Rattle.std.specs.Prelude.{◌≡◌};
 ghost use Rattle.indexing.specs.Sheet.{frames_in};
 ghost use Rattle.second_reading.specs.FromTable.{table_for};
 
-use indexing::frames::among::has_kinds;
+use indexing::below::has_kinds;
 
 // Whether there is a table to take samples from. The frames are looked at only where one is handed in.
 pub fn table_for(handed: bool, sheet: &[u8]) -> bool

@@ -1,13 +1,9 @@
 pub mod StepLaws
 pub mod SheetLaws
 pub use Rattle.decoding.proofs.AcceptedLaws
-pub use Rattle.decoding.proofs.DistinctRows
-pub use Rattle.decoding.proofs.Found
-pub use Rattle.decoding.proofs.LentLaws
-pub use Rattle.decoding.proofs.ReadLaws
-pub use Rattle.decoding.proofs.ReadingLaws
-pub use Rattle.decoding.proofs.RefusalBounds
 pub use Rattle.decoding.proofs.RoomLaws
-pub use Rattle.decoding.proofs.Whole
 pub use Rattle.named_joins.proofs.PlanLaws
+pub use Rattle.table_tests.proofs.DistinctRows
+pub use Rattle.table_tests.proofs.Found
+pub use Rattle.table_tests.proofs.Whole
 pub use Rattle.world_run.proofs.HaltLaws

@@ -6,23 +6,23 @@ use mathlib.Core.List.{List, [], ◌∷◌}
 use native.Mathlib.Omega.{arith}
 use lib.ListN.{length, get_or, replicate, length-replicate}
 use borrow.Author.Tests.{leb-true}
-use Rattle.base.proofs.Lists.{blank_at}
-use Rattle.reading_facts.specs.Limits.{rows_most}
-use Rattle.reading_facts.specs.Fields.{field_passes, field_fits, no_counts}
-use Rattle.reading_facts.specs.Test.TheVariants.{Limits}
-use Rattle.reading_facts.specs.Kinds.{kinds, kind_at}
-use Rattle.reading_facts.specs.Frames.{frame_passes}
-use Rattle.reading_facts.specs.Sheet.{frames_in}
-use Rattle.reading_facts.specs.Text.TheVariants.{Table}
+use Rattle.fields.proofs.Lists.{blank_at}
+use Rattle.fields.specs.Limits.{rows_most}
+use Rattle.fields.specs.Fields.{field_passes, field_fits, no_counts}
+use Rattle.fields.specs.declared.field.Test.TheVariants.{Limits}
+use Rattle.frames.specs.Kinds.{kinds, kind_at}
+use Rattle.frames.specs.Frames.{frame_passes}
+use Rattle.frames.specs.Sheet.{frames_in}
+use Rattle.frame_tests.specs.declared.tests.Text.TheVariants.{Table}
 use Rattle.reading_facts.specs.First.{frames_of, Sheet}
 use Rattle.reading_facts.specs.Reading.TheVariants.{Accepted}
 use Rattle.reading_facts.specs.Second.{reading}
 use Rattle.reading_facts.proofs.Passes.{frame_field}
 use Rattle.reading_facts.proofs.Whole.{accepted, table_rows}
-use Rattle.leaders.specs.Items.{Each}
-use Rattle.leaders.specs.Rows.{rows_in}
-use Rattle.leaders.proofs.ItemsLaws.{each_by}
-use Rattle.leaders.proofs.RowLaws.{rows_counted}
+use Rattle.records.specs.Items.{Each}
+use Rattle.records.specs.Rows.{rows_in}
+use Rattle.records.proofs.ItemsLaws.{each_by}
+use Rattle.records.proofs.RowLaws.{rows_counted}
 use Rattle.standing.specs.Stands.{Narrow, RowsSheet, StandingRoom}
 
 -- "items 16"

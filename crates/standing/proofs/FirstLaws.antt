@@ -8,10 +8,10 @@ use lib.ListN.{length, take, length-append}
 use lib.Seq.{take_all, take-append-le}
 use lib.Dec.{leb}
 use borrow.Author.Tests.{leb-true, leb-false}
-use Rattle.model.specs.Atoms.{Row}
-use Rattle.model.specs.Firsts.{is_among, firsts_from, firsts}
-use Rattle.model.proofs.FirstLaws.{firsts_append}
-use Rattle.leaders.specs.Leaders.{same_row}
+use Rattle.records.specs.Atoms.{Row}
+use Rattle.records.specs.Firsts.{is_among, firsts_from, firsts}
+use Rattle.records.proofs.FirstLaws.{firsts_append}
+use Rattle.records.specs.Leaders.{same_row}
 
 module _ (l : List Row) (x : Row) where
   pub firsts_old : is_among same_row x (firsts same_row l) ≡ true → firsts same_row (l ++ x ∷ []) ≡ firsts same_row l

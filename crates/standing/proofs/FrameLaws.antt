@@ -7,15 +7,15 @@ use native.Mathlib.Numerals.{add-one}
 use native.Mathlib.Omega.{arith}
 use lib.ListN.{length, get_or, length-map}
 use Rattle.hexadecimal.specs.Digits.{short_at, word_at}
-use Rattle.reading_facts.specs.Kinds.{kinds, kind_at}
-use Rattle.reading_facts.specs.Frames.{frame_length}
-use Rattle.reading_facts.specs.Faults.{is_row}
-use Rattle.model.proofs.ListsLaws.{flat_append}
-use Rattle.model.specs.Limits.{class_bytes}
-use Rattle.leaders.specs.Items.{items_at}
-use Rattle.leaders.specs.Rows.{row_of, word_bytes}
-use Rattle.leaders.proofs.ItemsLaws.{items_count, items_last}
-use Rattle.leaders.proofs.RowFrames.{IsRow, is_node_lem, is_literal_lem, row_kind, classes_length}
+use Rattle.frames.specs.Kinds.{kinds, kind_at}
+use Rattle.frames.specs.Frames.{frame_length}
+use Rattle.frame_tests.specs.Faults.{is_row}
+use Rattle.records.proofs.ListsLaws.{flat_append}
+use Rattle.records.specs.ModelLimits.{class_bytes}
+use Rattle.records.specs.Items.{items_at}
+use Rattle.records.specs.Rows.{row_of, word_bytes}
+use Rattle.records.proofs.ItemsLaws.{items_count, items_last}
+use Rattle.records.proofs.RowFrames.{IsRow, is_node_lem, is_literal_lem, row_kind, classes_length}
 use Rattle.standing.specs.Laid.{Lays, lead_on, head_bytes, value_bytes, child_bytes, led_frame}
 use Rattle.standing.proofs.PutLaws.{lays_room, lays_both}
 

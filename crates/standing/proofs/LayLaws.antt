@@ -8,24 +8,24 @@ use lib.ListN.{length, get_or, take, drop, length-append, length-map}
 use lib.Seq.{length-take-le, take-length, take-nil, drop_at}
 use lib.Dec.{ltb}
 use borrow.Author.Tests.{not-true, not-false}
-use Rattle.base.proofs.ChooseLaws.{pick_elim}
+use Rattle.hexadecimal.proofs.ChooseLaws.{pick_elim}
 use Rattle.hexadecimal.specs.Digits.{short_at}
-use Rattle.reading_facts.specs.Frames.{kind_of, frame_length}
-use Rattle.reading_facts.specs.Sheet.{frame_at, frames_in, laid_out, Whole}
-use Rattle.reading_facts.proofs.SheetLaws.{frames_end, frame_some, frame_within, frames_step, frames_laid, laid_more}
-use Rattle.reading_facts.specs.Keys.{key_given}
-use Rattle.reading_facts.specs.Faults.{is_row}
-use Rattle.reading_facts.specs.Index.{few_slots, many_slots, large_index, slots_for, Noting, Indexes, noted, entries_with}
-use Rattle.reading_facts.proofs.SlotLaws.{slots_some, keyed_counts}
-use Rattle.reading_facts.proofs.NoteLaws.{noted_line, noted_length, given_is, blank_indexes}
-use Rattle.reading_facts.proofs.BehindLaws.{index_behind}
-use Rattle.model.specs.Atoms.{Row}
-use Rattle.model.specs.Firsts.{is_among, firsts_from, firsts}
-use Rattle.leaders.specs.Items.{Each, items_at}
-use Rattle.leaders.specs.Leaders.{led_row, led_rows, same_row, standing, standing_below}
-use Rattle.leaders.specs.Rows.{row_of, rows_in, row_frame}
-use Rattle.leaders.proofs.ItemsLaws.{items_count}
-use Rattle.leaders.proofs.RowFrames.{IsRow, is_node_lem, is_literal_lem, row_kind, Small, row_length, row_key_lem, rows_whole, same_given}
+use Rattle.frames.specs.Frames.{kind_of, frame_length}
+use Rattle.frames.specs.Sheet.{frame_at, frames_in, laid_out, Whole}
+use Rattle.frames.proofs.SheetLaws.{frames_end, frame_some, frame_within, frames_step, frames_laid, laid_more}
+use Rattle.indexing.specs.Keys.{key_given}
+use Rattle.frame_tests.specs.Faults.{is_row}
+use Rattle.indexing.specs.Index.{few_slots, many_slots, large_index, slots_for, Noting, Indexes, noted, entries_with}
+use Rattle.indexing.proofs.SlotLaws.{slots_some, keyed_counts}
+use Rattle.indexing.proofs.NoteLaws.{noted_line, noted_length, given_is, blank_indexes}
+use Rattle.indexing.proofs.BehindLaws.{index_behind}
+use Rattle.records.specs.Atoms.{Row}
+use Rattle.records.specs.Firsts.{is_among, firsts_from, firsts}
+use Rattle.records.specs.Items.{Each, items_at}
+use Rattle.records.specs.Leaders.{led_row, led_rows, same_row, standing, standing_below}
+use Rattle.records.specs.Rows.{row_of, rows_in, row_frame}
+use Rattle.records.proofs.ItemsLaws.{items_count}
+use Rattle.records.proofs.RowFrames.{IsRow, is_node_lem, is_literal_lem, row_kind, Small, row_length, row_key_lem, rows_whole, same_given}
 use Rattle.standing.specs.Laid.{Lays, lead_on, led_frame}
 use Rattle.standing.specs.Stands.{part_of, TurnRoom, Turned, Narrow, StandingRoom, Stands}
 use Rattle.standing.proofs.PutLaws.{lays_before, lays_there}

@@ -6,7 +6,7 @@ use native.Mathlib.Numerals.{add-one}
 use native.Mathlib.Omega.{arith}
 use lib.ListN.{length, take, drop, set, length-set, length-append}
 use lib.Seq.{take-suc-set, take-take, take_at, drop_at, take-add, length-take-le}
-use Rattle.model.specs.Limits.{class_bytes}
+use Rattle.records.specs.ModelLimits.{class_bytes}
 use Rattle.standing.specs.Laid.{Lays}
 
 pub lays_byte : (o : List ℕ) (at b : ℕ) → at < length o → Lays o at (b ∷ []) (set o at b) (at + 1)

@@ -4,7 +4,7 @@ use mathlib.Core.Path.{◌≡◌, refl}
 use mathlib.Core.Bool.{Bool, true, false}
 use mathlib.Core.List.{List}
 use lib.ListN.{length, take}
-use Rattle.reading_facts.specs.Index.{slots_for, given_by, noted}
+use Rattle.indexing.specs.Index.{slots_for, given_by, noted}
 use Rattle.standing.specs.Stands.{part_of, Turned}
 
 module _ (o : List ℕ) (e b : ℕ) (t : List ℕ) (m : ℕ) (r : Bool) (p : r ≡ given_by (slots_for (length t)) (take e o) t (part_of o e b)) where

@@ -2,11 +2,11 @@
 use Rattle.std.specs.Prelude.{ℕ, ◌+◌, ◌≡◌, length, get_or, take}
 use mathlib.Core.List.{List, [], ◌∷◌, ◌++◌, map, flat_map}
 use Rattle.hexadecimal.specs.Digits.{short_at}
-use Rattle.reading_facts.specs.Sheet.{frames_in}
-use Rattle.model.specs.Limits.{class_bytes}
-use Rattle.leaders.specs.Items.{items_at}
-use Rattle.leaders.specs.Leaders.{leader_in, led_row}
-use Rattle.leaders.specs.Rows.{row_of, row_frame}
+use Rattle.frames.specs.Sheet.{frames_in}
+use Rattle.records.specs.ModelLimits.{class_bytes}
+use Rattle.records.specs.Items.{items_at}
+use Rattle.records.specs.Leaders.{leader_in, led_row}
+use Rattle.records.specs.Rows.{row_of, row_frame}
 
 -- o' has the bytes bs behind the first `at` of o, up to r
 pub record Lays (o : List ℕ) (at : ℕ) (bs o' : List ℕ) (r : ℕ) : Type 0 where

@@ -1,13 +1,7 @@
 pub mod Laid
 pub mod Stands
-pub use Rattle.leaders.specs.Leaders
-pub use Rattle.leaders.specs.Rows
 pub use Rattle.reading_facts.specs.Ascii
-pub use Rattle.reading_facts.specs.First
-pub use Rattle.reading_facts.specs.Index
-pub use Rattle.reading_facts.specs.IndexedReading
-pub use Rattle.reading_facts.specs.Limits
-pub use Rattle.reading_facts.specs.Reading
-pub use Rattle.reading_facts.specs.Second
-pub use Rattle.reading_facts.specs.Sheet
-pub use Rattle.reading_facts.specs.Text
+pub use Rattle.records.specs.Atoms
+pub use Rattle.records.specs.Firsts
+pub use Rattle.records.specs.Leaders
+pub use Rattle.records.specs.Rows

@@ -1,13 +1,13 @@
 -- The rows that stand, laid on a sheet of their own.
 use Rattle.std.specs.Prelude.{ℕ, ◌+◌, ◌-◌, ◌*◌, ◌≤◌, ◌≡◌, Bool, List, map, length, get_or, take, drop}
-use Rattle.base.specs.Choose.{pick}
-use Rattle.reading_facts.specs.Limits.{items_most, rows_most}
-use Rattle.reading_facts.specs.Frames.{kind_of}
-use Rattle.reading_facts.specs.Sheet.{frames_in, Whole}
-use Rattle.reading_facts.specs.Index.{many_slots, slots_for, Falling, given_by, noted, Noting}
-use Rattle.leaders.specs.Items.{Each}
-use Rattle.leaders.specs.Leaders.{standing, standing_below}
-use Rattle.leaders.specs.Rows.{rows_in, row_frame}
+use Rattle.hexadecimal.specs.Choose.{pick}
+use Rattle.fields.specs.Limits.{items_most, rows_most}
+use Rattle.frames.specs.Frames.{kind_of}
+use Rattle.frames.specs.Sheet.{frames_in, Whole}
+use Rattle.indexing.specs.Index.{many_slots, slots_for, Falling, given_by, noted, Noting}
+use Rattle.records.specs.Items.{Each}
+use Rattle.records.specs.Leaders.{standing, standing_below}
+use Rattle.records.specs.Rows.{rows_in, row_frame}
 use Rattle.standing.specs.declared.lay.Stood.{Stood}
 
 -- ---- one row: laid from e to b on the sheet o

@@ -1,12 +1,12 @@
 // "The first stands, later ones are passed over": the rows of a table in turn, with an index of those that stand.
-ghost use Rattle.reading_facts.specs.Index.{Indexed};
+ghost use Rattle.indexing.specs.Index.{Indexed};
 ghost use Rattle.standing.specs.Stands.{TurnRoom, Turned, StandingRoom, Stands};
 
 use super::row::put_row;
+use frame_tests::tests::is_row;
+use frames::frame::frame_at;
 use hexadecimal::byte_at;
-use reading_facts::frame_tests::tests::is_row;
-use reading_facts::frames::frame::frame_at;
-use reading_facts::indexing::index::{MANY_SLOTS, hash_of, key_given, note};
+use indexing::index::{MANY_SLOTS, hash_of, key_given, note};
 
 // How many bytes are laid, and how many of the rows are old.
 #[derive(Clone, Copy)]

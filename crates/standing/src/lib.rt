@@ -4,5 +4,3 @@
 pub mod lay;
 pub mod put;
 pub mod row;
-
-pub use reading_facts::{fields, first_reading, frame_tests, frames, kinds, reading};

@@ -1,9 +1,9 @@
 // Bytes laid behind others.
 ghost use Rattle.std.specs.Prelude.{[], ◌∷◌, ◌+◌, ◌<◌, ◌≤◌, length};
-ghost use Rattle.model.specs.Limits.{class_bytes};
+ghost use Rattle.records.specs.ModelLimits.{class_bytes};
 ghost use Rattle.standing.specs.Laid.{Lays};
 
-use leaders::records::shorts::{high_of, low_of};
+use records::shorts::{high_of, low_of};
 
 pub fn put_byte(out: &mut [u8], at: usize, b: u8) -> usize
     requires { at < length out.old }

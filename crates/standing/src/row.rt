@@ -1,13 +1,13 @@
 // A row's frame with the leaders of its classes.
 ghost use Rattle.std.specs.Prelude.{◌≡◌, true, ◌+◌, ◌*◌, ◌<◌, ◌≤◌, length, get_or};
-ghost use Rattle.reading_facts.specs.Faults.{is_row};
-ghost use Rattle.reading_facts.specs.Index.{Indexed};
+ghost use Rattle.frame_tests.specs.Faults.{is_row};
+ghost use Rattle.indexing.specs.Index.{Indexed};
 ghost use Rattle.standing.specs.Laid.{Lays, head_bytes, value_bytes, child_bytes, led_frame};
 
 use super::put::{put_byte, put_short};
+use fields::field::wide;
 use hexadecimal::{byte_at, short_at};
 use leaders::leader::leader;
-use reading_facts::fields::field::wide;
 
 // Kind, class and operator.
 fn put_head(sheet: &[u8], index: &[u16], frame: &[u8], out: &mut [u8], at: usize) -> usize

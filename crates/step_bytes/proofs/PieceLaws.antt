@@ -7,13 +7,13 @@ use native.Mathlib.Omega.{arith}
 use lib.Dec.{T, eqb}
 use lib.ListN.{get_or}
 use borrow.Author.Tests.{eq-eqb, ne_eqb}
-use Rattle.base.specs.Choose.{pick}
+use Rattle.hexadecimal.specs.Choose.{pick}
 use Rattle.output.specs.Fields.{width}
 use Rattle.binding.specs.Kinds.{kinds, kind_at, fixed_length, items_of}
 use Rattle.output.specs.Frames.{kind_of}
-use Rattle.model.specs.Atoms.{Operand, local, global, wild, tame, ByOp, ByRepr, Join}
-use Rattle.model.specs.Bound.{Bound}
-use Rattle.model.specs.Lowering.{pv_is_bound, read_child}
+use Rattle.output.specs.Atoms.{Operand, local, global, wild, tame, ByOp, ByRepr, Join}
+use Rattle.binding.specs.Bound.{Bound}
+use Rattle.binding.specs.Lowering.{pv_is_bound, read_child}
 use Rattle.binding.specs.QueryAtoms.{operands_from}
 use Rattle.output.specs.Lookups.{operand_at}
 use Rattle.binding.proofs.Tame.{operand_tame}

@@ -6,9 +6,9 @@ use mathlib.Core.List.{List, [], ◌∷◌, map}
 use native.Mathlib.Omega.{arith}
 use lib.ListN.{get_or}
 use Rattle.binding.specs.Kinds.{kinds, kind_at}
-use Rattle.model.specs.Atoms.{Eq, EqGlobal}
-use Rattle.model.specs.Bound.{Bound, has}
-use Rattle.model.specs.Lowering.{lower}
+use Rattle.output.specs.Atoms.{Eq, EqGlobal}
+use Rattle.binding.specs.Bound.{Bound, has}
+use Rattle.binding.specs.Lowering.{lower}
 use Rattle.binding.specs.QueryAtoms.{atom_of_frame}
 use Rattle.output.specs.StepFrames.{word_bytes, frame_of}
 use Rattle.step_bytes.specs.Begun.{Begins, Becomes, steps_of, behind_of}

@@ -1,12 +1,12 @@
 -- Steps held in an array: their bytes come first in it, as many as the table of kinds has for their kind.
 use Rattle.std.specs.Prelude.{ℕ, ◌≤◌, ◌≡◌, List, [], ◌∷◌, ◌++◌, map, length, get_or, eqb}
 use Rattle.std.proofs.Math.Option.{Option, none, some}
-use Rattle.base.specs.Choose.{pick}
+use Rattle.hexadecimal.specs.Choose.{pick}
 use Rattle.output.specs.Fields.{width}
 use Rattle.binding.specs.Kinds.{fixed_length, items_of}
 use Rattle.output.specs.Frames.{kind_of}
-use Rattle.model.specs.Atoms.{Atom, Plain, Lit, LitBind, Eq, EqGlobal, Pred, Variadic, Step, Expand, ExtractLitVal, CheckLit}
-use Rattle.model.specs.Lowering.{Emitted, expansion_of}
+use Rattle.output.specs.Atoms.{Atom, Plain, Lit, LitBind, Eq, EqGlobal, Pred, Variadic, Step, Expand, ExtractLitVal, CheckLit}
+use Rattle.binding.specs.Lowering.{Emitted, expansion_of}
 use Rattle.binding.specs.QueryAtoms.{atom_of_frame}
 use Rattle.output.specs.StepFrames.{frame_of}
 use Rattle.output.specs.Written.{fixed_in}

@@ -1,12 +1,2 @@
 pub mod Pieces
 pub mod Begun
-pub use Rattle.binding.specs.ItemOperands
-pub use Rattle.binding.specs.Kinds
-pub use Rattle.binding.specs.QueryAtoms
-pub use Rattle.binding.specs.Sheet
-pub use Rattle.output.specs.Fields
-pub use Rattle.output.specs.Frames
-pub use Rattle.output.specs.Lookups
-pub use Rattle.output.specs.PlanText
-pub use Rattle.output.specs.StepFrames
-pub use Rattle.output.specs.Written

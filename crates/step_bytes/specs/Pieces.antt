@@ -1,8 +1,8 @@
 -- The pieces of an atom's steps as they are written.
 use Rattle.std.specs.Prelude.{ℕ, zero, suc, ◌+◌, Bool, true, false, List, [], ◌∷◌, ◌++◌, get_or, take}
-use Rattle.model.specs.Atoms.{Operand, Lookup, ByChildPos, ByContains}
-use Rattle.model.specs.Bound.{Bound}
-use Rattle.model.specs.Lowering.{child_lookups, contains_lookups}
+use Rattle.output.specs.Atoms.{Operand, Lookup, ByChildPos, ByContains}
+use Rattle.binding.specs.Bound.{Bound}
+use Rattle.binding.specs.Lowering.{child_lookups, contains_lookups}
 use Rattle.output.specs.Lookups.{operand_at}
 use Rattle.output.specs.StepFrames.{tag_of, index_of}
 

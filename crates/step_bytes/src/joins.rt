@@ -1,6 +1,6 @@
 // The bytes of a Join by its operator: with its node, or as the first of its lookups.
 ghost use Rattle.std.specs.Prelude.{◌≡◌, [], ◌∷◌, get_or};
-ghost use Rattle.model.specs.Atoms.{ByOp, ByRepr, Join};
+ghost use Rattle.output.specs.Atoms.{ByOp, ByRepr, Join};
 ghost use Rattle.output.specs.StepFrames.{frame_of};
 
 use hexadecimal::byte_at;

@@ -5,7 +5,3 @@ pub mod collection;
 pub mod joins;
 pub mod operand;
 pub mod single;
-
-pub use binding;
-pub use output;
-pub use output::{frames, kinds};

@@ -1,6 +1,6 @@
 // What an operand of an atom's frame becomes: a lookup of the Join, or the step that reads a Plain's child.
 ghost use Rattle.std.specs.Prelude.{◌≡◌, [], ◌∷◌, map, ◌+◌, ◌<◌, get_or};
-ghost use Rattle.model.specs.Lowering.{pv_is_bound, read_child};
+ghost use Rattle.binding.specs.Lowering.{pv_is_bound, read_child};
 ghost use Rattle.output.specs.Lookups.{operand_at};
 ghost use Rattle.output.specs.StepFrames.{tag_of, index_of, lookup_bytes, frame_of};
 ghost use Rattle.step_bytes.specs.Pieces.{lookup_for};

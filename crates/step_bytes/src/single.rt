@@ -1,7 +1,7 @@
 // The one step of an Eq, an EqGlobal or a Pred, and the one behind the Join of a Lit or a LitBind.
 ghost use Rattle.std.specs.Prelude.{map, ◌<◌, get_or};
-ghost use Rattle.model.specs.Atoms.{Eq, EqGlobal};
-ghost use Rattle.model.specs.Lowering.{lower};
+ghost use Rattle.output.specs.Atoms.{Eq, EqGlobal};
+ghost use Rattle.binding.specs.Lowering.{lower};
 ghost use Rattle.binding.specs.QueryAtoms.{atom_of_frame};
 ghost use Rattle.output.specs.StepFrames.{frame_of};
 ghost use Rattle.step_bytes.specs.Begun.{Begins, Becomes, steps_of, behind_of};

@@ -8,9 +8,9 @@ use lib.ListN.{get_or}
 use native.Mathlib.Omega.{arith}
 use native.Mathlib.Decide.{dec_lt}
 use borrow.Author.Tests.{ne_eqb, lt-ltb, le-ltb}
-use Rattle.base.specs.Choose.{pick}
-use Rattle.model.specs.Bound.{Bound, has}
-use Rattle.model.specs.Refusing.{op_at}
+use Rattle.hexadecimal.specs.Choose.{pick}
+use Rattle.join_tests.specs.Bound.{Bound, has}
+use Rattle.join_tests.specs.Refusing.{op_at}
 use Rattle.join_tests.specs.Arrays.{is_bound, bound_in, picked_in, ops_in, fits_shape, given, reach_fits}
 use Rattle.join_tests.proofs.ArrayLaws.{bound_at, picked_at, op_at_lem}
 use Rattle.step_tests.specs.Steps.{meets_bound, row_read, child_fault, literal_fault, global_fault}

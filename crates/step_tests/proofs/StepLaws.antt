@@ -8,10 +8,10 @@ use native.Mathlib.Decide.{dec_lt}
 use lib.Dec.{eqb, leb, ltb}
 use lib.ListN.{length, get_or}
 use borrow.Author.Tests.{ne_eqb, lt-ltb, le-ltb, le-leb, lt-leb, not-true, not-false}
-use Rattle.base.specs.Choose.{pick}
-use Rattle.model.specs.Atoms.{local, global, wild, Step, Join, ExtractChild, CheckChildEq, CheckEq, CheckEqGlobal, BindGlobal, CopyBinding, Expand, ExtractLitVal, CheckLit, CheckPred, Row, Node, Literal as LiteralRow, unset, Table, rows, global_class, is_join}
-use Rattle.model.specs.Bound.{Bound, has, has_all, has_none}
-use Rattle.model.specs.Refusing.{all_rows, is_literal, has_child, op_at}
+use Rattle.hexadecimal.specs.Choose.{pick}
+use Rattle.join_tests.specs.Atoms.{local, global, wild, Step, Join, ExtractChild, CheckChildEq, CheckEq, CheckEqGlobal, BindGlobal, CopyBinding, Expand, ExtractLitVal, CheckLit, CheckPred, Row, Node, Literal as LiteralRow, unset, Table, rows, global_class, is_join}
+use Rattle.join_tests.specs.Bound.{Bound, has, has_all, has_none}
+use Rattle.join_tests.specs.Refusing.{all_rows, is_literal, has_child, op_at}
 use Rattle.running.specs.StepFrames.{step_of}
 use Rattle.running.specs.Validation.{all_given, step_fault}
 use Rattle.join_tests.specs.Arrays.{shape_of, given, reach_of}

@@ -1,9 +1,9 @@
 -- The tests of a step other than a Join, by arrays: B bound, R picked, O the operators of the picked, F shapes of operators, G classes of globals.
 use Rattle.std.specs.Prelude.{ℕ, ◌≡◌, Bool, true, false, not, List, get_or, eqb}
-use Rattle.base.specs.Choose.{pick}
-use Rattle.model.specs.Atoms.{local, global, wild, Step, Join, ExtractChild, CheckChildEq, CheckEq, CheckEqGlobal, BindGlobal, CopyBinding, Expand, ExtractLitVal, CheckLit, CheckPred, Table, rows}
-use Rattle.model.specs.Bound.{Bound, has}
-use Rattle.model.specs.Refusing.{op_at}
+use Rattle.hexadecimal.specs.Choose.{pick}
+use Rattle.join_tests.specs.Atoms.{local, global, wild, Step, Join, ExtractChild, CheckChildEq, CheckEq, CheckEqGlobal, BindGlobal, CopyBinding, Expand, ExtractLitVal, CheckLit, CheckPred, Table, rows}
+use Rattle.join_tests.specs.Bound.{Bound, has}
+use Rattle.join_tests.specs.Refusing.{op_at}
 use Rattle.join_tests.specs.Arrays.{fits_shape, Shaped, reach_fits, reach_of, given}
 use Rattle.step_tests.specs.declared.simple.Simple.{Simple}
 use Rattle.step_tests.specs.declared.simple.Simple.TheVariants.{Child, ChildGlobal, Pair, Global, Literal, NotRun}

@@ -1,11 +1,11 @@
 // What is asked of a variable's row, and of a global.
 ghost use Rattle.std.specs.Prelude.{◌≡◌};
-ghost use Rattle.model.specs.Refusing.{op_at};
+ghost use Rattle.join_tests.specs.Refusing.{op_at};
 ghost use Rattle.join_tests.specs.Arrays.{bound_in, picked_in, ops_in};
 ghost use Rattle.step_tests.specs.Steps.{meets_bound, row_read, child_fault, literal_fault, global_fault};
 
+use fields::field::wide;
 use join_tests::arrays::{is_bound, is_given, mark_at, reach_fits, shape_at};
-use join_tests::fields::field::wide;
 
 // Whether the row of a variable may be read: a Join picked it.
 pub fn row_read(p: u8, marks: &[u16]) -> bool

@@ -3,6 +3,3 @@
 
 pub mod faults;
 pub mod simple;
-
-pub use join_tests;
-pub use join_tests::{fields, frames};

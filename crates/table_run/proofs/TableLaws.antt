@@ -7,28 +7,28 @@ use native.Mathlib.Omega.{arith}
 use lib.Dec.{eqb, leb}
 use lib.ListN.{length, get_or}
 use borrow.Author.Tests.{eqb-true, leb-true}
-use Rattle.base.specs.Choose.{pick}
-use Rattle.base.proofs.ChooseLaws.{both_hold}
-use Rattle.hexadecimal.specs.Digits.{short_at}
-use Rattle.sheet_run.specs.Fields.{field_passes, field_in}
-use Rattle.sheet_run.specs.Counts.{Counts}
-use Rattle.sheet_run.specs.Test.TheVariants.{Range}
-use Rattle.sheet_run.specs.Kinds.{kinds, kind_at}
-use Rattle.sheet_run.specs.Frames.{pass_all, frame_passes}
-use Rattle.sheet_run.specs.Keys.{begins, find, is_found}
-use Rattle.model.proofs.Bools.{true_false}
-use Rattle.sheet_run.specs.Rows.{rows_in}
-use Rattle.sheet_run.specs.Limits.{text_most, rows_most}
-use Rattle.sheet_run.specs.Sheet.{frames_in}
-use Rattle.sheet_run.specs.First.{frames_of, Sheet}
-use Rattle.sheet_run.specs.Text.TheVariants.{Table as TableText}
-use Rattle.sheet_run.specs.Reading.{Reading}
-use Rattle.sheet_run.specs.Reading.TheVariants.{Accepted, Refused}
-use Rattle.sheet_run.specs.Second.{counts_of, reading}
+use Rattle.frame_tests.specs.Choose.{pick}
+use Rattle.reading.proofs.ChooseLaws.{both_hold}
+use Rattle.reading.specs.Digits.{short_at}
+use Rattle.reading.specs.Fields.{field_passes, field_in}
+use Rattle.reading.specs.Counts.{Counts}
+use Rattle.reading.specs.Test.TheVariants.{Range}
+use Rattle.reading.specs.Kinds.{kinds, kind_at}
+use Rattle.frame_tests.specs.Frames.{pass_all, frame_passes}
+use Rattle.reading.specs.Keys.{begins, find, is_found}
+use Rattle.modes.proofs.Bools.{true_false}
+use Rattle.modes.specs.Rows.{rows_in}
+use Rattle.frame_tests.specs.Limits.{text_most, rows_most}
+use Rattle.frame_tests.specs.Sheet.{frames_in}
+use Rattle.first_reading.specs.First.{frames_of, Sheet}
+use Rattle.frame_tests.specs.declared.tests.Text.TheVariants.{Table as TableText}
+use Rattle.first_reading.specs.declared.first.Reading.{Reading}
+use Rattle.first_reading.specs.declared.first.Reading.TheVariants.{Accepted, Refused}
+use Rattle.reading.specs.Second.{counts_of, reading}
 use Rattle.sheet_run.proofs.Found.{begun_kind, found_at}
 use Rattle.sheet_run.proofs.Whole.{Whole, accepted}
 use Rattle.sheet_run.proofs.RoomLaws.{rows_number, rows_most_lem, rows_short, table_room}
-use Rattle.model.specs.Running.{Mode}
+use Rattle.modes.specs.Running.{Mode}
 use Rattle.sheet_run.specs.Tables.{new_from}
 use Rattle.sheet_run.proofs.DistinctRows.{distinct_frames}
 use Rattle.sheet_run.proofs.AcceptedLaws.{rows_sheet}

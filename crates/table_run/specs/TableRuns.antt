@@ -1,12 +1,12 @@
 -- A run over a table text: what its arrays need, and the tests.
 use Rattle.std.specs.Prelude.{ℕ, ◌+◌, ◌*◌, ◌/◌, ◌<◌, ◌≤◌, List, length}
-use Rattle.sheet_run.specs.Limits.{text_most, rows_most}
-use Rattle.sheet_run.specs.Kinds.{table}
-use Rattle.sheet_run.specs.First.{frames_of}
-use Rattle.sheet_run.specs.Text.TheVariants.{Table as TableText}
-use Rattle.sheet_run.specs.Second.{reading}
-use Rattle.sheet_run.specs.IndexedReading.{Lent}
-use Rattle.model.specs.Running.{Mode}
+use Rattle.frame_tests.specs.Limits.{text_most, rows_most}
+use Rattle.reading.specs.Kinds.{table}
+use Rattle.first_reading.specs.First.{frames_of}
+use Rattle.frame_tests.specs.declared.tests.Text.TheVariants.{Table as TableText}
+use Rattle.reading.specs.Second.{reading}
+use Rattle.reading.specs.IndexedReading.{Lent}
+use Rattle.modes.specs.Running.{Mode}
 use Rattle.sheet_run.specs.Chains.{links_at}
 use Rattle.sheet_run.specs.Validation.{Verdict, and_then, of_reading, tests_with}
 

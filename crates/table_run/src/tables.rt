@@ -1,18 +1,18 @@
 // The run of a plan on its sheet over a table text: the table is read, then run on its sheet.
-ghost use Rattle.sheet_run.specs.Sheet.{frames_in};
-ghost use Rattle.sheet_run.specs.First.{frames_of};
-ghost use Rattle.sheet_run.specs.Modes.{mode_of};
+ghost use Rattle.frame_tests.specs.Sheet.{frames_in};
+ghost use Rattle.first_reading.specs.First.{frames_of};
+ghost use Rattle.modes.specs.Modes.{mode_of};
 ghost use Rattle.sheet_run.specs.Plans.{PlanSheet};
 ghost use Rattle.sheet_run.specs.Ends.{Ends};
 ghost use Rattle.sheet_run.specs.SheetRuns.{halt_in};
 ghost use Rattle.table_run.specs.TableRuns.{table_tests, TableLent};
 
-use sheet_run::first_reading::first::{Reading, sheet_size};
-use sheet_run::frame_tests::tests::Text;
-use sheet_run::modes::mode::DeltaAtom;
-use sheet_run::reading::second::read_indexed;
+use first_reading::first::{Reading, sheet_size};
+use frame_tests::tests::Text;
+use modes::mode::DeltaAtom;
+use reading::second::read_indexed;
+use sheet_run::below::{Ended, refused_table};
 use sheet_run::sheets::run_sheets;
-use sheet_run::world_run::world::{Ended, refused_table};
 
 // The run of the plan on a sheet over a table text, with the arrays that are lent for the table.
 pub fn run_table(

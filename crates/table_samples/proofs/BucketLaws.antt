@@ -8,8 +8,8 @@ use native.Mathlib.Nat.{mul-le-mul_left}
 use lib.ListN.{length, take}
 use lib.Dec.{leb}
 use borrow.Author.Tests.{le-leb, lt-leb, leb-true, leb-false}
-use Rattle.base.specs.Choose.{pick}
-use Rattle.model.specs.Atoms.{Row}
+use Rattle.hexadecimal.specs.Choose.{pick}
+use Rattle.buckets.specs.Atoms.{Row}
 use Rattle.buckets.specs.Wanted.{op_path, wanted}
 use Rattle.buckets.specs.Want.{Want}
 use Rattle.buckets.specs.Buckets.{numbers_from, strided, hits, StrideRoom, NumbersRoom}

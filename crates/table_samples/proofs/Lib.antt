@@ -1,8 +1,10 @@
 pub mod RowClasses
 pub mod BucketLaws
+pub use Rattle.buckets.proofs.Bools
+pub use Rattle.buckets.proofs.BoundLaws
+pub use Rattle.buckets.proofs.CheapestLaws
 pub use Rattle.buckets.proofs.ItemsLaws
-pub use Rattle.buckets.proofs.LentLaws
 pub use Rattle.buckets.proofs.NumberLaws
-pub use Rattle.buckets.proofs.QueryLaws
-pub use Rattle.buckets.proofs.ReadLaws
+pub use Rattle.buckets.proofs.Scheduled
 pub use Rattle.buckets.proofs.SheetLaws
+pub use Rattle.buckets.proofs.TabulateLaws

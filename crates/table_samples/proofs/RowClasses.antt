@@ -9,11 +9,11 @@ use lib.ListN.{length, get_or, set, take, drop, length-set, drop_of_length-le}
 use lib.Seq.{take-suc-set, drop-cons, get_or-take, length-take-le}
 use lib.Dec.{eqb}
 use borrow.Author.Tests.{eq-eqb, ne_eqb}
-use Rattle.base.specs.Choose.{pick}
+use Rattle.hexadecimal.specs.Choose.{pick}
 use Rattle.hexadecimal.specs.Digits.{short_at, word_at}
-use Rattle.model.specs.Atoms.{Row, Node, Literal, class_of, children}
-use Rattle.model.specs.Equality.{same_class}
-use Rattle.model.specs.Running.{among, no_row}
+use Rattle.buckets.specs.Atoms.{Row, Node, Literal, class_of, children}
+use Rattle.buckets.specs.Equality.{same_class}
+use Rattle.buckets.specs.Running.{among, no_row}
 use Rattle.buckets.specs.Items.{items_at}
 use Rattle.buckets.specs.Rows.{row_of}
 use Rattle.buckets.proofs.ItemsLaws.{items_more, items_none}

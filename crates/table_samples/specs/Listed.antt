@@ -1,6 +1,6 @@
 -- A list of numbers in an array.
 use Rattle.std.specs.Prelude.{ℕ, ◌<◌, ◌≤◌, ◌≡◌, List, length, take}
-use Rattle.model.specs.Atoms.{Row}
+use Rattle.buckets.specs.Atoms.{Row}
 use Rattle.buckets.specs.Items.{Each}
 
 -- the first n places of an array are the numbers xs; they are at most m

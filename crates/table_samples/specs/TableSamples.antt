@@ -1,9 +1,9 @@
 -- Note 3, the answers of a table: "Nodes are row numbers."
 use Rattle.std.specs.Prelude.{ℕ, suc, ◌*◌, ◌/◌, min, List, [], ◌∷◌, ◌++◌, length, get_or, eqb, leb}
-use Rattle.base.specs.Choose.{pick}
-use Rattle.field_values.specs.FieldValues.{node_site, child_site}
-use Rattle.model.specs.Atoms.{Row, class_of, children}
-use Rattle.model.specs.Running.{among, no_row}
+use Rattle.hexadecimal.specs.Choose.{pick}
+use Rattle.buckets.specs.FieldValues.{node_site, child_site}
+use Rattle.buckets.specs.Atoms.{Row, class_of, children}
+use Rattle.buckets.specs.Running.{among, no_row}
 use Rattle.buckets.specs.Wanted.{op_path, wanted}
 use Rattle.buckets.specs.Buckets.{numbers_from, strided, hits}
 

@@ -1,15 +1,14 @@
 // The answers of a table, Note 3: nodes are row numbers.
 ghost use Rattle.std.specs.Prelude.{◌≡◌, [], ◌<◌, ◌≤◌, min, length, take};
-ghost use Rattle.model.specs.Atoms.{children as children_of};
-ghost use Rattle.model.specs.Running.{among};
+ghost use Rattle.buckets.specs.Atoms.{children as children_of};
+ghost use Rattle.buckets.specs.Running.{among};
 ghost use Rattle.buckets.specs.Rows.{row_of};
 ghost use Rattle.buckets.specs.RowIndex.{RowsIndexed, rows_on};
 ghost use Rattle.table_samples.specs.TableSamples.{table_classes, table_drivers, table_probe, child_of, distinct_from, scaled_back};
 ghost use Rattle.table_samples.specs.Listed.{Listed, RowsListed};
 
-use buckets::fields::field::wide;
+use buckets::below::{OP_PATH, Want, child_count, wide};
 use buckets::index::row_frame;
-use buckets::row_frames::row::{OP_PATH, Want, child_count};
 use buckets::sample::{count_rows, op_hits, stride_rows};
 use hexadecimal::short_at;
 

@@ -6,14 +6,14 @@ use native.Mathlib.Omega.{arith}
 use native.Mathlib.Decide.{ℕ_discrete}
 use lib.ListN.{length, get_or, set, length-set}
 use lib.Seq.{get_or-set_same, get_or-set_other, ext_get_or}
-use Rattle.join_tests.specs.Sheet.{frames_in}
+use Rattle.frames.specs.Sheet.{frames_in}
 use Rattle.hexadecimal.specs.Digits.{short_at}
-use Rattle.join_tests.specs.Kinds.{kind_at}
-use Rattle.join_tests.specs.Index.{Proper}
-use Rattle.join_tests.specs.Keys.{find}
-use Rattle.leaders.specs.Leaders.{leader_in}
-use Rattle.model.specs.Tabulate.{tabulate}
-use Rattle.model.proofs.TabulateLaws.{tabulate_at, tabulate_length}
+use Rattle.frames.specs.Kinds.{kind_at}
+use Rattle.indexing.specs.Index.{Proper}
+use Rattle.indexing.specs.Keys.{find}
+use Rattle.join_tests.specs.Leaders.{leader_in}
+use Rattle.join_tests.specs.Tabulate.{tabulate}
+use Rattle.join_tests.proofs.TabulateLaws.{tabulate_at, tabulate_length}
 use Rattle.running.specs.Tables.{class_from, global_in, table_in}
 use Rattle.table_tests.specs.Globals.{GlobalsRead}
 

@@ -5,9 +5,9 @@ use mathlib.Core.List.{List, [], ◌∷◌}
 use native.Mathlib.Omega.{arith}
 use lib.ListN.{length}
 use Rattle.hexadecimal.specs.Digits.{short_at}
-use Rattle.join_tests.specs.Kinds.{kind_at}
-use Rattle.join_tests.specs.Index.{Proper}
-use Rattle.join_tests.specs.Keys.{find}
+use Rattle.frames.specs.Kinds.{kind_at}
+use Rattle.indexing.specs.Index.{Proper}
+use Rattle.indexing.specs.Keys.{find}
 use Rattle.running.specs.Tables.{row_from}
 
 pub row_none : (l : List ℕ) (n : ℕ) → length l ≡ 0 → n ≡ row_from l n

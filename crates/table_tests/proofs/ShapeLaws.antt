@@ -10,18 +10,18 @@ use lib.Dec.{eqb}
 use lib.ListN.{length, get_or, drop, set, replicate, length-set}
 use lib.Seq.{get_or-set_same, get_or-set_other}
 use borrow.Author.Tests.{eq-eqb, ne_eqb, not-true, not-false, eqb-true}
-use Rattle.base.specs.Choose.{pick}
-use Rattle.base.proofs.Lists.{blank_at}
+use Rattle.hexadecimal.specs.Choose.{pick}
+use Rattle.fields.proofs.Lists.{blank_at}
 use Rattle.hexadecimal.specs.Digits.{short_at}
-use Rattle.join_tests.specs.Kinds.{table}
-use Rattle.join_tests.specs.Faults.{is_row}
-use Rattle.join_tests.specs.Sheet.{frame_at, frames_in}
-use Rattle.join_tests.proofs.SheetLaws.{frames_end, frame_some, frame_within, frames_step}
-use Rattle.model.specs.Atoms.{Row, Node, Literal, op_of}
-use Rattle.model.specs.Refusing.{all_rows}
-use Rattle.leaders.specs.Items.{items_at}
-use Rattle.leaders.proofs.ItemsLaws.{items_count}
-use Rattle.leaders.specs.Rows.{row_of, rows_in}
+use Rattle.frames.specs.Kinds.{table}
+use Rattle.frame_tests.specs.Faults.{is_row}
+use Rattle.frames.specs.Sheet.{frame_at, frames_in}
+use Rattle.frames.proofs.SheetLaws.{frames_end, frame_some, frame_within, frames_step}
+use Rattle.join_tests.specs.Atoms.{Row, Node, Literal, op_of}
+use Rattle.join_tests.specs.Refusing.{all_rows}
+use Rattle.join_tests.specs.Items.{items_at}
+use Rattle.join_tests.proofs.ItemsLaws.{items_count}
+use Rattle.join_tests.specs.Rows.{row_of, rows_in}
 use Rattle.running.specs.Validation.{Verdict, Invalid, of_fault, same_shape, row_fault, with_row, shapes_from}
 use Rattle.join_tests.specs.Arrays.{shape_of, fits_shape, Shaped}
 use Rattle.table_tests.specs.declared.shapes.Verdict.TheVariants.{Passed as NoFault, Invalid as Fault}

@@ -1,6 +1,6 @@
 -- The classes of the globals, read off the table's sheet y.
 use Rattle.std.specs.Prelude.{◌≡◌, List, ℕ}
-use Rattle.join_tests.specs.Sheet.{frames_in}
+use Rattle.frames.specs.Sheet.{frames_in}
 use Rattle.running.specs.Tables.{table_in}
 
 pub record GlobalsRead (y G : List ℕ) : Type 0 where

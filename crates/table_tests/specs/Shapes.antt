@@ -1,9 +1,9 @@
 -- The shapes of the table's operators, a number for each: "operator with two shapes in the table, or position or literal unlike its rows".
 use Rattle.std.specs.Prelude.{ℕ, ◌<◌, ◌≡◌, Bool, List, [], length, get_or, set, eqb}
-use Rattle.base.specs.Choose.{pick}
-use Rattle.join_tests.specs.Sheet.{frames_in}
-use Rattle.join_tests.specs.Faults.{is_row}
-use Rattle.leaders.specs.Rows.{row_of, rows_in}
+use Rattle.hexadecimal.specs.Choose.{pick}
+use Rattle.frames.specs.Sheet.{frames_in}
+use Rattle.frame_tests.specs.Faults.{is_row}
+use Rattle.join_tests.specs.Rows.{row_of, rows_in}
 use Rattle.running.specs.Validation.{Verdict, Passed, Invalid, shapes_from}
 use Rattle.join_tests.specs.Arrays.{shape_of, fits_shape, Shaped}
 use Rattle.table_tests.specs.declared.shapes.Verdict.{Verdict as Answer}

@@ -1,12 +1,12 @@
 // The classes of the globals, by the frames 32 of the table's sheet, and by their leaders.
 ghost use Rattle.std.specs.Prelude.{◌≡◌, length};
-ghost use Rattle.join_tests.specs.Sheet.{frames_in};
-ghost use Rattle.join_tests.specs.Index.{Indexed};
+ghost use Rattle.frames.specs.Sheet.{frames_in};
+ghost use Rattle.indexing.specs.Index.{Indexed};
 ghost use Rattle.running.specs.Tables.{class_from, global_in};
 ghost use Rattle.table_tests.specs.Globals.{GlobalsRead};
 
 use hexadecimal::short_at;
-use join_tests::indexing::index::{find_by, is_absent};
+use indexing::index::{find_by, is_absent};
 use leaders::leader::leader;
 
 // No class has this number.

@@ -1,13 +1,13 @@
 // The first new row, by the frame 33 of the table's sheet.
 ghost use Rattle.std.specs.Prelude.{◌≡◌, [], ◌∷◌};
-ghost use Rattle.join_tests.specs.Sheet.{frames_in};
-ghost use Rattle.join_tests.specs.Keys.{find};
-ghost use Rattle.join_tests.specs.Index.{Indexed};
+ghost use Rattle.frames.specs.Sheet.{frames_in};
+ghost use Rattle.indexing.specs.Keys.{find};
+ghost use Rattle.indexing.specs.Index.{Indexed};
 ghost use Rattle.running.specs.Tables.{row_from};
 
+use fields::field::wide_short;
 use hexadecimal::short_at;
-use join_tests::fields::field::wide_short;
-use join_tests::indexing::index::{find_by, is_absent};
+use indexing::index::{find_by, is_absent};
 
 // The row that a frame 33 gives; the number n of rows where there is no frame.
 fn row_from(frame: &[u8], n: usize) -> usize

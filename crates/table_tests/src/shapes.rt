@@ -1,13 +1,13 @@
 // The shapes of the table's operators: each has the shape of its first row, and a row of another shape is a fault.
 ghost use Rattle.std.specs.Prelude.{◌≡◌, ◌+◌, ◌<◌, eqb, length, replicate};
-ghost use Rattle.leaders.specs.Rows.{row_of};
+ghost use Rattle.join_tests.specs.Rows.{row_of};
 ghost use Rattle.join_tests.specs.Arrays.{shape_of, fits_shape};
 ghost use Rattle.table_tests.specs.Shapes.{RowNoted, TableNoted};
 
+use fields::field::wide;
+use frame_tests::tests::is_row;
+use frames::frame::frame_at;
 use hexadecimal::byte_at;
-use join_tests::fields::field::wide;
-use join_tests::frame_tests::tests::is_row;
-use join_tests::frames::frame::frame_at;
 
 // What the tests find.
 #[derive(Clone, Copy)]

@@ -5,21 +5,21 @@ use mathlib.Core.Bool.{Bool, true, false, ◌&&◌, ◌||◌, not, and-true, and
 use mathlib.Core.List.{List, [], ◌∷◌, ◌++◌, flat_map}
 use lib.Dec.{eqb}
 use lib.ListN.{get_or}
-use Rattle.base.specs.Choose.{pick}
-use Rattle.model.specs.Atoms.{Operand, local, global, wild, Lookup, ByOp, ByChildPos, ByRepr, ByContains, Join, unset, Table, global_class}
-use Rattle.set_model.specs.Lists.{one}
-use Rattle.model.specs.Bound.{Bound, has, has_none, has_all}
-use Rattle.model.specs.Reading.{lookup_reads, named_by_repr}
-use Rattle.model.specs.Refusing.{count_ops, join_op, lookups_fit}
+use Rattle.hexadecimal.specs.Choose.{pick}
+use Rattle.join_tests.specs.Atoms.{Operand, local, global, wild, Lookup, ByOp, ByChildPos, ByRepr, ByContains, Join, unset, Table, global_class}
+use Rattle.join_tests.specs.Lists.{one}
+use Rattle.join_tests.specs.Bound.{Bound, has, has_none, has_all}
+use Rattle.join_tests.specs.Reading.{lookup_reads, named_by_repr}
+use Rattle.join_tests.specs.Refusing.{count_ops, join_op, lookups_fit}
 use Rattle.step_tests.specs.StepFrames.{step_of}
 use Rattle.step_tests.proofs.StepsRead.{no_join}
 use Rattle.step_tests.specs.Validation.{global_of, lookup_globals, all_given, step_fault}
-use Rattle.step_tests.specs.Arrays.{bound_in, picked_in, ops_in, given, reach_fits}
-use Rattle.step_tests.specs.Lookups.{lookups_of}
-use Rattle.step_tests.specs.JoinTestsLookups.{operand_seen, lookup_seen, none_seen, seen_in, seen_fault, join_tested}
-use Rattle.step_tests.specs.Seen.{Seen}
-use Rattle.step_tests.specs.Tested.{Tested}
-use Rattle.step_tests.proofs.SeenLaws.{seen_all, seen_read, seen_free, seen_ops, seen_op, seen_reach, fits_in}
+use Rattle.join_tests.specs.Arrays.{bound_in, picked_in, ops_in, given, reach_fits}
+use Rattle.join_tests.specs.RecordsLookups.{lookups_of}
+use Rattle.join_tests.specs.Lookups.{operand_seen, lookup_seen, none_seen, seen_in, seen_fault, join_tested}
+use Rattle.join_tests.specs.declared.seen.Seen.{Seen}
+use Rattle.join_tests.specs.declared.joins.Tested.{Tested}
+use Rattle.join_tests.proofs.SeenLaws.{seen_all, seen_read, seen_free, seen_ops, seen_op, seen_reach, fits_in}
 use Rattle.step_tests.specs.declared.simple.Simple.{Simple}
 use Rattle.step_tests.specs.Steps.{Described, simple, simple_fault}
 use Rattle.validation.specs.Steps.{StepTested}

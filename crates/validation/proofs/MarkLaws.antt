@@ -7,16 +7,16 @@ use native.Mathlib.Omega.{arith}
 use lib.Dec.{eqb}
 use lib.ListN.{length, get_or, set, length-set}
 use borrow.Author.Tests.{eq-eqb, ne_eqb, lt-ltb, eqb-true, not-true, not-false}
-use Rattle.base.specs.Choose.{pick}
-use Rattle.model.specs.Atoms.{Step, Join, ExtractChild, CheckChildEq, CheckEq, CheckEqGlobal, BindGlobal, CopyBinding, Expand, ExtractLitVal, CheckLit, CheckPred, is_join}
-use Rattle.model.proofs.Bools.{true_false}
-use Rattle.model.specs.Bound.{Bound, add, put}
-use Rattle.model.specs.Reading.{bound_by, picked_by}
-use Rattle.model.specs.Refusing.{join_op, runnable, ops_by}
+use Rattle.hexadecimal.specs.Choose.{pick}
+use Rattle.join_tests.specs.Atoms.{Step, Join, ExtractChild, CheckChildEq, CheckEq, CheckEqGlobal, BindGlobal, CopyBinding, Expand, ExtractLitVal, CheckLit, CheckPred, is_join}
+use Rattle.join_tests.proofs.Bools.{true_false}
+use Rattle.join_tests.specs.Bound.{Bound, add, put}
+use Rattle.join_tests.specs.Reading.{bound_by, picked_by}
+use Rattle.join_tests.specs.Refusing.{join_op, runnable, ops_by}
 use Rattle.step_tests.specs.StepFrames.{step_of}
 use Rattle.step_tests.proofs.StepsRead.{no_join}
-use Rattle.step_tests.specs.Arrays.{is_bound, is_picked, bound_in, picked_in, ops_in}
-use Rattle.step_tests.specs.Lookups.{lookups_of}
+use Rattle.join_tests.specs.Arrays.{is_bound, is_picked, bound_in, picked_in, ops_in}
+use Rattle.join_tests.specs.RecordsLookups.{lookups_of}
 use Rattle.validation.specs.Marks.{binds_target, bound_mark, Markable, Stepped}
 
 -- ---- one mark

@@ -8,29 +8,29 @@ use native.Mathlib.Numerals.{add-one}
 use lib.Dec.{ltb}
 use lib.ListN.{length, get_or, drop, replicate}
 use borrow.Author.Tests.{ltb-true}
-use Rattle.base.specs.Choose.{pick}
-use Rattle.base.proofs.ChooseLaws.{both_hold}
-use Rattle.step_tests.specs.Limits.{variables_most}
-use Rattle.step_tests.specs.Kinds.{kinds, kind_at, plan}
-use Rattle.step_tests.specs.Fields.{field_passes, field_in}
-use Rattle.step_tests.specs.Frames.{pass_all, frame_passes}
-use Rattle.step_tests.specs.Sheet.{frame_at, frames_in}
-use Rattle.step_tests.proofs.SheetLaws.{frames_end, frame_some, frame_within, frames_step}
-use Rattle.step_tests.specs.First.{frames_of}
-use Rattle.step_tests.specs.Counts.{Counts}
-use Rattle.step_tests.specs.Test.TheVariants.{Range}
-use Rattle.step_tests.specs.Text.TheVariants.{Plan}
-use Rattle.step_tests.specs.Second.{counts_of}
+use Rattle.hexadecimal.specs.Choose.{pick}
+use Rattle.hexadecimal.proofs.ChooseLaws.{both_hold}
+use Rattle.fields.specs.Limits.{variables_most}
+use Rattle.frames.specs.Kinds.{kinds, kind_at, plan}
+use Rattle.fields.specs.Fields.{field_passes, field_in}
+use Rattle.frames.specs.Frames.{pass_all, frame_passes}
+use Rattle.frames.specs.Sheet.{frame_at, frames_in}
+use Rattle.frames.proofs.SheetLaws.{frames_end, frame_some, frame_within, frames_step}
+use Rattle.join_tests.specs.First.{frames_of}
+use Rattle.fields.specs.declared.field.Counts.{Counts}
+use Rattle.fields.specs.declared.field.Test.TheVariants.{Range}
+use Rattle.join_tests.specs.Text.TheVariants.{Plan}
+use Rattle.join_tests.specs.Second.{counts_of}
 use Rattle.step_tests.proofs.Whole.{Whole, accepted, Headed, headed}
-use Rattle.model.specs.Atoms.{Table}
-use Rattle.model.specs.Bound.{Bound, blank}
-use Rattle.model.specs.Reading.{bound_by, picked_by, ready}
-use Rattle.model.specs.Refusing.{runnable, fits, ops_by}
+use Rattle.join_tests.specs.Atoms.{Table}
+use Rattle.join_tests.specs.Bound.{Bound, blank}
+use Rattle.join_tests.specs.Reading.{bound_by, picked_by, ready}
+use Rattle.join_tests.specs.Refusing.{runnable, fits, ops_by}
 use Rattle.step_tests.specs.StepFrames.{step_of}
 use Rattle.table_tests.specs.Tables.{steps_in}
 use Rattle.step_tests.specs.Validation.{of_fault, globals_of, all_given, step_fault, steps_from, steps_pass}
-use Rattle.step_tests.specs.Arrays.{bound_in, picked_in, ops_in}
-use Rattle.step_tests.specs.Tested.{Tested}
+use Rattle.join_tests.specs.Arrays.{bound_in, picked_in, ops_in}
+use Rattle.join_tests.specs.declared.joins.Tested.{Tested}
 use Rattle.step_tests.specs.Steps.{Described}
 use Rattle.validation.specs.Steps.{StepTested}
 use Rattle.validation.specs.Marks.{Targeted, Markable, Stepped}

@@ -4,13 +4,13 @@ use mathlib.Core.Path.{◌≡◌, refl, sym, ap, ◌∙◌, subst}
 use mathlib.Core.List.{List}
 use lib.ListN.{length-map}
 use native.Mathlib.Omega.{arith}
-use Rattle.step_tests.specs.Sheet.{frames_in}
-use Rattle.model.specs.Atoms.{Row, Node, Literal}
-use Rattle.step_tests.specs.Leaders.{leader_in, led_row, standing}
-use Rattle.step_tests.proofs.LeaderLaws.{standing_fits}
+use Rattle.frames.specs.Sheet.{frames_in}
+use Rattle.join_tests.specs.Atoms.{Row, Node, Literal}
+use Rattle.join_tests.specs.Leaders.{leader_in, led_row, standing}
+use Rattle.join_tests.proofs.LeaderLaws.{standing_fits}
 use Rattle.table_tests.specs.Tables.{table_in}
 use Rattle.step_tests.proofs.DistinctRows.{table_rows}
-use Rattle.step_tests.specs.Arrays.{shape_of, Shaped}
+use Rattle.join_tests.specs.Arrays.{shape_of, Shaped}
 use Rattle.step_tests.specs.Steps.{Described}
 use Rattle.table_tests.specs.declared.shapes.Verdict.{Verdict as Answer}
 use Rattle.table_tests.specs.declared.shapes.Verdict.TheVariants.{Passed as NoFault, Invalid as Fault}

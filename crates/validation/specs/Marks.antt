@@ -1,12 +1,12 @@
 -- What a step leaves in the marks of variables.
 use Rattle.std.specs.Prelude.{ℕ, ◌<◌, ◌≤◌, ◌≡◌, Bool, true, List, length, get_or, eqb}
-use Rattle.base.specs.Choose.{pick}
-use Rattle.step_tests.specs.Limits.{variables_most}
-use Rattle.model.specs.Reading.{bound_by, picked_by}
-use Rattle.model.specs.Refusing.{join_op, runnable, ops_by}
+use Rattle.hexadecimal.specs.Choose.{pick}
+use Rattle.fields.specs.Limits.{variables_most}
+use Rattle.join_tests.specs.Reading.{bound_by, picked_by}
+use Rattle.join_tests.specs.Refusing.{join_op, runnable, ops_by}
 use Rattle.step_tests.specs.StepFrames.{step_of}
-use Rattle.step_tests.specs.Arrays.{bound_in, picked_in, ops_in}
-use Rattle.step_tests.specs.Lookups.{lookups_of}
+use Rattle.join_tests.specs.Arrays.{bound_in, picked_in, ops_in}
+use Rattle.join_tests.specs.RecordsLookups.{lookups_of}
 
 -- 41 ExtractChild, 45 BindGlobal and 46 CopyBinding bind their target
 abbrev pub binds_target : ℕ → Bool

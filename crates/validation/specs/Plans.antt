@@ -1,11 +1,11 @@
 -- A plan's steps in turn, and the whole: what the code asks and leaves. x is the plan's sheet, y the table's.
 use Rattle.std.specs.Prelude.{ℕ, ◌≡◌, List}
-use Rattle.step_tests.specs.Sheet.{frames_in}
-use Rattle.step_tests.specs.Text.TheVariants.{Plan}
-use Rattle.step_tests.specs.First.{Sheet}
-use Rattle.step_tests.specs.Reading.TheVariants.{Accepted}
-use Rattle.step_tests.specs.Second.{reading}
-use Rattle.model.specs.Atoms.{Table}
+use Rattle.frames.specs.Sheet.{frames_in}
+use Rattle.join_tests.specs.Text.TheVariants.{Plan}
+use Rattle.join_tests.specs.First.{Sheet}
+use Rattle.join_tests.specs.FirstReadingReading.TheVariants.{Accepted}
+use Rattle.join_tests.specs.Second.{reading}
+use Rattle.join_tests.specs.Atoms.{Table}
 use Rattle.table_tests.specs.Tables.{table_in, steps_in}
 use Rattle.step_tests.specs.Validation.{steps_pass, tests_in}
 use Rattle.step_tests.specs.Steps.{Described}

@@ -1,12 +1,12 @@
 -- The fault of a plan's step.
 use Rattle.std.specs.Prelude.{ℕ, ◌≡◌, List, get_or}
-use Rattle.model.specs.Atoms.{Table}
-use Rattle.model.specs.Refusing.{join_op}
+use Rattle.join_tests.specs.Atoms.{Table}
+use Rattle.join_tests.specs.Refusing.{join_op}
 use Rattle.step_tests.specs.StepFrames.{step_of}
 use Rattle.step_tests.specs.Validation.{step_fault}
-use Rattle.step_tests.specs.Arrays.{bound_in, picked_in, ops_in}
-use Rattle.step_tests.specs.Lookups.{lookups_of}
-use Rattle.step_tests.specs.Tested.{Tested}
+use Rattle.join_tests.specs.Arrays.{bound_in, picked_in, ops_in}
+use Rattle.join_tests.specs.RecordsLookups.{lookups_of}
+use Rattle.join_tests.specs.declared.joins.Tested.{Tested}
 use Rattle.step_tests.specs.Steps.{Described}
 
 -- the frame f: its fault over any table that F and G speak of, and a Join's operator

@@ -5,5 +5,3 @@ pub mod marks;
 pub mod plan;
 pub mod steps;
 pub mod validate;
-
-pub use table_tests;

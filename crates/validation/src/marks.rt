@@ -2,8 +2,8 @@
 ghost use Rattle.std.specs.Prelude.{◌≡◌, ◌+◌};
 ghost use Rattle.validation.specs.Marks.{binds_target, bound_mark, Markable, Stepped};
 
+use fields::field::wide;
 use hexadecimal::byte_at;
-use step_tests::fields::field::wide;
 
 fn binds(kind: u8) -> bool
     ensures { result ≡ binds_target kind }

@@ -3,7 +3,7 @@ ghost use Rattle.validation.specs.Plans.{PlanReady, StepsTested};
 
 use super::marks::step_marks;
 use super::steps::step_fault;
-use step_tests::frames::frame::frame_at;
+use frames::frame::frame_at;
 use table_tests::shapes::Verdict;
 
 // The fault of the first step that has one: nothing is bound or picked before the first.

@@ -2,7 +2,7 @@
 ghost use Rattle.validation.specs.Steps.{StepTested};
 
 use hexadecimal::byte_at;
-use step_tests::join_tests::joins::{Tested, join_fault};
+use join_tests::joins::{Tested, join_fault};
 use step_tests::simple::{simple_fault, simple_step};
 
 // The number of the first test that a step fails, or 0; and the operator of a Join.

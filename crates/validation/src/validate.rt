@@ -1,6 +1,6 @@
 // The runner's tests behind the reading of plan and table: first the table's shapes, then the plan's steps.
 ghost use Rattle.std.specs.Prelude.{◌≡◌, length};
-ghost use Rattle.step_tests.specs.Index.{Indexed};
+ghost use Rattle.join_tests.specs.Index.{Indexed};
 ghost use Rattle.validation.specs.Plans.{PlanSheet, Validated};
 
 use super::plan::steps_fault;

@@ -6,9 +6,9 @@ use mathlib.Core.Option.{some}
 use mathlib.Core.List.{List, [], ◌∷◌, ◌++◌}
 use native.Mathlib.Omega.{arith}
 use lib.ListN.{length, length-append}
-use Rattle.model.specs.Atoms.{Operand, local, global, wild, Atom, Plain, Lit, LitBind, Eq, EqGlobal, Pred, Variadic, Step}
-use Rattle.model.specs.Bound.{Bound, has, add}
-use Rattle.model.specs.Lowering.{Emitted, read_child, emit_read_children, lower_eq, lower_eq_global, lower, Lowered, done, more}
+use Rattle.records.specs.Atoms.{Operand, local, global, wild, Atom, Plain, Lit, LitBind, Eq, EqGlobal, Pred, Variadic, Step}
+use Rattle.records.specs.Bound.{Bound, has, add}
+use Rattle.records.specs.Lowering.{Emitted, read_child, emit_read_children, lower_eq, lower_eq_global, lower, Lowered, done, more}
 use Rattle.emitting.specs.Begun.{steps_of}
 use Rattle.writing.specs.Steps.{steps_along, read_count, step_count, count_along}
 

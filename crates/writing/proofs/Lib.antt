@@ -1,10 +1,10 @@
 pub mod LineLaws
 pub mod StepLaws
 pub mod CountLaws
-pub use Rattle.emitting.proofs.PlanRead
-pub use Rattle.emitting.proofs.PutLaws
+pub use Rattle.output.proofs.PlanRead
+pub use Rattle.output.proofs.PutLaws
 pub use Rattle.passes.proofs.ChoiceLaws
-pub use Rattle.passes.proofs.LentLaws
-pub use Rattle.passes.proofs.QueryLaws
-pub use Rattle.passes.proofs.ReadLaws
 pub use Rattle.passes.proofs.Tame
+pub use Rattle.records.proofs.Guarantee
+pub use Rattle.records.proofs.ListsLaws
+pub use Rattle.records.proofs.TabulateLaws

@@ -7,16 +7,16 @@ use native.Mathlib.Omega.{arith}
 use lib.Dec.{eqb, ltb}
 use lib.ListN.{length, get_or}
 use borrow.Author.Tests.{lt-ltb, le-ltb, eq-eqb, ne_eqb}
-use Rattle.base.specs.Choose.{pick}
-use Rattle.passes.specs.Faults.{is_atom}
-use Rattle.passes.specs.Kinds.{kinds, kind_at, fixed_length, items_of}
-use Rattle.passes.specs.Frames.{kind_of}
-use Rattle.model.specs.Atoms.{local, global}
+use Rattle.hexadecimal.specs.Choose.{pick}
+use Rattle.records.specs.Faults.{is_atom}
+use Rattle.frames.specs.Kinds.{kinds, kind_at, fixed_length, items_of}
+use Rattle.frames.specs.Frames.{kind_of}
+use Rattle.records.specs.Atoms.{local, global}
 use Rattle.passes.specs.QueryAtoms.{operands_from, atom_of_frame}
-use Rattle.emitting.specs.StepFrames.{header_of}
+use Rattle.output.specs.StepFrames.{header_of}
 use Rattle.passes.specs.AtomLines.{AtomLine}
 use Rattle.passes.proofs.AtomLaws.{by_kind}
-use Rattle.emitting.specs.Written.{fixed_in, PutsFrames}
+use Rattle.output.specs.Written.{fixed_in, PutsFrames}
 use Rattle.writing.specs.Steps.{read_count, step_count}
 
 -- ---- the header

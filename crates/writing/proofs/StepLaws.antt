@@ -6,18 +6,18 @@ use native.Mathlib.Omega.{arith}
 use native.Mathlib.Numerals.{add-one}
 use lib.ListN.{length, get_or, take, drop, length-take, drop_of_length-le}
 use lib.Seq.{drop-cons, get_or-take}
-use Rattle.passes.specs.Sheet.{frame_at}
-use Rattle.model.specs.Atoms.{Atom}
-use Rattle.model.specs.Bound.{Bound, bound_most}
-use Rattle.model.specs.Lowering.{lower}
-use Rattle.model.specs.Scheduling.{atom_of}
+use Rattle.frames.specs.Sheet.{frame_at}
+use Rattle.records.specs.Atoms.{Atom}
+use Rattle.records.specs.Bound.{Bound, bound_most}
+use Rattle.records.specs.Lowering.{lower}
+use Rattle.records.specs.Scheduling.{atom_of}
 use Rattle.passes.specs.QueryAtoms.{atom_of_frame}
-use Rattle.emitting.specs.PlanText.{text_of}
-use Rattle.emitting.specs.StepFrames.{frame_of}
+use Rattle.output.specs.PlanText.{text_of}
+use Rattle.output.specs.StepFrames.{frame_of}
 use Rattle.passes.specs.AtomLines.{AtomLine, bound_behind}
 use Rattle.passes.specs.Eager.{sheet_atoms, Located}
-use Rattle.emitting.specs.Written.{PutsFrames}
-use Rattle.emitting.proofs.PutLaws.{written_size, frames_none, frames_then}
+use Rattle.output.specs.Written.{PutsFrames}
+use Rattle.output.proofs.PutLaws.{written_size, frames_none, frames_then}
 use Rattle.emitting.specs.Begun.{steps_of}
 use Rattle.emitting.specs.Emitting.{Emits, Emittable}
 use Rattle.writing.specs.Steps.{steps_along, step_count, count_along, Ordered, PutsSteps}

@@ -1,14 +1,14 @@
 -- The steps of atoms taken one after another, and how many they are.
 use Rattle.std.specs.Prelude.{ℕ, suc, ◌+◌, ◌<◌, ◌≤◌, List, [], ◌∷◌, ◌++◌, map, length, get_or}
-use Rattle.passes.specs.Sheet.{frame_at}
-use Rattle.model.specs.Atoms.{Operand, local, global, wild, Atom, Plain, Lit, LitBind, Eq, EqGlobal, Pred, Variadic, Step}
-use Rattle.model.specs.Bound.{Bound, bound_most}
-use Rattle.model.specs.Lowering.{lower}
-use Rattle.model.specs.Scheduling.{atom_of}
-use Rattle.emitting.specs.StepFrames.{frame_of}
+use Rattle.frames.specs.Sheet.{frame_at}
+use Rattle.records.specs.Atoms.{Operand, local, global, wild, Atom, Plain, Lit, LitBind, Eq, EqGlobal, Pred, Variadic, Step}
+use Rattle.records.specs.Bound.{Bound, bound_most}
+use Rattle.records.specs.Lowering.{lower}
+use Rattle.records.specs.Scheduling.{atom_of}
+use Rattle.output.specs.StepFrames.{frame_of}
 use Rattle.passes.specs.AtomLines.{bound_behind}
 use Rattle.passes.specs.Eager.{sheet_atoms}
-use Rattle.emitting.specs.Written.{PutsFrames}
+use Rattle.output.specs.Written.{PutsFrames}
 use Rattle.emitting.specs.Begun.{steps_of}
 use Rattle.emitting.specs.Emitting.{Emittable}
 

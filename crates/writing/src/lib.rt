@@ -3,5 +3,3 @@
 
 pub mod lines;
 pub mod steps;
-
-pub use passes::{buckets, first_reading, frame_tests, given, reading, second_reading};

@@ -1,10 +1,10 @@
 // The header of a plan.
 ghost use Rattle.std.specs.Prelude.{◌≡◌, [], ◌∷◌, ◌<◌};
-ghost use Rattle.emitting.specs.StepFrames.{header_of};
-ghost use Rattle.emitting.specs.Written.{PutsFrames};
+ghost use Rattle.output.specs.StepFrames.{header_of};
+ghost use Rattle.output.specs.Written.{PutsFrames};
 
-use emitting::output::parts::put_line;
-use passes::records::shorts::{high_of, low_of};
+use output::parts::put_line;
+use records::shorts::{high_of, low_of};
 
 // 3f variables globals literals steps(2) tallied(2) rejected(2)
 fn header_bytes(

@@ -1,17 +1,17 @@
 // The steps of the atoms of a sheet, in an order: as lines, and how many they are.
 ghost use Rattle.std.specs.Prelude.{◌≡◌, ◌+◌, ◌<◌, ◌≤◌, length, take};
-ghost use Rattle.model.specs.Bound.{bound_most};
-ghost use Rattle.model.specs.Scheduling.{atom_of};
+ghost use Rattle.records.specs.Bound.{bound_most};
+ghost use Rattle.records.specs.Scheduling.{atom_of};
 ghost use Rattle.passes.specs.QueryAtoms.{atom_of_frame};
 ghost use Rattle.passes.specs.AtomLines.{AtomLine};
 ghost use Rattle.passes.specs.Eager.{sheet_atoms, Located};
 ghost use Rattle.writing.specs.Steps.{step_count, count_along, Ordered, PutsSteps};
 
 use emitting::atom::emit_atom;
+use fields::field::wide;
+use frames::frame::items_of;
 use hexadecimal::byte_at;
 use passes::eager::atom_line;
-use passes::fields::field::wide;
-use passes::frames::frame::items_of;
 
 // The lines of the first `count` atoms of the order.
 pub fn write_steps(

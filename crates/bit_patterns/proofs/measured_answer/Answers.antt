@@ -1,5 +1,5 @@
 -- `measured_answer` meets its contract: each way by its tests, the last by what `estimate_draws` ensures. Assumes nothing.
-use Rattle.base.proofs.ChooseLaws.{tests}
+use Rattle.sqrt.proofs.ChooseLaws.{tests}
 use Rattle.bit_patterns.proofs.Laws.{measured_at_last}
 use Rattle.bit_patterns.proofs.measured_answer.Goals as goal
 

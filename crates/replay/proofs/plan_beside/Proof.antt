@@ -1,5 +1,5 @@
 -- `replay::plan_beside` meets its contract.
-use Rattle.base.proofs.Lists.{taken}
+use Rattle.hexadecimal.proofs.Lists.{taken}
 use borrow.Author.Rules.{rules}
 use Rattle.replay.proofs.plan_beside.Statement.{statement}
 use Rattle.replay.proofs.plan_beside.Tie as tie

@@ -1,5 +1,5 @@
 -- `replay::run_case` meets its contract.
-use Rattle.base.proofs.Lists.{taken}
+use Rattle.hexadecimal.proofs.Lists.{taken}
 use borrow.Author.Rules.{rules}
 use Rattle.replay.proofs.run_case.Statement.{statement}
 use Rattle.replay.proofs.run_case.Tie as tie

@@ -1,5 +1,5 @@
 -- `replay::run_rest` meets its contract: each part is within the case.
-use Rattle.base.proofs.Lists.{taken}
+use Rattle.hexadecimal.proofs.Lists.{taken}
 use borrow.Author.Rules.{rules}
 use Rattle.replay.proofs.run_rest.Statement.{statement}
 use Rattle.replay.proofs.run_rest.Tie as tie

@@ -1,6 +1,6 @@
 -- `replay::take_byte` meets its contract: what is kept stays within the line's room. Assumes nothing.
 use borrow.Author.Rules.{rules}
-use Rattle.base.proofs.Lists.{taken}
+use Rattle.hexadecimal.proofs.Lists.{taken}
 use Rattle.replay.proofs.Laws.{one_more}
 use Rattle.replay.proofs.take_byte.Statement.{statement}
 use Rattle.replay.proofs.take_byte.Tie as tie

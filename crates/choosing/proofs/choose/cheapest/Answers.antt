@@ -2,8 +2,8 @@
 use Rattle.std.proofs.Common.{ap, not}
 use native.Mathlib.Omega.{arith}
 use mathlib.Core.Path.{sym}
-use Rattle.bidding.proofs.PriceLaws.{row_within, row_priced}
-use Rattle.advancing.proofs.LocatedLaws.{place_sized, place_within, number_small, line_ready}
+use Rattle.prices.proofs.PriceLaws.{row_within, row_priced}
+use Rattle.passes.proofs.LocatedLaws.{place_sized, place_within, number_small, line_ready}
 use Rattle.bidding.proofs.OwnLaws.{own_samples, own_memo}
 use Rattle.choosing.proofs.ChoiceLaws.{scanning_none, scanning_not, cost_room, scanning_cost, scanned}
 use Rattle.choosing.proofs.choose.cheapest.Goals as goal

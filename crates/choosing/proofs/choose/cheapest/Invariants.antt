@@ -1,7 +1,7 @@
 -- `choosing::choose::cheapest` meets its contract: the atoms left, from the best so far, give what all give, and so do their costs.
 use Prim.Native.Nat.{◌-◌}
 use mathlib.Core.List.{map}
-use Rattle.advancing.specs.Emitters.{decode}
+use Rattle.cost.specs.Emitters.{decode}
 use Rattle.choosing.proofs.ChoiceLaws.{Scanning}
 use Rattle.choosing.proofs.choose.cheapest.Given as goal
 

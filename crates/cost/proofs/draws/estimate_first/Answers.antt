@@ -1,5 +1,5 @@
 -- `cost::draws::estimate_first` meets its contract: by whether there are draws.
-use Rattle.base.proofs.Lists.{taken}
+use Rattle.hexadecimal.proofs.Lists.{taken}
 use Rattle.cost.proofs.DrawLaws.{a_sample, some_draws}
 use borrow.Author.Rules.{rules}
 use Rattle.cost.proofs.draws.estimate_first.Goals as goal

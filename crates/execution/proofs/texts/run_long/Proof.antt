@@ -1,8 +1,8 @@
 -- `execution::texts::run_long` meets its contract.
 use native.Mathlib.Omega.{arith}
 use mathlib.Core.Path.{refl}
-use Rattle.table_run.specs.Limits.{text_most}
-use Rattle.table_run.specs.Index.{many_slots}
+use Rattle.frame_tests.specs.Limits.{text_most}
+use Rattle.reading.specs.Index.{many_slots}
 use Rattle.execution.proofs.TextLaws.{table_lent}
 use borrow.Author.Rules.{rules}
 use Rattle.execution.proofs.texts.run_long.Statement.{statement}

@@ -1,8 +1,8 @@
 -- `execution::texts::run_middle` meets its contract.
 use native.Mathlib.Omega.{arith}
 use mathlib.Core.Path.{refl}
-use Rattle.table_run.specs.Index.{many_slots}
-use Rattle.table_run.specs.IndexedReading.{middle_text}
+use Rattle.reading.specs.Index.{many_slots}
+use Rattle.reading.specs.IndexedReading.{middle_text}
 use Rattle.execution.proofs.TextLaws.{table_lent}
 use borrow.Author.Rules.{rules}
 use Rattle.execution.proofs.texts.run_middle.Statement.{statement}

@@ -1,6 +1,6 @@
 -- `execution::texts::run_plan` meets its contract.
-use Rattle.table_run.specs.Modes.{mode_of}
-use Rattle.table_run.proofs.ReadLaws.{read_within, read_fits, read_sheet}
+use Rattle.modes.specs.Modes.{mode_of}
+use Rattle.reading.proofs.ReadLaws.{read_within, read_fits, read_sheet}
 use Rattle.execution.proofs.TextLaws.{plan_sheet, plan_refused, plan_run}
 use borrow.Author.Rules.{rules}
 use Rattle.execution.proofs.texts.run_plan.Statement.{statement}

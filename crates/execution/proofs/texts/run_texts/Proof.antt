@@ -1,9 +1,9 @@
 -- `execution::texts::run_texts` meets its contract.
 use mathlib.Core.Path.{refl}
-use Rattle.table_run.specs.Limits.{text_most}
-use Rattle.table_run.specs.Index.{few_slots, many_slots}
-use Rattle.table_run.specs.IndexedReading.{tiny_text, short_text, middle_text}
-use Rattle.table_run.proofs.LentLaws.{lent_for}
+use Rattle.frame_tests.specs.Limits.{text_most}
+use Rattle.reading.specs.Index.{few_slots, many_slots}
+use Rattle.reading.specs.IndexedReading.{tiny_text, short_text, middle_text}
+use Rattle.reading.proofs.LentLaws.{lent_for}
 use borrow.Author.Rules.{rules}
 use Rattle.execution.proofs.texts.run_texts.Statement.{statement}
 use Rattle.execution.proofs.texts.run_texts.Tie as tie

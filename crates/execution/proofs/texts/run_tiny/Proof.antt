@@ -1,8 +1,8 @@
 -- `execution::texts::run_tiny` meets its contract.
 use native.Mathlib.Omega.{arith}
 use mathlib.Core.Path.{refl}
-use Rattle.table_run.specs.Index.{few_slots}
-use Rattle.table_run.specs.IndexedReading.{tiny_text}
+use Rattle.reading.specs.Index.{few_slots}
+use Rattle.reading.specs.IndexedReading.{tiny_text}
 use Rattle.execution.proofs.TextLaws.{table_lent}
 use borrow.Author.Rules.{rules}
 use Rattle.execution.proofs.texts.run_tiny.Statement.{statement}

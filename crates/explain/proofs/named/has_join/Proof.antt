@@ -2,7 +2,7 @@
 use borrow.Author.Rules.{rules}
 use Prim.Native.Nat.{◌≤◌, ◌-◌}
 use lib.ListN.{length}
-use Rattle.passed_rows.proofs.SheetLaws.{frame_some, frame_within}
+use Rattle.frames.proofs.SheetLaws.{frame_some, frame_within}
 use native.Mathlib.Omega.{arith}
 use Rattle.explain.proofs.named.has_join.Statement.{statement}
 use Rattle.explain.proofs.named.has_join.Tie as tie

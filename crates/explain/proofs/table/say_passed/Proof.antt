@@ -1,9 +1,9 @@
 -- `explain::table::say_passed` meets its contract: the sheet of an accepted table is within the lent one.
 use mathlib.Core.Path.{refl}
-use Rattle.passed_rows.specs.Limits.{text_most}
-use Rattle.passed_rows.specs.Index.{many_slots}
-use Rattle.passed_rows.proofs.LentLaws.{lent_for}
-use Rattle.passed_rows.proofs.ReadLaws.{read_within, read_fits}
+use Rattle.fields.specs.Limits.{text_most}
+use Rattle.reading.specs.Index.{many_slots}
+use Rattle.reading.proofs.LentLaws.{lent_for}
+use Rattle.reading.proofs.ReadLaws.{read_within, read_fits}
 use Rattle.passed_rows.proofs.PassedLaws.{rows_read}
 use borrow.Author.Rules.{rules}
 use Rattle.explain.proofs.table.say_passed.Statement.{statement}

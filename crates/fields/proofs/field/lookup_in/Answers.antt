@@ -1,5 +1,5 @@
 -- `fields::field::lookup_in` meets its contract.
-use Rattle.base.proofs.ChooseLaws.{tests}
+use Rattle.field_values.proofs.ChooseLaws.{tests}
 use Rattle.fields.proofs.field.lookup_in.Goals as goal
 
 pub returns-then-tag-eq0 : goal.returns-then-tag-eq0

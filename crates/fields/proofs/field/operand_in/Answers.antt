@@ -1,5 +1,5 @@
 -- `fields::field::operand_in_lem` meets its contract.
-use Rattle.base.proofs.ChooseLaws.{tests}
+use Rattle.field_values.proofs.ChooseLaws.{tests}
 use Rattle.fields.proofs.field.operand_in.Goals as goal
 
 pub returns-then-tag-eq0 : goal.returns-then-tag-eq0

@@ -1,5 +1,5 @@
 -- `frame_tests::tests::is_atom` meets its contract.
-use Rattle.base.proofs.ChooseLaws.{tests}
+use Rattle.frames.proofs.ChooseLaws.{tests}
 use Rattle.frame_tests.proofs.tests.is_atom.Goals as goal
 
 pub returns-then-kind-ge1 : goal.returns-then-kind-ge1

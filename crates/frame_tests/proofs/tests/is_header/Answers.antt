@@ -1,5 +1,5 @@
 -- `frame_tests::tests::is_header` meets its contract.
-use Rattle.base.proofs.ChooseLaws.{tests}
+use Rattle.frames.proofs.ChooseLaws.{tests}
 use Rattle.frame_tests.proofs.tests.is_header.Goals as goal
 
 pub returns-then-kind-eq0 : goal.returns-then-kind-eq0

@@ -1,5 +1,5 @@
 -- `frames::among::is_between` meets its contract.
-use Rattle.base.proofs.ChooseLaws.{tests}
+use Rattle.kinds.proofs.ChooseLaws.{tests}
 use Rattle.frames.proofs.among.is_between.Goals as goal
 
 pub returns-then-low-kind : goal.returns-then-low-kind

@@ -1,5 +1,5 @@
 -- `hex_lines::decode::stopped` meets its contract.
-use Rattle.base.proofs.ChooseLaws.{tests}
+use Rattle.hexadecimal.proofs.ChooseLaws.{tests}
 use Rattle.hex_lines.proofs.decode.stopped.Goals as goal
 
 pub returns-then-b-ne10 : goal.returns-then-b-ne10

@@ -1,6 +1,6 @@
 -- `indexing::index::at_most` meets its contract: the smaller of two.
 use borrow.Author.Rules.{rules}
-use Rattle.base.proofs.ChooseLaws.{tests}
+use Rattle.frame_keys.proofs.ChooseLaws.{tests}
 use Rattle.indexing.proofs.index.at_most.Goals as goal
 
 pub returns-then-k-length : goal.returns-then-k-length

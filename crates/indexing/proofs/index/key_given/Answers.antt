@@ -1,6 +1,6 @@
 -- `indexing::index::key_given` meets its contract.
 use mathlib.Core.Path.{refl}
-use Rattle.base.proofs.Lists.{taken}
+use Rattle.frame_keys.proofs.Lists.{taken}
 use Rattle.indexing.proofs.SearchLaws.{no_key, key_is, key_absent}
 use Rattle.indexing.proofs.SlotLaws.{key_hash}
 use Rattle.indexing.proofs.index.key_given.Goals as goal

@@ -1,5 +1,5 @@
 -- `leaders::leader::leader` meets its contract.
-use Rattle.records.proofs.SearchLaws.{absent_by}
+use Rattle.indexing.proofs.SearchLaws.{absent_by}
 use mathlib.Core.Path.{refl}
 use mathlib.Core.List.{[]}
 use Rattle.leaders.proofs.LeaderLaws.{leading_proper, leader_found}

@@ -1,8 +1,8 @@
 -- `lent_planning::accepted::plan_by` meets its contract.
 use native.Mathlib.Omega.{arith}
-use Rattle.fitting.proofs.ReadLaws.{read_within, read_fits, read_sheet, read_index}
+use Rattle.reading.proofs.ReadLaws.{read_within, read_fits, read_sheet, read_index}
 use Rattle.fitting.proofs.OrderLaws.{accepts}
-use Rattle.fitting.proofs.QueryLaws.{query_accepted}
+use Rattle.reading.proofs.QueryLaws.{query_accepted}
 use mathlib.Core.Path.{sym, ◌∙◌, refl}
 use Rattle.fitting.proofs.GivenLaws.{keyed_alone, given_alone, taken_table, handed_table, asks}
 use Rattle.lent_planning.proofs.EntryLaws.{planned_back, planned_whole, planned_beside}

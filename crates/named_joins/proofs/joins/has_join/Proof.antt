@@ -3,8 +3,8 @@ use borrow.Author.Rules.{rules}
 use native.Mathlib.Omega.{arith}
 use Prim.Native.Nat.{◌-◌}
 use lib.ListN.{length}
-use Rattle.modes.proofs.SheetLaws.{frame_within}
-use Rattle.validation.proofs.ShapeLaws.{frame_less}
+use Rattle.frames.proofs.SheetLaws.{frame_within}
+use Rattle.table_tests.proofs.ShapeLaws.{frame_less}
 use Rattle.named_joins.proofs.NamedLaws.{Seeking, seeking_first, seeking_end, seeking_found, seeking_next}
 use Rattle.named_joins.proofs.joins.has_join.Statement.{statement}
 use Rattle.named_joins.proofs.joins.has_join.Tie as tie

@@ -1,7 +1,7 @@
 -- `passes::eager::lower_eager` meets its contract: the passes so far, composed; a pass that takes nothing is the last.
 use Prim.Native.Nat.{◌+◌}
-use Rattle.base.specs.Choose.{pick}
-use Rattle.model.specs.Scheduling.{unlowered, numbers}
+use Rattle.fields.specs.Choose.{pick}
+use Rattle.lowering.specs.Scheduling.{unlowered, numbers}
 use Rattle.passes.specs.Eager.{sheet_atoms}
 use Rattle.passes.proofs.EagerLaws.{Repeating}
 use Rattle.passes.proofs.eager.lower_eager.Given as goal

@@ -1,6 +1,6 @@
 -- `plan_text::text::write_plan` meets its contract: the header, then the steps.
 use mathlib.Core.Path.{refl, ap}
-use Rattle.writing.specs.Counts.{Counts}
+use Rattle.second_reading.specs.Counts.{Counts}
 use Rattle.plan_text.proofs.TextLaws.{plan_is, header_near}
 use borrow.Author.Rules.{rules}
 use Rattle.plan_text.proofs.text.write_plan.Statement.{statement}

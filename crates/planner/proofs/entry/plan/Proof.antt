@@ -1,10 +1,10 @@
 -- `planner::entry::plan` meets its contract.
 use mathlib.Core.Path.{refl}
 use native.Mathlib.Omega.{arith}
-use Rattle.lent_planning.specs.Limits.{text_most}
-use Rattle.lent_planning.specs.Index.{few_slots, many_slots}
-use Rattle.lent_planning.specs.IndexedReading.{index_for, tiny_text, short_text, middle_text}
-use Rattle.lent_planning.proofs.LentLaws.{lent_for}
+use Rattle.reading.specs.Limits.{text_most}
+use Rattle.reading.specs.Index.{few_slots, many_slots}
+use Rattle.reading.specs.IndexedReading.{index_for, tiny_text, short_text, middle_text}
+use Rattle.reading.proofs.LentLaws.{lent_for}
 use Rattle.lent_planning.proofs.GivenLaws.{zeros_short}
 use borrow.Author.Rules.{rules}
 use Rattle.planner.proofs.entry.plan.Statement.{statement}

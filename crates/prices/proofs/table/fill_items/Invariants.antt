@@ -1,7 +1,7 @@
 -- `prices::table::fill_items` meets its contract: one more item is priced.
 use Rattle.prices.specs.Prices.{ItemsPriced}
 use Prim.Native.Nat.{◌-◌}
-use Rattle.passes.specs.Sheet.{frames_in}
+use Rattle.frames.specs.Sheet.{frames_in}
 use Rattle.prices.proofs.table.fill_items.Given as goal
 
 abbrev pub invariant-loop-j : goal.invariant-loop-j

@@ -1,7 +1,7 @@
 -- `pricing::items::item_costs` meets its contract: the items left give what all give.
 use Rattle.pricing.proofs.ItemsLaws.{counting_none, next_small, next_at_lem, next_room, counting_again, counting_all}
 use Rattle.item_pricing.proofs.OwnLaws.{own_samples, own_memo}
-use Rattle.item_pricing.proofs.PriceLaws.{item_priced}
+use Rattle.prices.proofs.PriceLaws.{item_priced}
 use Rattle.pricing.proofs.items.item_costs.Goals as goal
 
 pub loop-k-init : goal.loop-k-init

@@ -1,8 +1,8 @@
 -- `pricing::items::item_costs` meets its contract: the items left give what all give.
 use Prim.Native.Nat.{◌-◌}
 use mathlib.Core.List.{map}
-use Rattle.item_pricing.specs.Sheet.{frames_in}
-use Rattle.item_pricing.specs.Emitters.{decode}
+use Rattle.cost.specs.Sheet.{frames_in}
+use Rattle.cost.specs.Emitters.{decode}
 use Rattle.pricing.proofs.ItemsLaws.{Counting}
 use Rattle.pricing.proofs.items.item_costs.Given as goal
 

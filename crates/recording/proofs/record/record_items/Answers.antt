@@ -1,5 +1,5 @@
 -- `recording::record::record_items` meets its contract: the items are the operands that the table of kinds gives.
-use Rattle.passes.proofs.OperandLaws.{items_below}
+use Rattle.binding.proofs.OperandLaws.{items_below}
 use Rattle.recording.proofs.ItemLaws.{items_set}
 use borrow.Author.Rules.{rules}
 use Rattle.recording.proofs.record.record_items.Goals as goal

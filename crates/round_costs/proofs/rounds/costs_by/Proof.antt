@@ -1,8 +1,8 @@
 -- `round_costs::rounds::costs_by` meets its contract.
 use native.Mathlib.Omega.{arith}
-use Rattle.fitting.proofs.ReadLaws.{read_within, read_fits, read_sheet, read_index}
+use Rattle.reading.proofs.ReadLaws.{read_within, read_fits, read_sheet, read_index}
 use Rattle.fitting.proofs.OrderLaws.{accepts}
-use Rattle.fitting.proofs.QueryLaws.{query_accepted}
+use Rattle.reading.proofs.QueryLaws.{query_accepted}
 use mathlib.Core.Path.{sym, ◌∙◌, refl}
 use Rattle.fitting.proofs.GivenLaws.{keyed_alone, given_alone, taken_table, handed_table, asks}
 use Rattle.round_costs.proofs.CostLaws.{costs_back, costs_whole, costs_beside}

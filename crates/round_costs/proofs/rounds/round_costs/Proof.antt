@@ -1,10 +1,10 @@
 -- `round_costs::rounds::round_costs` meets its contract.
 use mathlib.Core.Path.{refl}
 use native.Mathlib.Omega.{arith}
-use Rattle.fitting.specs.Limits.{text_most}
-use Rattle.fitting.specs.Index.{few_slots, many_slots}
-use Rattle.fitting.specs.IndexedReading.{index_for, tiny_text, short_text, middle_text}
-use Rattle.fitting.proofs.LentLaws.{lent_for}
+use Rattle.reading.specs.Limits.{text_most}
+use Rattle.reading.specs.Index.{few_slots, many_slots}
+use Rattle.reading.specs.IndexedReading.{index_for, tiny_text, short_text, middle_text}
+use Rattle.reading.proofs.LentLaws.{lent_for}
 use Rattle.fitting.proofs.GivenLaws.{zeros_short}
 use borrow.Author.Rules.{rules}
 use Rattle.round_costs.proofs.rounds.round_costs.Statement.{statement}

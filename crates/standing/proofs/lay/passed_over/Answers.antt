@@ -1,6 +1,6 @@
 -- `standing::lay::passed_over` meets its contract.
 use native.Mathlib.Omega.{arith}
-use Rattle.base.proofs.Lists.{taken}
+use Rattle.fields.proofs.Lists.{taken}
 use Rattle.standing.proofs.TurnLaws.{turn_passed, turn_entered}
 use Rattle.standing.proofs.lay.passed_over.Goals as goal
 

@@ -1,6 +1,6 @@
 -- `table_run::tables::run_table` meets its contract.
-use Rattle.sheet_run.specs.Modes.{mode_of}
-use Rattle.sheet_run.proofs.ReadLaws.{read_within, read_fits, read_sheet, read_index}
+use Rattle.modes.specs.Modes.{mode_of}
+use Rattle.reading.proofs.ReadLaws.{read_within, read_fits, read_sheet, read_index}
 use Rattle.table_run.proofs.TableLaws.{sheet_lent, table_refused, table_run}
 use borrow.Author.Rules.{rules}
 use Rattle.table_run.proofs.tables.run_table.Statement.{statement}

@@ -1,5 +1,5 @@
 -- `table_tests::globals::global_class` meets its contract.
-use Rattle.join_tests.proofs.SearchLaws.{absent_by}
+use Rattle.indexing.proofs.SearchLaws.{absent_by}
 use mathlib.Core.Path.{refl}
 use mathlib.Core.List.{[]}
 use Rattle.table_tests.proofs.GlobalLaws.{global_proper, class_found}

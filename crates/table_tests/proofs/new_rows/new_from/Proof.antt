@@ -1,5 +1,5 @@
 -- `table_tests::new_rows::new_from` meets its contract.
-use Rattle.join_tests.proofs.SearchLaws.{absent_by}
+use Rattle.indexing.proofs.SearchLaws.{absent_by}
 use mathlib.Core.Path.{refl}
 use mathlib.Core.List.{[]}
 use Rattle.table_tests.proofs.NewRowLaws.{new_proper, row_found}

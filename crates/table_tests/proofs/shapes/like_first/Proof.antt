@@ -1,5 +1,5 @@
 -- `table_tests::shapes::like_first` meets its contract: no row came before, or one did.
-use Rattle.base.proofs.ChooseLaws.{tests}
+use Rattle.hexadecimal.proofs.ChooseLaws.{tests}
 use Rattle.table_tests.proofs.shapes.like_first.Statement.{statement}
 use Rattle.table_tests.proofs.shapes.like_first.Tie as tie
 

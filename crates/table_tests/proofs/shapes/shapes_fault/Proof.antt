@@ -1,7 +1,7 @@
 -- `table_tests::shapes::shapes_fault` meets its contract: the frames left, after the earlier rows, give what all give.
 use borrow.Author.Rules.{rules}
 use Rattle.table_tests.proofs.ShapeLaws.{Noting, noting_none, noted_refused, noting_again, noted_end, frame_less}
-use Rattle.join_tests.proofs.SheetLaws.{frame_within}
+use Rattle.frames.proofs.SheetLaws.{frame_within}
 use Prim.Native.Nat.{◌-◌}
 use lib.ListN.{length}
 use native.Mathlib.Omega.{arith}

@@ -1,5 +1,5 @@
 -- `validation::marks::binds` meets its contract: by the kind.
-use Rattle.base.proofs.ChooseLaws.{tests}
+use Rattle.hexadecimal.proofs.ChooseLaws.{tests}
 use Rattle.validation.proofs.marks.binds.Statement.{statement}
 use Rattle.validation.proofs.marks.binds.Tie as tie
 

@@ -2,7 +2,7 @@
 use borrow.Author.Rules.{rules}
 use Rattle.table_tests.proofs.ShapeLaws.{frame_less}
 use Rattle.validation.proofs.PlanLaws.{Walking, walking_start, steps_refused, step_markable, walking_again, steps_end}
-use Rattle.step_tests.proofs.SheetLaws.{frame_within}
+use Rattle.frames.proofs.SheetLaws.{frame_within}
 use Prim.Native.Nat.{◌-◌}
 use lib.ListN.{length}
 use native.Mathlib.Omega.{arith}

@@ -1,0 +1,4 @@
+// What crates above take from those below this one.
+pub use lowering::below::{
+    base_card, by_child_pos, by_contains, by_repr, denominator, nodes, pv_is_bound,
+};

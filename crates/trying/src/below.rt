@@ -1,0 +1,2 @@
+// What crates above take from those below this one.
+pub use choices::choice::first_cursor;
