@@ -8,9 +8,10 @@ import sys
 ROOTS = (
     "fitting/Planner fitting/Entry fitting/Promised running/Run entries/Outcomes round_costs/Costs "
     "guarantee/Demand3 guarantee/NewRows guarantee/Idempotent guarantee/TableSamples guarantee/Leaders guarantee/SecondEntry guarantee/Marked modes/Modes gathering/Handed "
-    "hex/SixteenDigits"
+    "hexadecimal/SixteenDigits"
 ).split()
-NAMED = re.compile(r"Rattle·(\w+?)(?:·specs)?\.specs\.(\w+)")
+NAMED = re.compile(r"Rattle\.(\w+)\.specs\.(\w+)")
+PASSED = re.compile(r"^pub use Rattle\.(\w+)\.specs\.([\w.]+)(?: as (\w+))?$", re.M)
 LISTED = re.compile(r"^\| `(\w+)/specs/(\w+)\.antt` \| (\d+) \|", re.M)
 
 
@@ -20,10 +21,18 @@ def main():
         parts = path.split("/")
         with open(path, encoding="utf-8") as f:
             texts[f"{parts[1]}/{parts[3][:-5]}"] = f.read()
+    passed = {}
+    for path, text in texts.items():
+        crate, name = path.split("/")
+        if name == "Lib":
+            for low, module, other in PASSED.findall(text):
+                passed[f"{crate}/{other or module.split('.')[-1]}"] = f"{low}/{module}"
     needed, todo = set(ROOTS), list(ROOTS)
     while todo:
         for crate, name in NAMED.findall(texts[todo.pop()]):
             file = f"{crate}/{name}"
+            while file in passed:
+                file = passed[file]
             if file in texts and file not in needed:
                 needed.add(file)
                 todo.append(file)

@@ -1,17 +1,14 @@
 #!/usr/bin/env python3
-"""Makes crates.txt anew from the sources: for each crate those that its code, its specifications and its proofs name, and those that declare the types
-in the types and functions of these, in the order of the file, then the libraries of the kit. Run it at the repository's root. A crate that is new is put by hand where it belongs, as a line `name:`. With --check it
+"""Makes crates.txt anew from the sources: for each crate those that its code, its specifications and its proofs name, in the order of
+the file, then the libraries of the kit. Run it at the repository's root. A crate that is new is put by hand where it belongs, as a line `name:`. With --check it
 only says which lines differ, or stand before what they name."""
 import os
 import re
 import sys
 
-KIT = ("os", "io", "libc")
-CODE = re.compile(r"(?<![:\w])([a-z]\w*)::\w")
-PROOF = re.compile(r"Rattle·(\w+)[.·]")
-TYPE = re.compile(r"^pub (?:struct|enum) \w+[^{;]*\{(.*?)^\}", re.M | re.S)
-FUNCTION = re.compile(r"^pub fn \w+(.*?)^(?:\{|    requires|    ensures)", re.M | re.S)
-USE = re.compile(r"^use (\w+)::(?:\w+::)*(\w+);", re.M)
+KIT = ("io",)
+CODE = re.compile(r"(?<![:\w.])([a-z]\w*)::[\w{]")
+PROOF = re.compile(r"Rattle\.(\w+)\.")
 
 
 def named(crate):
@@ -31,29 +28,17 @@ def named(crate):
     return words - {crate}
 
 
-def held(crate):
-    """The crates that declare the types in the types and functions of a crate."""
-    found = set()
-    for name in os.listdir(f"crates/{crate}/src"):
-        with open(f"crates/{crate}/src/{name}", encoding="utf-8") as f:
-            text = f.read()
-        parts = set(re.findall(r"\w+", " ".join(TYPE.findall(text) + FUNCTION.findall(text))))
-        found.update(c for c, t in USE.findall(text) if t in parts and c not in ("super", "crate"))
-    return found
-
-
 def main():
     with open("crates.txt", encoding="utf-8") as f:
         lines = f.read().split("\n")
-    order = [line.split(":")[0] for line in lines if ":" in line and not line.startswith("#")]
+    order = [line.split(":")[0].split()[0] for line in lines if ":" in line and not line.startswith("#")]
     made, early = [], []
     for line in lines:
-        crate = line.split(":")[0]
+        head = line.split(":")[0]
+        crate = head.split()[0] if head.split() else ""
         if crate in order and not line.startswith("#"):
             below = named(crate)
-            while more := set().union(*(held(c) for c in below if c in order)) - below - {crate}:
-                below |= more
-            made.append(f"{crate}: {' '.join(c for c in order + list(KIT) if c in below)}".rstrip())
+            made.append(f"{head}: {' '.join(c for c in order + list(KIT) if c in below)}".rstrip())
             early += [f"{crate} stands before {c}" for c in order[order.index(crate) :] if c in below]
         else:
             made.append(line)

@@ -1,0 +1,12 @@
+-- `step_tests::simple::child_global_fault` meets its contract: the first test that fails.
+use Rattle.step_tests.proofs.StepLaws.{choices}
+use Rattle.step_tests.proofs.simple.child_global_fault.Goals as goal
+
+pub returns-then-not-row_read : goal.returns-then-not-row_read
+returns-then-not-row_read c = search choices
+
+pub returns-then-child_fault-ne0 : goal.returns-then-child_fault-ne0
+returns-then-child_fault-ne0 c = search choices
+
+pub returns : goal.returns
+returns c = search choices
