@@ -10,6 +10,7 @@ use lib.Dec.{T, eqb}
 use lib.ListN.{length}
 use borrow.Author.Tests.{eqb-true}
 use Rattle.running.specs.Counts.{Counts}
+use Rattle.running.specs.PlanText.{plan_counts}
 use Rattle.running.specs.Text.TheVariants.{Query, Table as TableText}
 use Rattle.running.specs.Reading.TheVariants.{Accepted}
 use Rattle.running.specs.First.{frames_of}
@@ -93,6 +94,7 @@ no_seqs (a ∷ qs) h q i = at a (h a (Memᴰ.head refl)) i (no_seqs qs (λ b m. 
 pub query_given : (x t : List ℕ) (n c m d : ℕ) → reading Query x ≡ Accepted n c → reading TableText t ≡ Accepted m d → ((a : Atom) → Memᴰ a (atoms_of x) → is_run a ≡ true) → InShapes (table_of t) (atoms_of x)
     → ((k : ℕ) → k < length (atoms_of x) → GlobalsSet (table_of t) (atom_of (atoms_of x) k)) → Given (table_of t) (line_of x) (atoms_of x)
 query_given x t n c m d ok read run sh gs =
+    let w = plan_counts (count_at x 1) (count_at x 2) (count_at x 3) in
     let f = (query_fits x n c ok 0 0 (omega arith) (omega arith)).atoms in
     record {
       proper = proper_rows t m d read;
@@ -100,7 +102,7 @@ query_given x t n c m d ok read run sh gs =
       tame = λ k h. atoms_tame (frames_of x) (atom_of (atoms_of x) k) (number_in (atoms_of x) k h);
       shape = sh;
       globals = gs;
-      variables = any_below _ vars_in (count_at x 1) (vars_below _) (atoms_of x) f;
-      literals = any_below _ lits_in (count_at x 3) (lits_below _) (atoms_of x) f;
+      variables = any_below w vars_in (count_at x 1) (vars_below w) (atoms_of x) f;
+      literals = any_below w lits_in (count_at x 3) (lits_below w) (atoms_of x) f;
       sequences = λ q i. absurd (no_seqs (atoms_of x) run q i);
     }

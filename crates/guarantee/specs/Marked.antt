@@ -1,7 +1,6 @@
 -- "The marked ones, together in a single statement over a table": the planner's examples and numbers, and the runner's.
 use Rattle.std.specs.Prelude.{◌≡◌, map}
 use Rattle.planner.specs.Marked as plans
-use Rattle.fair_plans.specs.Run as runs
 use Rattle.fair_plans.specs.Examples as examples
 
 pub marked : (map plans.answered plans.table ≡ map (λ (r : plans.PlanCase). record { answer = r.says; output = r.leaves }) plans.table)

@@ -1,13 +1,12 @@
 -- A run over a table text, by what the reading of the table says. Proved from the run over its sheet.
-use Prim.Native.Nat.{ℕ, suc, ◌*◌, ◌/◌, ◌<◌, ◌≤◌}
+use Prim.Native.Nat.{ℕ, ◌*◌, ◌/◌, ◌≤◌}
 use mathlib.Core.Path.{◌≡◌, refl, sym, ◌∙◌, ap}
 use mathlib.Core.Bool.{Bool, true, false}
 use mathlib.Core.List.{List, [], ◌∷◌}
 use native.Mathlib.Omega.{arith}
-use lib.Dec.{eqb, leb}
+use lib.Dec.{leb}
 use lib.ListN.{length, get_or}
-use borrow.Author.Tests.{eqb-true, leb-true}
-use Rattle.frame_tests.specs.Choose.{pick}
+use borrow.Author.Tests.{leb-true}
 use Rattle.reading.proofs.ChooseLaws.{both_hold}
 use Rattle.reading.specs.Digits.{short_at}
 use Rattle.reading.specs.Fields.{field_passes, field_in}
@@ -15,8 +14,7 @@ use Rattle.reading.specs.Counts.{Counts}
 use Rattle.reading.specs.Test.TheVariants.{Range}
 use Rattle.reading.specs.Kinds.{kinds, kind_at}
 use Rattle.frame_tests.specs.Frames.{pass_all, frame_passes}
-use Rattle.reading.specs.Keys.{begins, find, is_found}
-use Rattle.modes.proofs.Bools.{true_false}
+use Rattle.reading.specs.Keys.{find, is_found}
 use Rattle.modes.specs.Rows.{rows_in}
 use Rattle.frame_tests.specs.Limits.{text_most, rows_most}
 use Rattle.frame_tests.specs.Sheet.{frames_in}
