@@ -1,7 +1,7 @@
 #!/usr/bin/env python3
 """Makes crates.txt anew from the sources: for each crate those that its code, its specifications and its proofs name, in the order of
 the file, then the libraries of the kit. Run it at the repository's root. A crate that is new is put by hand where it belongs, as a line `name:`. With --check it
-only says which lines differ, or stand before what they name."""
+only says which lines differ, or stand before what they name, and how many paths lead from crate to crate."""
 import os
 import re
 import sys
@@ -28,6 +28,19 @@ def named(crate):
     return words - {crate}
 
 
+def paths(lines):
+    """How many paths lead down from the crates, in all: rt follows each, again and again."""
+    below = {line.split(":")[0].split()[0]: line.split(":")[1].split() for line in lines if ":" in line and not line.startswith("#")}
+    known = {}
+
+    def count(crate):
+        if crate not in known:
+            known[crate] = 1 + sum(count(c) for c in below[crate] if c in below)
+        return known[crate]
+
+    return sum(count(crate) for crate in below)
+
+
 def main():
     with open("crates.txt", encoding="utf-8") as f:
         lines = f.read().split("\n")
@@ -45,6 +58,7 @@ def main():
     if "--check" in sys.argv[1:]:
         differ = [a.split(":")[0] for a, b in zip(lines, made) if a != b]
         print("differ:", " ".join(differ))
+        print("paths:", paths(made))
         print("\n".join(early))
         sys.exit(1 if differ or early else 0)
     with open("crates.txt", "w", encoding="utf-8") as f:

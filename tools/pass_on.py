@@ -6,7 +6,8 @@ usage: pass_on.py [--check] TOP
 rt walks every path from a crate down, so the lists of crates.txt must not be dense. Definitions and laws of a crate that its user does not name come
 through one that it does, by a line `pub use Rattle.low.specs.Module` in specs/Lib.antt or proofs/Lib.antt. A function or type comes through the
 module `below` of such a crate, by a line `pub use low::geo::area;`, but only where naming the crate itself would cost most paths: until there are
-no more than PATHS. --check writes nothing and prints how many paths there are before and after.
+no more than PATHS. It ran once, over lists that named all; a crate that comes later is named by those that use it, or passed on by hand, and
+`tests/stands_on.py --check` counts the paths. --check writes nothing and prints how many paths there are before and after.
 """
 
 import collections
