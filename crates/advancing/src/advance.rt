@@ -8,7 +8,6 @@ ghost use Rattle.passes.specs.Eager.{Located, sheet_atoms};
 ghost use Rattle.advancing.specs.Advancing.{Prepared, Advances, Takes, TakesNext};
 
 use binding::sets::set_bound;
-use fields::field::wide;
 use lowering::atom::lower_bound;
 use passes::eager::{atom_line, lower_eager};
 use recording::changed::changed;
@@ -27,28 +26,24 @@ pub struct Scheduler {
 }
 
 // An eager round, and the emitters of what it lowered, recorded by atom number.
-pub fn advance(sheet: &[u8], from: &[u16], n: usize, d: Scheduler) -> Scheduler
+pub fn advance(sheet: &[u8], from: &[u16], n: usize, mut d: Scheduler) -> Scheduler
     requires located { Located sheet.now from.now n }
     requires prepared { Prepared sheet.now d }
     ensures { Advances sheet.now d result }
 {
-    let mut used = d.used;
-    let mut bound = d.bound;
-    let mut order = d.order;
-    let mut emitters = d.emitters;
-    let before = d.before;
-    let count = lower_eager(sheet, from, n, &mut used, &mut bound, &mut order, d.count);
     let mut fresh = [0u8; 64];
-    let m = changed(&before, &used, n, &mut fresh);
-    record_numbers(&mut emitters, sheet, from, n, &fresh, m);
-    Scheduler {
-        used,
-        bound,
-        before,
-        emitters,
-        order,
-        count,
-    }
+    d.count = lower_eager(
+        sheet,
+        from,
+        n,
+        &mut d.used,
+        &mut d.bound,
+        &mut d.order,
+        d.count,
+    );
+    let m = changed(&d.before, &d.used, n, &mut fresh);
+    record_numbers(&mut d.emitters, sheet, from, n, &fresh, m);
+    d
 }
 
 // Atom number i, by its frame, is lowered; c atoms were before. How many now are.
@@ -75,7 +70,7 @@ fn take(
 }
 
 // The atom chosen, number i, is lowered, and its emitters recorded.
-pub fn take_next(sheet: &[u8], from: &[u16], n: usize, i: u8, d: Scheduler) -> Scheduler
+pub fn take_next(sheet: &[u8], from: &[u16], n: usize, i: u8, mut d: Scheduler) -> Scheduler
     requires located { Located sheet.now from.now n }
     requires i_lt_n { i < n }
     requires i_value { scans (atom_of (sheet_atoms sheet.now) i) ≡ true }
@@ -83,20 +78,9 @@ pub fn take_next(sheet: &[u8], from: &[u16], n: usize, i: u8, d: Scheduler) -> S
     requires prepared { Prepared sheet.now d }
     ensures { TakesNext sheet.now i d result }
 {
-    let mut used = d.used;
-    let mut bound = d.bound;
-    let mut order = d.order;
-    let mut emitters = d.emitters;
-    let frame = atom_line(sheet, from, wide(i));
-    let count = take(frame, i, &mut used, &mut bound, &mut order, d.count);
-    record_atom(&mut emitters, frame, i);
-    let before = used;
-    Scheduler {
-        used,
-        bound,
-        before,
-        emitters,
-        order,
-        count,
-    }
+    let frame = atom_line(sheet, from, usize::from(i));
+    d.count = take(frame, i, &mut d.used, &mut d.bound, &mut d.order, d.count);
+    record_atom(&mut d.emitters, frame, i);
+    d.before = d.used;
+    d
 }

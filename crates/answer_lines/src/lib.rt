@@ -7,40 +7,24 @@ ghost use Rattle.answer_lines.specs.Lines.{line_of, refusal_line, run_refusal_li
 
 use hexadecimal::hex_digit;
 
-// The first digit of a byte.
-fn high_digit(b: u8) -> u8
-    ensures { result ≡ hex_digit (b / 16) }
-{
-    hex_digit(b / 16)
-}
-
 // The digits of a frame, then the line's end.
 fn put_line(frame: &[u8], out: &mut [u8])
     requires { length out.old ≡ 2 * length frame.now + 1 }
     ensures { out.new ≡ line_of frame.now }
 {
-    let mut i: usize = 0;
-    while i < frame.len() {
-        out[2 * i] = high_digit(frame[i]);
-        out[2 * i + 1] = hex_digit(frame[i]);
-        i += 1;
+    for (i, &b) in frame.iter().enumerate() {
+        out[2 * i] = hex_digit(b / 16);
+        out[2 * i + 1] = hex_digit(b);
     }
-    out[2 * i] = 10;
-}
-
-// The last byte of a number.
-fn low_byte(x: u64) -> u8
-    ensures { result ≡ x % 0x100 }
-{
-    (x % 0x100) as u8
+    out[2 * frame.len()] = 10;
 }
 
 // A refused query: ff number line(2).
 pub fn refusal_line(number: u8, line: usize) -> [u8; 9]
     ensures { result ≡ refusal_line number line }
 {
-    let l = line as u64;
-    let frame = [0xff, number, low_byte(l / 0x100), low_byte(l)];
+    let [high, low] = ((line % 0x1_0000) as u16).to_be_bytes();
+    let frame = [0xff, number, high, low];
     let mut out = [0u8; 9];
     put_line(&frame, &mut out);
     out
@@ -50,8 +34,8 @@ pub fn refusal_line(number: u8, line: usize) -> [u8; 9]
 pub fn run_refusal_line(number: u8, text: u8, line: usize) -> [u8; 11]
     ensures { result ≡ run_refusal_line number text line }
 {
-    let l = line as u64;
-    let frame = [0xff, number, low_byte(l / 0x100), low_byte(l), text];
+    let [high, low] = ((line % 0x1_0000) as u16).to_be_bytes();
+    let frame = [0xff, number, high, low, text];
     let mut out = [0u8; 11];
     put_line(&frame, &mut out);
     out
@@ -61,24 +45,11 @@ pub fn run_refusal_line(number: u8, text: u8, line: usize) -> [u8; 11]
 pub fn end_line(status: u8, tries: u64, matches: u64) -> [u8; 33]
     ensures { result ≡ end_line status tries matches }
 {
-    let frame = [
-        0x51,
-        0,
-        0,
-        status,
-        low_byte(tries / 0x100_0000_0000_0000),
-        low_byte(tries / 0x1_0000_0000_0000),
-        low_byte(tries / 0x100_0000_0000),
-        low_byte(tries / 0x1_0000_0000),
-        low_byte(tries / 0x100_0000),
-        low_byte(tries / 0x1_0000),
-        low_byte(tries / 0x100),
-        low_byte(tries),
-        low_byte(matches / 0x100_0000),
-        low_byte(matches / 0x1_0000),
-        low_byte(matches / 0x100),
-        low_byte(matches),
-    ];
+    let mut frame = [0u8; 16];
+    frame[0] = 0x51;
+    frame[3] = status;
+    frame[4..12].copy_from_slice(&tries.to_be_bytes());
+    frame[12..].copy_from_slice(&((matches % 0x1_0000_0000) as u32).to_be_bytes());
     let mut out = [0u8; 33];
     put_line(&frame, &mut out);
     out

@@ -1,5 +1,5 @@
 -- The digits of an argument, one by one. Assumes nothing.
-use Prim.Native.Nat.{ℕ, ◌+◌, ◌-◌, ◌*◌, ◌/◌, ◌<◌, ◌≤◌}
+use Prim.Native.Nat.{ℕ, ◌+◌, ◌-◌, ◌*◌, ◌<◌, ◌≤◌}
 use mathlib.Core.Path.{◌≡◌, refl, sym, ◌∙◌}
 use mathlib.Core.Bool.{Bool, true, false, not}
 use mathlib.Core.List.{List, [], ◌∷◌}
@@ -8,29 +8,15 @@ use native.Mathlib.Numerals.{add-one}
 use lib.ListN.{length, get_or, drop, drop_of_length-le}
 use lib.Seq.{drop-cons}
 use lib.Dec.{leb}
-use borrow.Author.Tests.{le-leb, lt-leb, leb-true, leb-false, not-true, not-false}
+use borrow.Author.Tests.{leb-true, ne_eqb, not-true, not-false}
 use Rattle.base.specs.Choose.{pick}
 use Rattle.base.proofs.ChooseLaws.{both_hold}
-use Rattle.arguments.specs.declared.Argument.TheVariants.{Number, Other}
+use Rattle.std.specs.Prelude.{◌==◌, Some, None}
 use Rattle.arguments.specs.Decimal.{largest, fits, decimal_from, decimal_of}
 
 -- ---- one digit
 
 module _ (v b : ℕ) where
-  pub below_digits : b < 48 → false ≡ fits v b
-  below_digits h = rw (lt-leb 48 b h)
-
-  module _ (low : 48 ≤ b) where
-    pub above_digits : 57 < b → false ≡ fits v b
-    above_digits h = rw (le-leb 48 b low, lt-leb b 57 h)
-
-    pub digit_fits : b ≤ 57 → leb v ((largest - (b - 48)) / 10) ≡ fits v b
-    digit_fits h = rw (le-leb 48 b low, le-leb b 57 h) (by (leb v ((largest - (b - 48)) / 10)) refl)
-      where
-        by : (a : Bool) → leb v ((largest - (b - 48)) / 10) ≡ a → a ≡ leb (v * 10 + (b - 48)) largest
-        by true e = sym (le-leb (v * 10 + (b - 48)) largest (let l = leb-true v ((largest - (b - 48)) / 10) e in omega arith))
-        by false e = sym (lt-leb (v * 10 + (b - 48)) largest (let l = leb-false v ((largest - (b - 48)) / 10) e in omega arith))
-
   pub fit_low : fits v b ≡ true → 48 ≤ b
   fit_low h = leb-true 48 b (both_hold (leb 48 b) (pick (leb b 57) (leb (v * 10 + (b - 48)) largest) false) h).0
 
@@ -44,23 +30,23 @@ pub record Counting (bs : List ℕ) (v i : ℕ) : Type 0 where
   pub few : i ≤ length bs
   pub is : decimal_of bs ≡ decimal_from v (drop i bs)
 
-pub nothing_given : (bs : List ℕ) → length bs ≡ 0 → Other ≡ decimal_of bs
+pub nothing_given : (bs : List ℕ) → (length bs == 0) ≡ true → None ≡ decimal_of bs
 unfolding decimal_of
 nothing_given [] h = refl
-nothing_given (b ∷ bs) h = absurd (omega arith)
+nothing_given (b ∷ bs) h = cc (ne_eqb (length (b ∷ bs)) 0 (λ e. omega arith))
 
-pub counting_none : (bs : List ℕ) → (length bs ≡ 0 → ⊥) → Counting bs 0 0
+pub counting_none : (bs : List ℕ) → (length bs == 0) ≡ false → Counting bs 0 0
 unfolding decimal_of
-counting_none [] h = absurd (h refl)
+counting_none [] h = cc
 counting_none (b ∷ bs) h = record { few = omega arith; is = refl }
 
 module _ (bs : List ℕ) (v i : ℕ) (s : Counting bs v i) where
-  pub all_counted : length bs ≤ i → Number v ≡ decimal_of bs
+  pub all_counted : length bs ≤ i → Some v ≡ decimal_of bs
   unfolding decimal_from
   all_counted h = sym (s.is ∙ rw (drop_of_length-le bs h))
 
   module _ (h : i < length bs) (r : Bool) (q : r ≡ fits v (get_or bs i 0)) where
-    pub no_digit : not r ≡ true → Other ≡ decimal_of bs
+    pub no_digit : not r ≡ true → None ≡ decimal_of bs
     unfolding decimal_from
     no_digit l = sym (s.is ∙ rw (drop-cons bs i 0 h, ← q, not-true r l))
 

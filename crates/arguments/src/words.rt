@@ -1,7 +1,7 @@
 // The words that a program is started with.
 ghost use Rattle.std.specs.Prelude.{◌≤◌};
 
-use super::{Argument, decimal};
+use super::decimal;
 use std::env::{Env, FillError};
 
 // Words are counted up to this many: more than any program here takes.
@@ -21,10 +21,10 @@ pub fn word_count(env: &impl Env) -> usize
 }
 
 // The number that word i gives; one of over 4,096 bytes is none.
-pub fn number_at(env: &impl Env, i: usize) -> Argument {
+pub fn number_at(env: &impl Env, i: usize) -> Option<u64> {
     let mut word = [0u8; 4096];
     match env.arg(i, &mut word) {
         Ok(n) => decimal(&word[..n]),
-        Err(_) => Argument::Other,
+        Err(_) => None,
     }
 }

@@ -18,7 +18,7 @@ use Rattle.reading_facts.specs.Keys.{begins, find}
 use Rattle.reading_facts.specs.Faults.{is_atom, is_row, belongs, text_number}
 use Rattle.reading_facts.specs.Text.{Text}
 use Rattle.reading_facts.specs.First.{frames_of}
-use Rattle.reading_facts.specs.Reading.TheVariants.{Accepted}
+use Rattle.reading_facts.specs.Reading.{Accepted}
 use Rattle.reading_facts.specs.Second.{reading}
 use Rattle.reading_facts.proofs.Found.{begun_kind}
 use Rattle.reading_facts.proofs.Whole.{accepted}

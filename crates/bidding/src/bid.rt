@@ -10,12 +10,17 @@ use cost::memo::Sampling;
 use item_pricing::items::Costed;
 use lowering::atom::scans;
 
-// The cheapest atom so far, if one was found, its cost, and the tallies behind it.
+// An atom, and its cost.
 #[derive(Clone, Copy)]
-pub struct Best {
-    pub found: bool,
+pub struct Choice {
     pub who: u8,
     pub price: f64,
+}
+
+// The cheapest atom so far, if one was found, and the tallies behind it.
+#[derive(Clone, Copy)]
+pub struct Best {
+    pub choice: Option<Choice>,
     pub tallies: Sampling,
 }
 
@@ -23,27 +28,17 @@ pub struct Best {
 pub fn better(i: u8, c: Costed, b: Best) -> Best
     ensures { result ≡ better_of i c b }
 {
-    let tallies = c.tallies;
-    let found = true;
-    if b.found {
-        if !(c.cost < b.price) {
-            let who = b.who;
-            let price = b.price;
-            return Best {
-                found,
-                who,
-                price,
-                tallies,
-            };
-        }
-    }
-    let who = i;
-    let price = c.cost;
+    let here = Choice {
+        who: i,
+        price: c.cost,
+    };
+    let choice = match b.choice {
+        Some(d) => { if c.cost < d.price { here } else { d } }
+        None => here,
+    };
     Best {
-        found,
-        who,
-        price,
-        tallies,
+        choice: Some(choice),
+        tallies: c.tallies,
     }
 }
 
@@ -52,8 +47,5 @@ pub fn is_candidate(frame: &[u8], i: u8, used: &[bool]) -> bool
     requires { AtomLine frame.now }
     ensures { result ≡ is_candidate used.now i (atom_of_frame frame.now) }
 {
-    if is_set(used, i) {
-        return false;
-    }
-    scans(frame)
+    !is_set(used, i) && scans(frame)
 }

@@ -4,7 +4,7 @@ use mathlib.Core.Path.{◌≡◌, refl, sym, ◌∙◌, ap}
 use mathlib.Core.Bool.{Bool, true, false, ◌&&◌, not}
 use mathlib.Core.List.{List, [], ◌∷◌, ◌++◌, flat_map}
 use native.Mathlib.Omega.{arith}
-use lib.Dec.{ltb}
+use lib.Dec.{eqb, ltb}
 use lib.ListN.{length, get_or}
 use borrow.Author.Tests.{ne_eqb, ltb-true, not-true, not-false}
 use Rattle.cost.specs.Atoms.{Operand, local, global, wild, local_of}
@@ -27,8 +27,8 @@ module _ (f : List ℕ) (i t : ℕ) (is : t ≡ get_or f i 0) where
   global_at : (t ≡ 0 → ⊥) → operand_at f i ≡ global (get_or f (i + 1) 0)
   global_at h = rw (← is, ne_eqb t 0 h)
 
-  pub global_bound : (B : Bound) → (t ≡ 0 → ⊥) → true ≡ pv_is_bound B (operand_at f i)
-  global_bound B h = rw (global_at h)
+  pub global_bound : (B : Bound) → (t ≡ 0 → ⊥) → not (eqb t 0) ≡ pv_is_bound B (operand_at f i)
+  global_bound B h = rw (global_at h, ne_eqb t 0 h)
 
   pub local_bound : (B : Bound) (v : ℕ) (r : Bool) → t ≡ 0 → v ≡ get_or f (i + 1) 0 → r ≡ has B v → r ≡ pv_is_bound B (operand_at f i)
   local_bound B v r h e g = rw (local_at f i t v is h e) g

@@ -7,7 +7,6 @@ pub use Rattle.cost.specs.Buckets
 pub use Rattle.cost.specs.Choice
 pub use Rattle.cost.specs.Costs
 pub use Rattle.cost.specs.Emitters
-pub use Rattle.cost.specs.FanOut
 pub use Rattle.cost.specs.Faults
 pub use Rattle.cost.specs.Frames
 pub use Rattle.cost.specs.Given

@@ -18,10 +18,7 @@ pub fn pv_is_bound(frame: &[u8], i: usize, bound: &[bool]) -> bool
     requires { i < 65536 }
     ensures { result ≡ pv_is_bound bound.now (operand_at frame.now i) }
 {
-    if byte_at(frame, i) != 0 {
-        return true;
-    }
-    is_set(bound, byte_at(frame, i + 1))
+    byte_at(frame, i) != 0 || is_set(bound, byte_at(frame, i + 1))
 }
 
 pub fn pv_mark_bound(frame: &[u8], i: usize, bound: &mut [bool])
@@ -29,10 +26,9 @@ pub fn pv_mark_bound(frame: &[u8], i: usize, bound: &mut [bool])
     requires i_value { numbers_below (length bound.old) (local_of (operand_at frame.now i)) ≡ true }
     ensures { bound.new ≡ pv_mark_bound bound.old (operand_at frame.now i) }
 {
-    if byte_at(frame, i) != 0 {
-        return;
+    if byte_at(frame, i) == 0 {
+        set_bound(bound, byte_at(frame, i + 1));
     }
-    set_bound(bound, byte_at(frame, i + 1));
 }
 
 // Marks n operands, each w bytes behind the one before, from byte i on.
@@ -43,10 +39,8 @@ pub fn mark_operands(frame: &[u8], i: usize, w: usize, n: usize, bound: &mut [bo
     requires n_value { numbers_below (length bound.old) (flat_map local_of (operands_from frame.now i w n)) ≡ true }
     ensures { bound.new ≡ mark_all bound.old (operands_from frame.now i w n) }
 {
-    let mut k: usize = 0;
-    while k < n {
+    for k in 0..n {
         pv_mark_bound(frame, i + w * k, bound);
-        k += 1;
     }
 }
 
@@ -69,12 +63,10 @@ pub fn all_set(frame: &[u8], i: usize, w: usize, n: usize, set: &[bool]) -> bool
     requires n_bound { n < 256 }
     ensures { result ≡ has_all set.now (bytes_from frame.now i w n) }
 {
-    let mut k: usize = 0;
-    while k < n {
+    for k in 0..n {
         if !is_set(set, byte_at(frame, i + w * k)) {
             return false;
         }
-        k += 1;
     }
     true
 }

@@ -5,15 +5,11 @@ ghost use Rattle.std.specs.Prelude.{◌≡◌};
 ghost use Rattle.splitmix.specs.SplitMix.{next_state, draw_at};
 ghost use Rattle.bit_patterns.specs.Answers.{fan_out, selectivity_bits, settings, told, estimate_answer, status_of, mean_left};
 
-use measure::{Estimate, FanOut, SamplerConfig};
+use measure::SamplerConfig;
 
-// A mean by its bits; a mean that the guard rejects; or no measurement at all.
+// No measurement is made.
 #[derive(Clone, Copy)]
-pub enum Answer {
-    Mean(u64),
-    Unreliable,
-    Refused,
-}
+pub struct Refused;
 
 // The generator's state after `state`.
 pub fn next_state(state: u64) -> u64
@@ -29,13 +25,14 @@ pub fn drawn(state: u64) -> u64
     splitmix::splitmix64(state).draw
 }
 
-fn fan_out(measured: bool, bits: u64) -> FanOut
+fn fan_out(measured: bool, bits: u64) -> Option<f64>
     ensures { result ≡ fan_out measured bits }
 {
     if measured {
-        return FanOut::Measured(sqrt::of_bits(bits));
+        Some(sqrt::of_bits(bits))
+    } else {
+        None
     }
-    FanOut::Unmeasured
 }
 
 // The selectivity of a path. `fanout` counts only where `measured` holds.
@@ -45,32 +42,27 @@ pub fn selectivity(measured: bool, fanout: u64, denom: u32) -> u64
     sqrt::bits_of(measure::path_selectivity(fan_out(measured, fanout), denom))
 }
 
-fn tell(e: Estimate) -> Answer
+// A mean by its bits; none that the guard rejects.
+fn tell(e: Option<f64>) -> Option<u64>
     ensures { result ≡ told e }
 {
-    let Estimate::Accepted(m) = e else {
-        return Answer::Unreliable;
-    };
-    Answer::Mean(sqrt::bits_of(m))
+    match e {
+        Some(m) => Some(sqrt::bits_of(m)),
+        None => None,
+    }
 }
 
-fn measured_answer(draws: &[f64], cfg: SamplerConfig) -> Answer
+fn measured_answer(draws: &[f64], cfg: SamplerConfig) -> Result<Option<u64>, Refused>
     ensures { result ≡ estimate_answer cfg draws.now }
 {
-    if draws.len() == 0 {
-        return Answer::Refused;
+    if draws.is_empty() || draws.len() > 64 || cfg.bootstrap > 256 {
+        return Err(Refused);
     }
-    if draws.len() > 64 {
-        return Answer::Refused;
-    }
-    if cfg.bootstrap > 256 {
-        return Answer::Refused;
-    }
-    tell(measure::estimate_draws(draws, cfg))
+    Ok(tell(measure::estimate_draws(draws, cfg)))
 }
 
-// The measurement from its draws; refused without draws, with more than 64, or with more than 256 resamples.
-pub fn estimate(draws: &[f64], k: usize, bootstrap: usize, cv: u64) -> Answer
+// The measurement from its draws, none where the guard rejects it; refused without draws, with more than 64, or with more than 256 resamples.
+pub fn estimate(draws: &[f64], k: usize, bootstrap: usize, cv: u64) -> Result<Option<u64>, Refused>
     ensures { result ≡ estimate_answer (settings k bootstrap cv) draws.now }
 {
     let cfg = SamplerConfig {
@@ -82,23 +74,22 @@ pub fn estimate(draws: &[f64], k: usize, bootstrap: usize, cv: u64) -> Answer
 }
 
 // An answer's number.
-pub fn status(a: Answer) -> u8
+pub fn status(a: Result<Option<u64>, Refused>) -> u8
     ensures { result ≡ status_of a }
 {
     match a {
-        Answer::Mean(_) => 0,
-        Answer::Unreliable => 1,
-        Answer::Refused => 2,
+        Ok(Some(_)) => 0,
+        Ok(None) => 1,
+        Err(_) => 2,
     }
 }
 
 // What is left where the mean goes.
-pub fn mean_left(a: Answer, before: u64) -> u64
+pub fn mean_left(a: Result<Option<u64>, Refused>, before: u64) -> u64
     ensures { result ≡ mean_left a before }
 {
     match a {
-        Answer::Mean(m) => m,
-        Answer::Unreliable => before,
-        Answer::Refused => before,
+        Ok(Some(m)) => m,
+        _ => before,
     }
 }

@@ -1,12 +1,12 @@
 -- The index of a table's rows, read: the slot of those that are asked for, and the chain of its entries. Assumes nothing.
-use Prim.Native.Nat.{ℕ, zero, suc, ◌+◌, ◌%◌, ◌<◌, ◌≤◌}
+use Prim.Native.Nat.{ℕ, zero, suc, ◌+◌, ◌<◌, ◌≤◌}
 use mathlib.Core.Path.{◌≡◌, refl, sym, ◌∙◌, ap}
 use mathlib.Core.Bool.{Bool, true, false, ◌||◌}
 use mathlib.Core.List.{List, [], ◌∷◌, map}
 use native.Mathlib.Omega.{arith}
 use lib.ListN.{length, get_or}
 use lib.Dec.{eqb}
-use borrow.Author.Tests.{eq-eqb, ne_eqb, eqb-true, eqb-false}
+use borrow.Author.Tests.{ne_eqb, eqb-true, eqb-false}
 use Rattle.row_frames.specs.Choose.{pick}
 use Rattle.row_frames.specs.FieldValues.{child_path}
 use Rattle.row_frames.specs.Sheet.{frame_at}
@@ -20,13 +20,6 @@ use Rattle.row_frames.specs.Wanted.{op_path, has_at, wanted}
 use Rattle.buckets.specs.RowIndex.{heads_at, row_slots, row_at, next_at, head_at, chain_from, class_slot, op_slot, in_slot, slot_for, RowsIndexed}
 
 -- ---- the slot of what is asked for
-
-module _ (w : Want) (x : ℕ) (class : x ≡ w.class) where
-  pub slot_op : w.path ≡ op_path → 512 + x % 256 ≡ slot_for w
-  slot_op h = rw (eq-eqb _ _ h, class)
-
-  pub slot_class : (w.path ≡ op_path → ⊥) → x % 512 ≡ slot_for w
-  slot_class h = rw (ne_eqb _ _ h, class)
 
 pub head_of : (i : List ℕ) (w : Want) (t n x : ℕ) → t ≡ slot_for w → n ≡ get_or i (heads_at + t) 0 → x ≡ n → x ≡ head_at i (slot_for w)
 head_of i w t n x p q e = e ∙ q ∙ rw p

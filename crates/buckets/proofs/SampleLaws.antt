@@ -7,7 +7,7 @@ use native.Mathlib.Omega.{arith}
 use native.Mathlib.Numerals.{add-one}
 use native.Mathlib.Nat.{le-div_iff_mul-le, div-mul-le_self, mul-le-mul}
 use lib.ListN.{length, get_or, take, drop, set, length-set, length-drop, drop_of_length-le}
-use lib.Seq.{drop-cons, take-suc, take-suc-set, take_all, get_or-take, length-take-le}
+use lib.Seq.{drop-cons, take-suc, take-suc-set, take_all, length-take-le}
 use lib.Dec.{eqb}
 use borrow.Author.Tests.{eq-eqb, ne_eqb, not-true, not-false}
 use Rattle.row_frames.specs.Choose.{pick}
@@ -168,36 +168,36 @@ module _ (rs : List Row) (s i : List ℕ) (w : Want) (n m : ℕ) (out₀ : List 
 
 -- ---- how many have an operator
 
-pub record Hitting (rs : List Row) (o m : ℕ) (rows : List ℕ) (n i : ℕ) : Type 0 where
-  pub low : i ≤ m
+pub record Hitting (rs : List Row) (o : ℕ) (ns : List ℕ) (n i : ℕ) : Type 0 where
+  pub low : i ≤ length ns
   pub few : n ≤ i
-  pub is : n + hits rs o (drop i (take m rows)) ≡ hits rs o (take m rows)
+  pub is : n + hits rs o (drop i ns) ≡ hits rs o ns
 
-module _ (rs : List Row) (o m : ℕ) (rows : List ℕ) (room : NumbersRoom (length rs) m rows) where
-  long : length (take m rows) ≡ m
-  long = length-take-le m rows room.room
-
-  pub hitting_first : Hitting rs o m rows 0 0
+module _ (rs : List Row) (o : ℕ) (ns : List ℕ) where
+  pub hitting_first : Hitting rs o ns 0 0
   hitting_first = record { low = omega arith; few = omega arith; is = omega arith }
 
-  module _ (n i : ℕ) (v : Hitting rs o m rows n i) where
-    pub hitting_end : m ≤ i → n ≡ hits rs o (take m rows)
+  module _ (n i : ℕ) (v : Hitting rs o ns n i) where
+    pub hitting_end : length ns ≤ i → n ≡ hits rs o ns
     unfolding hits
-    hitting_end h = let l : length (take m rows) ≤ i = omega (arith, long) in let z : drop i (take m rows) ≡ [] = drop_of_length-le (take m rows) l in omega (arith, rw z at v.is)
+    hitting_end h = let z : drop i ns ≡ [] = drop_of_length-le ns h in omega (arith, rw z at v.is)
 
-    module _ (h : i < m) where
-      pub hit_row : get_or rows i 0 < length rs
-      hit_row = rw (get_or-take m rows i 0 h) at (each_at (λ j. j < length rs) (take m rows) i 0 room.below (omega (arith, long)))
+    module _ (h : i < length ns) (f : List ℕ) (of : row_of f ≡ get_or rs (get_or ns i 0) no_row) (b : ℕ) (byte : b ≡ get_or f 3 0) where
+      one_more : n + pick (eqb b o) (suc (hits rs o (drop (i + 1) ns))) (hits rs o (drop (i + 1) ns)) ≡ hits rs o ns
+      unfolding hits
+      one_more =
+          let a : op_of (get_or rs (get_or ns i 0) no_row) ≡ b = rw (← of, row_op f) (sym byte) in
+          rw (add-one i) (rw (drop-cons ns i 0 h, a) at v.is)
 
-      module _ (f : List ℕ) (of : row_of f ≡ get_or rs (get_or rows i 0) no_row) (b : ℕ) (byte : b ≡ get_or f 3 0) where
-        one_more : n + pick (eqb b o) (suc (hits rs o (drop (i + 1) (take m rows)))) (hits rs o (drop (i + 1) (take m rows))) ≡ hits rs o (take m rows)
-        unfolding hits
-        one_more =
-            let a : op_of (get_or rs (get_or rows i 0) no_row) ≡ b = rw (← of, row_op f) (sym byte) in
-            rw (add-one i) (rw (drop-cons (take m rows) i 0 (omega (arith, long)), get_or-take m rows i 0 h, a) at v.is)
+      pub hitting_other : (b ≡ o → ⊥) → Hitting rs o ns n (i + 1)
+      hitting_other g = record { low = omega arith; few = omega (arith, v.few); is = rw (ne_eqb _ _ g) at one_more }
 
-        pub hitting_other : (b ≡ o → ⊥) → Hitting rs o m rows n (i + 1)
-        hitting_other g = record { low = omega arith; few = omega (arith, v.few); is = rw (ne_eqb _ _ g) at one_more }
+      pub hitting_next : b ≡ o → Hitting rs o ns (n + 1) (i + 1)
+      hitting_next g = record { low = omega arith; few = omega (arith, v.few); is = omega (arith, rw (eq-eqb _ _ g) at one_more) }
 
-        pub hitting_next : b ≡ o → Hitting rs o m rows (n + 1) (i + 1)
-        hitting_next g = record { low = omega arith; few = omega (arith, v.few); is = omega (arith, rw (eq-eqb _ _ g) at one_more) }
+module _ (rs : List Row) (m : ℕ) (rows : List ℕ) (i : ℕ) (room : NumbersRoom (length rs) m rows) where
+  pub hit_row : i < length (take m rows) → get_or (take m rows) i 0 < length rs
+  hit_row h = each_at (λ j. j < length rs) (take m rows) i 0 room.below h
+
+  pub hitting_few : (o n : ℕ) → Hitting rs o (take m rows) n i → n ≤ m
+  hitting_few o n v = omega (arith, v.low, v.few, length-take-le m rows room.room)

@@ -4,7 +4,7 @@ ghost use Rattle.row_frames.specs.Running.{no_row};
 ghost use Rattle.row_frames.specs.Rows.{row_of};
 ghost use Rattle.buckets.specs.RowIndex.{row_slots, head_at, row_at, next_at, slot_for, RowsIndexed, rows_on};
 
-use row_frames::below::{frame_at, wide_short};
+use row_frames::below::frame_at;
 use row_frames::row::{OP_PATH, Want};
 
 // The slots of classes come first, then those of operators.
@@ -25,10 +25,7 @@ pub const TABLE_INDEX: usize = ENTRIES_AT + 2 * (17 * 1024 + 1);
 fn number_at(index: &[u16], i: usize) -> u16
     ensures { result ≡ get_or index.now i 0 }
 {
-    if index.len() <= i {
-        return 0;
-    }
-    index[i]
+    index.get(i).copied().unwrap_or(0)
 }
 
 // The slot that has the rows which are asked for.
@@ -36,16 +33,16 @@ fn slot_for(w: Want) -> usize
     ensures { (result ≡ slot_for w) × (result < row_slots) }
 {
     if w.path == OP_PATH {
-        return CLASS_SLOTS + wide_short(w.class) % 256;
+        return CLASS_SLOTS + usize::from(w.class) % 256;
     }
-    wide_short(w.class) % CLASS_SLOTS
+    usize::from(w.class) % CLASS_SLOTS
 }
 
 // The first entry that can have a row which is asked for, 0 where there is none.
 pub fn first_entry(index: &[u16], w: Want) -> usize
     ensures { (result ≡ head_at index.now (slot_for w)) × (result < 65536) }
 {
-    wide_short(number_at(index, HEADS_AT + slot_for(w)))
+    usize::from(number_at(index, HEADS_AT + slot_for(w)))
 }
 
 // The row of an entry, and the entry after it.
@@ -60,7 +57,7 @@ pub fn next_entry(index: &[u16], e: usize) -> usize
     requires { e < 65536 }
     ensures { (result ≡ next_at index.now e) × (result < 65536) }
 {
-    wide_short(number_at(index, ENTRIES_AT + 2 * e + 1))
+    usize::from(number_at(index, ENTRIES_AT + 2 * e + 1))
 }
 
 // The frame of row j.
@@ -69,5 +66,8 @@ pub fn row_frame<'a, 'b>(sheet: &'a [u8], index: &'b [u16], j: u16) -> &'a [u8]
     requires j_in_bounds { j < length (rows_on sheet.now) }
     ensures { row_of result.now ≡ get_or (rows_on sheet.now) j no_row }
 {
-    frame_at(sheet, wide_short(number_at(index, ROWS_AT + wide_short(j))))
+    frame_at(
+        sheet,
+        usize::from(number_at(index, ROWS_AT + usize::from(j))),
+    )
 }

@@ -58,14 +58,10 @@ pub fn op_hits(sheet: &[u8], index: &[u16], rows: &[u16], m: usize, op: u8) -> u
     ensures { (result ≡ hits (rows_on sheet.now) op (take m rows.now)) × (result ≤ m) }
 {
     let mut n: usize = 0;
-    let mut i: usize = 0;
-    while i < m {
-        let frame = row_frame(sheet, index, rows[i]);
-        i += 1;
-        if byte_at(frame, 3) != op {
-            continue;
+    for &row in &rows[..m] {
+        if byte_at(row_frame(sheet, index, row), 3) == op {
+            n += 1;
         }
-        n += 1;
     }
     n
 }

@@ -1,4 +1,5 @@
 -- The cheapest of the atoms that are left. Proved atom by atom, from what each cost stands for.
+use Rattle.cost.specs.Settings.{Sampled}
 use Prim.Native.Nat.{ℕ, suc, ◌+◌, ◌<◌, ◌≤◌}
 use mathlib.Core.Path.{◌≡◌, refl, sym, ◌∙◌, ap, subst}
 use mathlib.Core.Bool.{Bool, true, false, not}
@@ -12,14 +13,13 @@ use lib.Dec.{ltb}
 use lib.Ieee.{Float, binary64, to_bits}
 use borrow.Author.Tests.{lt-ltb, not-true, not-false}
 use Rattle.sqrt.specs.Choose.{pick}
-use Rattle.cost.specs.Selectivity.{zero64}
+use Rattle.std.specs.Prelude.{None}
 use Rattle.cost.specs.Sheet.{frame_at, frames_in}
 use Rattle.cost.specs.Atoms.{Atom}
 use Rattle.cost.specs.Bound.{Bound}
 use Rattle.cost.specs.Scheduling.{atom_of, numbers}
 use Rattle.cost.proofs.TabulateLaws.{tabulate_at, tabulate_length}
 use Rattle.cost.specs.Cheapest.{Bid, Scan, is_candidate}
-use Rattle.cost.specs.Sampled.{Sampled}
 use Rattle.cost.specs.QueryAtoms.{atom_of_frame}
 use Rattle.cost.specs.Emitters.{Emitters}
 use Rattle.cost.specs.Sampling.{Tally}
@@ -36,7 +36,7 @@ use Rattle.bidding.specs.declared.bid.Best.{Best}
 use Rattle.bidding.specs.Bidding.{bid_of, or_best, better_of}
 use Rattle.choosing.specs.Choosing.{candidates, Chose}
 use Rattle.cost_bits.specs.CostBits.{no_cost, cost_bits, noted}
-use Rattle.bidding.proofs.BidLaws.{better_bid, better_tallies}
+use Rattle.bidding.proofs.BidLaws.{better_bid}
 
 -- ---- the atoms in turn
 
@@ -72,14 +72,14 @@ numbers_drop qs i l = drop-cons (numbers qs) i 0 (rw (tabulate_length (length qs
 -- the atoms from number i on, from the best so far, give what all atoms give, and their costs behind those that are noted
 pub record Scanning (x : List ℕ) (em : Emitters) (U B : Bound) (n : ℕ) (s₀ : Sampling) (keys₀ : List ℕ) (values₀ : List Float) (costs₀ keys : List ℕ) (values : List Float) (costs : List ℕ) (b : Best) (i : ℕ) : Type 0 where
   pub few : i ≤ n
-  pub is : candidates (frames_in x) em (sheet_atoms x) U B (drop i (numbers (sheet_atoms x))) (tally_at keys b.tallies) (bid_of b.found b.who b.price) ≡ candidates (frames_in x) em (sheet_atoms x) U B (numbers (sheet_atoms x)) (tally_at keys₀ s₀) none
+  pub is : candidates (frames_in x) em (sheet_atoms x) U B (drop i (numbers (sheet_atoms x))) (tally_at keys b.tallies) (bid_of b.choice) ≡ candidates (frames_in x) em (sheet_atoms x) U B (numbers (sheet_atoms x)) (tally_at keys₀ s₀) none
   pub costs_are : n ≤ length costs → take i costs ++ map cost_bits (offers (frames_in x) em (sheet_atoms x) U B (drop i (numbers (sheet_atoms x))) (tally_at keys b.tallies)) ≡ map cost_bits (offers (frames_in x) em (sheet_atoms x) U B (numbers (sheet_atoms x)) (tally_at keys₀ s₀))
   pub memo : Remembers (frames_in x) s₀.how keys values b.tallies
   pub keys_size : length keys ≡ length keys₀
   pub values_size : length values ≡ length values₀
   pub costs_size : length costs ≡ length costs₀
 
-pub scanning_none : (x : List ℕ) (em : Emitters) (U B : Bound) (n : ℕ) (s : Sampling) (keys : List ℕ) (values : List Float) (costs : List ℕ) → Remembers (frames_in x) s.how keys values s → Scanning x em U B n s keys values costs keys values costs (record { found = false; who = 0; price = zero64; tallies = s }) 0
+pub scanning_none : (x : List ℕ) (em : Emitters) (U B : Bound) (n : ℕ) (s : Sampling) (keys : List ℕ) (values : List Float) (costs : List ℕ) → Remembers (frames_in x) s.how keys values s → Scanning x em U B n s keys values costs keys values costs (record { choice = None; tallies = s }) 0
 scanning_none x em U B n s keys values costs m = record { few = omega arith; is = refl; costs_are = λ h. refl; memo = m; keys_size = refl; values_size = refl; costs_size = refl }
 
 module _ (x from : List ℕ) (em : Emitters) (U B : Bound) (n : ℕ) (s₀ : Sampling) (keys₀ : List ℕ) (values₀ : List Float) (costs₀ keys : List ℕ) (values : List Float) (costs : List ℕ) (b : Best) (i : ℕ) (r : Scanning x em U B n s₀ keys₀ values₀ costs₀ keys values costs b i) (z : Located x from n) where
@@ -90,7 +90,7 @@ module _ (x from : List ℕ) (em : Emitters) (U B : Bound) (n : ℕ) (s₀ : Sam
     abbrev cost_now : Option Float
     cost_now = offer (frames_in x) em U B v (atom_of_frame s) (tally_at keys b.tallies)
 
-    rest_is : candidates (frames_in x) em (sheet_atoms x) U B (drop (suc i) (numbers (sheet_atoms x))) behind (or_best v cost_now (bid_of b.found b.who b.price)) ≡ candidates (frames_in x) em (sheet_atoms x) U B (numbers (sheet_atoms x)) (tally_at keys₀ s₀) none
+    rest_is : candidates (frames_in x) em (sheet_atoms x) U B (drop (suc i) (numbers (sheet_atoms x))) behind (or_best v cost_now (bid_of b.choice)) ≡ candidates (frames_in x) em (sheet_atoms x) U B (numbers (sheet_atoms x)) (tally_at keys₀ s₀) none
     unfolding candidates
     rest_is = rw (e, line, ← z.is i h) (rw (numbers_drop (sheet_atoms x) i (omega (arith, z.count))) at r.is)
 
@@ -132,7 +132,7 @@ module _ (x from : List ℕ) (em : Emitters) (U B : Bound) (n : ℕ) (s₀ : Sam
 
         pub cost_room : length (candidates (frames_in x) em (sheet_atoms x) U B (numbers (sheet_atoms x)) (tally_at keys₀ s₀) none).next.memo ≤ length keys₀ → length (estimate_cost (frames_in x) em B v (atom_of_frame s) (tally_at keys b.tallies)).tally.memo ≤ length keys
         cost_room l =
-            let c = candidates_more (frames_in x) em (sheet_atoms x) U B (drop (suc i) (numbers (sheet_atoms x))) behind (or_best v cost_now (bid_of b.found b.who b.price)) in
+            let c = candidates_more (frames_in x) em (sheet_atoms x) U B (drop (suc i) (numbers (sheet_atoms x))) behind (or_best v cost_now (bid_of b.choice)) in
             let k = rw rest_is at c in
             let q : length behind.memo ≤ length keys = omega (arith, r.keys_size) in
             rw one at q
@@ -140,13 +140,13 @@ module _ (x from : List ℕ) (em : Emitters) (U B : Bound) (n : ℕ) (s₀ : Sam
         -- its cost against the best so far
         pub scanning_cost : (keys' : List ℕ) (values' : List Float) (costs' : List ℕ) (c : CostedAs) (y : ℕ) (d : Best) → Stands (frames_in x) b.tallies.how keys' values' c (estimate_cost (frames_in x) em B v (atom_of_frame s) (tally_at keys b.tallies)) → y ≡ to_bits binary64 c.cost → costs' ≡ noted costs i y → d ≡ better_of v c b → length keys' ≡ length keys → length values' ≡ length values → Scanning x em U B n s₀ keys₀ values₀ costs₀ keys' values' costs' d (i + 1)
         scanning_cost keys' values' costs' c y d a q w u p o =
-            let tally : tally_at keys' d.tallies ≡ behind = ap (λ (e : Best). tally_at keys' e.tallies) u ∙ ap (tally_at keys') (better_tallies v c b) ∙ a.tally ∙ rw one in
-            let bid : bid_of d.found d.who d.price ≡ or_best v cost_now (bid_of b.found b.who b.price) = ap (λ (e : Best). bid_of e.found e.who e.price) u ∙ better_bid v c b ∙ rw (one, a.cost) in
+            let tally : tally_at keys' d.tallies ≡ behind = ap (λ (e : Best). tally_at keys' e.tallies) u ∙ a.tally ∙ rw one in
+            let bid : bid_of d.choice ≡ or_best v cost_now (bid_of b.choice) = ap (λ (e : Best). bid_of e.choice) u ∙ better_bid v c b ∙ rw (one, a.cost) in
             record {
               few = omega arith;
               is = rw (tally, bid, add-one i) rest_is;
               costs_are = λ l. rw (tally, w, add-one i) (rw (add-one i) at (costs_next y (rw one (q ∙ ap (to_bits binary64) a.cost)) (omega (arith, ap length w, noted_size y))));
-              memo = subst (λ (e : Best). Remembers (frames_in x) s₀.how keys' values' e.tallies) (sym u) (subst (Remembers (frames_in x) s₀.how keys' values') (sym (better_tallies v c b)) (subst (λ (h : Sampled). Remembers (frames_in x) h keys' values' c.tallies) r.memo.set a.memo));
+              memo = subst (λ (e : Best). Remembers (frames_in x) s₀.how keys' values' e.tallies) (sym u) (subst (λ (h : Sampled). Remembers (frames_in x) h keys' values' c.tallies) r.memo.set a.memo);
               keys_size = p ∙ r.keys_size;
               values_size = o ∙ r.values_size;
               costs_size = ap length w ∙ noted_size y ∙ r.costs_size;

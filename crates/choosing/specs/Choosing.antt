@@ -1,11 +1,11 @@
 -- The choice by cost, over what the costs remember alone: the atoms in turn, each against the best before it.
+use Rattle.cost.specs.Settings.{Sampled}
 use Rattle.std.specs.Prelude.{ℕ, ◌≤◌, ◌≡◌, List, [], ◌∷◌, map, length, take, Float}
 use Rattle.std.proofs.Math.Option.{Option}
 use Rattle.cost.specs.Atoms.{Atom}
 use Rattle.cost.specs.Bound.{Bound}
 use Rattle.cost.specs.Scheduling.{atom_of}
 use Rattle.cost.specs.Cheapest.{Bid, Scan}
-use Rattle.cost.specs.Sampled.{Sampled}
 use Rattle.cost.specs.Emitters.{Emitters}
 use Rattle.cost.specs.Sampling.{Tally}
 use Rattle.cost.specs.Choice.{offer, offered}
@@ -22,7 +22,7 @@ candidates fs em qs U B (i ∷ ks) t b = candidates fs em qs U B ks (offered fs 
 
 -- the result r and the arrays stand for the scan c and the costs os
 pub record Chose (fs : List (List ℕ)) (how : Sampled) (keys : List ℕ) (values : List Float) (costs : List ℕ) (r : Best) (c : Scan Tally Float) (os : List (Option Float)) : Type 0 where
-  pub best : bid_of r.found r.who r.price ≡ c.best
+  pub best : bid_of r.choice ≡ c.best
   pub next : tally_at keys r.tallies ≡ c.next
   pub memo : Remembers fs how keys values r.tallies
   pub costs_are : length os ≤ length costs → take (length os) costs ≡ map cost_bits os

@@ -17,7 +17,6 @@ use advancing::advance::Scheduler;
 use bidding::bid::{Best, better, is_candidate};
 use cost::memo::Sampling;
 use cost_bits::bits::{NO_COST, note_cost};
-use fields::field::narrow;
 use passes::eager::atom_line;
 use prices::table::row_of;
 use pricing::costs::estimate_cost;
@@ -45,31 +44,32 @@ pub fn cheapest(
     requires priced { Priced sheet.now from.now n prices.now }
     ensures { Chose (frames_in sheet.now) s.how keys.new values.new costs.new result (candidates (frames_in sheet.now) (map decode d.emitters) (sheet_atoms sheet.now) d.used d.bound (numbers (sheet_atoms sheet.now)) (tally_at keys.old s) none) (offers (frames_in sheet.now) (map decode d.emitters) (sheet_atoms sheet.now) d.used d.bound (numbers (sheet_atoms sheet.now)) (tally_at keys.old s)) }
 {
-    let used = d.used;
-    let bound = d.bound;
-    let em = d.emitters;
     let mut b = Best {
-        found: false,
-        who: 0,
-        price: 0.0,
+        choice: None,
         tallies: s,
     };
-    let mut i: usize = 0;
-    while i < n {
-        let k = narrow(i);
+    for i in 0..n {
+        let k = i as u8;
         let frame = atom_line(sheet, from, i);
-        if !is_candidate(frame, k, &used) {
+        if !is_candidate(frame, k, &d.used) {
             note_cost(costs, i, NO_COST);
-            i += 1;
             continue;
         }
         let row = row_of(prices, i);
         let c = estimate_cost(
-            sheet, index, frame, row, k, &bound, &em, keys, values, b.tallies,
+            sheet,
+            index,
+            frame,
+            row,
+            k,
+            &d.bound,
+            &d.emitters,
+            keys,
+            values,
+            b.tallies,
         );
         note_cost(costs, i, bits_of(c.cost));
         b = better(k, c, b);
-        i += 1;
     }
     b
 }

@@ -1,3 +1,3 @@
 // What crates above take from those below this one.
 pub use fields::below::{byte_at, short_at};
-pub use fields::field::{Counts, wide, wide_short};
+pub use fields::field::Counts;

@@ -2,8 +2,6 @@
 ghost use Rattle.std.specs.Prelude.{◌≡◌, ◌<◌, length};
 ghost use Rattle.class_sets.specs.Sets.{set_words, has_bit, with_bit, has_class, with_class};
 
-use fields::field::wide_short;
-
 // How many words a set has.
 pub const SET_WORDS: usize = 1024;
 
@@ -19,26 +17,24 @@ fn with_bit(word: u64, place: usize) -> u64
     ensures { result ≡ with_bit word place }
 {
     if has_bit(word, place) {
-        return word;
+        word
+    } else {
+        word + (1 << place)
     }
-    word + (1 << place)
 }
 
 // Whether the class is in the set. A class beyond the words of a shorter set is not.
 pub fn has_class(set: &[u64], class: u16) -> bool
     ensures { result ≡ has_class set.now class }
 {
-    let c = wide_short(class);
-    if set.len() <= c / 64 {
-        return false;
-    }
-    has_bit(set[c / 64], c % 64)
+    let c = usize::from(class);
+    c / 64 < set.len() && has_bit(set[c / 64], c % 64)
 }
 
 pub fn add_class(set: &mut [u64], class: u16)
     requires { length set.old ≡ set_words }
     ensures { set.new ≡ with_class set.old class }
 {
-    let c = wide_short(class);
+    let c = usize::from(class);
     set[c / 64] = with_bit(set[c / 64], c % 64);
 }

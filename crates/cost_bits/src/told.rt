@@ -11,10 +11,7 @@ fn bits_at(costs: &[u64], n: usize, i: usize) -> u64
     requires { n ≤ length costs.now }
     ensures { result ≡ get_or (take n costs.now) i no_cost }
 {
-    if n <= i {
-        return NO_COST;
-    }
-    costs[i]
+    costs[..n].get(i).copied().unwrap_or(NO_COST)
 }
 
 // The bits of the first n costs, as far as the array is long.
@@ -22,10 +19,8 @@ fn put_costs(costs: &[u64], n: usize, out: &mut [u64])
     requires { n ≤ length costs.now }
     ensures { out.new ≡ bits_in (take n costs.now) (length out.old) }
 {
-    let mut i: usize = 0;
-    while i < out.len() {
+    for i in 0..out.len() {
         out[i] = bits_at(costs, n, i);
-        i += 1;
     }
 }
 
@@ -34,9 +29,6 @@ pub fn put_round(found: bool, costs: &[u64], n: usize, out: &mut [u64])
     requires { n ≤ length costs.now }
     ensures { out.new ≡ bits_in (take (pick found n 0) costs.now) (length out.old) }
 {
-    if !found {
-        put_costs(costs, 0, out);
-        return;
-    }
-    put_costs(costs, n, out)
+    let told = if found { n } else { 0 };
+    put_costs(costs, told, out)
 }

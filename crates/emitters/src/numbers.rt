@@ -7,24 +7,12 @@ ghost use Rattle.cost.specs.Emitters.{decode, from, emitter_of, set_emitter, set
 
 use hexadecimal::byte_at;
 
-fn wide(b: u8) -> u32
-    ensures { (result ≡ b) × (result < 256) }
-{
-    b as u32
-}
-
-fn place(b: u8) -> usize
-    ensures { (result ≡ b) × (result < 256) }
-{
-    b as usize
-}
-
 // The number of an emitter.
 pub fn packed(atom: u8, site: u8, position: u8) -> u32
     requires { site < 4 }
     ensures { decode result ≡ from atom site position }
 {
-    1 + (wide(atom) * 4 + wide(site)) * 256 + wide(position)
+    1 + (u32::from(atom) * 4 + u32::from(site)) * 256 + u32::from(position)
 }
 
 // The variable v gets the emitter e, where it has none.
@@ -32,7 +20,7 @@ pub fn set_emitter(em: &mut [u32], v: u8, e: u32)
     requires { v < length em.old }
     ensures { map decode em.new ≡ set_emitter (map decode em.old) v (decode e) }
 {
-    let i = place(v);
+    let i = usize::from(v);
     if em[i] == 0 {
         em[i] = e;
     }
@@ -54,15 +42,13 @@ pub fn copy_emitter(em: &mut [u32], a: u8, b: u8)
     requires { (a < length em.old) × (b < length em.old) }
     ensures { map decode em.new ≡ copy_emitter (emitter_of (map decode em.old) a) (emitter_of (map decode em.old) b) (map decode em.old) a b }
 {
-    let i = place(a);
-    let j = place(b);
+    let i = usize::from(a);
+    let j = usize::from(b);
     let x = em[i];
     let y = em[j];
     if x == 0 {
         em[i] = y;
-        return;
-    }
-    if y == 0 {
+    } else if y == 0 {
         em[j] = x;
     }
 }

@@ -7,7 +7,7 @@ use native.Mathlib.Omega.{arith}
 use lib.Dec.{leb}
 use lib.ListN.{length, get_or}
 use lib.Seq.{length-take-le}
-use borrow.Author.Tests.{ltb-true, leb-true, eq-eqb, ne_eqb}
+use borrow.Author.Tests.{ltb-true, leb-true}
 use Rattle.hexadecimal.proofs.ChooseLaws.{both_hold}
 use Rattle.binding.specs.Faults.{is_atom}
 use Rattle.binding.specs.Kinds.{kinds, kind_at, fixed_length}
@@ -25,7 +25,7 @@ use Rattle.binding.proofs.SetLaws.{add_size}
 use Rattle.lowering.proofs.AtomLaws.{by_kind, items_kind, node_kind}
 use Rattle.output.specs.Written.{fixed_in, PutsFrames, PutsStep}
 use Rattle.output.proofs.PutLaws.{frames_none, frames_then}
-use Rattle.step_bytes.specs.Begun.{Begins, Becomes, no_step, steps_of, behind_of}
+use Rattle.step_bytes.specs.Begun.{Begins, steps_of, behind_of}
 use Rattle.joining.specs.Joins.{join_of}
 use Rattle.emitting.specs.Emitting.{Emits, Emittable}
 
@@ -102,18 +102,12 @@ module _ (f : List ℕ) (e : Emittable f) (B : Bound) (k : ℕ) where
   pub literal_emits : (b : List ℕ) (o p q : List ℕ) (at i r : ℕ) → 1 < get_or f 0 0 → get_or f 0 0 < 4 → PutsStep o at (join_of B k f) p i → Begins b (map frame_of (behind_of (atom_of_frame f))) → PutsFrames p i (fixed_in b ∷ []) q r → Emits B k (atom_of_frame f) o at q r
   literal_emits b o p q at i r l m u z v = then_steps (join_of B k f) (behind_of (atom_of_frame f)) B k (atom_of_frame f) o p q at i r (literal_steps B k f e.atom.kind l m) u (subst (λ (x : List (List ℕ)). PutsFrames p i x q r) z.is v) (omega (arith, short_line b z.fits z.few p q i r v))
 
-  module _ (l : 3 < get_or f 0 0) (m : get_or f 0 0 < 7) (b : List ℕ) (z : Becomes b (steps_of (lower B 0 (atom_of_frame f)))) (o : List ℕ) (at : ℕ) where
-    begun_none : get_or b 0 0 ≡ no_step → map frame_of (steps_of (lower B 0 (atom_of_frame f))) ≡ []
-    begun_none h = sym z.is ∙ rw (eq-eqb (get_or b 0 0) no_step h)
+  module _ (l : 3 < get_or f 0 0) (m : get_or f 0 0 < 7) (o : List ℕ) (at : ℕ) where
+    pub lone_waits : map frame_of (steps_of (lower B 0 (atom_of_frame f))) ≡ [] → Emits B k (atom_of_frame f) o at o at
+    lone_waits h = record { puts = rw (lone_steps B k f e.atom.kind l m, h) (frames_none o at); near = omega arith }
 
-    begun_one : (get_or b 0 0 ≡ no_step → ⊥) → map frame_of (steps_of (lower B 0 (atom_of_frame f))) ≡ fixed_in b ∷ []
-    begun_one h = sym z.is ∙ rw (ne_eqb (get_or b 0 0) no_step h)
-
-    pub lone_waits : get_or b 0 0 ≡ no_step → Emits B k (atom_of_frame f) o at o at
-    lone_waits h = record { puts = rw (lone_steps B k f e.atom.kind l m, begun_none h) (frames_none o at); near = omega arith }
-
-    pub lone_emits : (q : List ℕ) (r : ℕ) → (get_or b 0 0 ≡ no_step → ⊥) → PutsFrames o at (fixed_in b ∷ []) q r → Emits B k (atom_of_frame f) o at q r
-    lone_emits q r h u = record { puts = rw (lone_steps B k f e.atom.kind l m, begun_one h) u; near = omega (arith, short_line b z.fits z.few o q at r u) }
+    pub lone_emits : (b q : List ℕ) (r : ℕ) → Begins b (map frame_of (steps_of (lower B 0 (atom_of_frame f)))) → PutsFrames o at (fixed_in b ∷ []) q r → Emits B k (atom_of_frame f) o at q r
+    lone_emits b q r z u = record { puts = rw (lone_steps B k f e.atom.kind l m, ← z.is) u; near = omega (arith, short_line b z.fits z.few o q at r u) }
 
 pub literal_least : (f : List ℕ) → Emittable f → (get_or f 0 0 ≡ 1 → ⊥) → 1 < get_or f 0 0
 literal_least f e h = let l = atom_least f e in omega arith

@@ -13,7 +13,7 @@ use hexadecimal::byte_at;
 use joining::join::join;
 use lowering::atom::lower_bound;
 use output::parts::put_line;
-use step_bytes::single::{NO_STEP, literal_step, lone_step};
+use step_bytes::single::{literal_step, lone_step};
 
 // 01 Plain: the Join, then a step for each child.
 fn emit_plain(frame: &[u8], k: u8, bound: &mut [bool], out: &mut [u8], at: usize) -> usize
@@ -50,11 +50,10 @@ fn emit_lone(frame: &[u8], k: u8, bound: &[bool], out: &mut [u8], at: usize) -> 
     requires at_bound { at < 0x1000_0000 }
     ensures { Emits bound.now k (atom_of_frame frame.now) out.old at out.new result }
 {
-    let step = lone_step(frame, bound);
-    if step[0] == NO_STEP {
-        return at;
+    match lone_step(frame, bound) {
+        Some(step) => put_line(out, at, &step),
+        None => at,
     }
-    put_line(out, at, &step)
 }
 
 // 07 to 0e: the Join, then the step with the elements.
@@ -77,12 +76,12 @@ fn emit_other(frame: &[u8], k: u8, bound: &[bool], out: &mut [u8], at: usize) ->
 {
     let kind = byte_at(frame, 0);
     if kind < 4 {
-        return emit_literal(frame, k, bound, out, at);
+        emit_literal(frame, k, bound, out, at)
+    } else if kind < 7 {
+        emit_lone(frame, k, bound, out, at)
+    } else {
+        emit_collection(frame, k, bound, out, at)
     }
-    if kind < 7 {
-        return emit_lone(frame, k, bound, out, at);
-    }
-    emit_collection(frame, k, bound, out, at)
 }
 
 // The steps of atom k, by its frame; what it binds is set.
@@ -93,8 +92,7 @@ pub fn emit_atom(frame: &[u8], k: u8, bound: &mut [bool], out: &mut [u8], at: us
     ensures bound_after { bound.new ≡ bound_behind bound.old (lower bound.old k (atom_of_frame frame.now)) }
     ensures emits { Emits bound.old k (atom_of_frame frame.now) out.old at out.new result }
 {
-    let kind = byte_at(frame, 0);
-    if kind == 1 {
+    if byte_at(frame, 0) == 1 {
         return emit_plain(frame, k, bound, out, at);
     }
     let next = emit_other(frame, k, bound, out, at);

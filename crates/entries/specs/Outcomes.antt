@@ -1,15 +1,18 @@
 -- The answers of the runner's entries in document 01's words: "done, spent or full, with tries, matches and bytes written"; "some match, none .. or
 -- spent"; a refusal's number, text and line.
-use Rattle.std.specs.Prelude.{ℕ, ◌≤◌, List, [], eqb}
+use Rattle.std.specs.Prelude.{ℕ, List, [], eqb, Ok, Err}
+use Rattle.std.specs.Prelude.{Result as ResultOf}
 use Rattle.modes.specs.Choose.{pick}
 use Rattle.modes.specs.Limits.{Status, Done, Spent, Full}
 use Rattle.bindings.specs.Run.{Outcome, Refused, Ran, Result, Reply, Rejected, Match, None, Exhausted, match_line}
 use Rattle.bindings.specs.Envs.{env_of}
 use Rattle.entries.specs.declared.run.Status.{Status as StatusAs}
 use Rattle.entries.specs.declared.run.Status.TheVariants.{Done as IsDone, Spent as IsSpent, Full as IsFull}
-use Rattle.entries.specs.declared.run.Outcome.{Outcome as OutcomeAs}
-use Rattle.entries.specs.declared.run.Outcome.TheVariants.{Refused as Invalid, Ran as Went}
+use Rattle.execution.specs.Faults.{text_number}
+use Rattle.execution.specs.Refusal.{Refusal}
+use Rattle.entries.specs.declared.run.Ran.{Ran as RanAs}
 use Rattle.entries.specs.declared.some.Reply.{Reply as ReplyAs}
+use Rattle.entries.specs.declared.some.Reply.TheVariants.{None as IsNoMatch, Spent as IsExhausted, Match as IsMatch}
 
 -- ---- the run
 
@@ -22,23 +25,18 @@ status_of IsFull = Full
 abbrev pub status_by : ℕ → StatusAs
 status_by k = pick (eqb k 0) IsDone (pick (eqb k 1) IsSpent IsFull)
 
-abbrev pub outcome_of : OutcomeAs → Outcome
-outcome_of (Invalid k x l) = Refused k x l
-outcome_of (Went s tries matches written) = Ran (status_of s) tries matches written
+abbrev pub outcome_of : ResultOf RanAs Refusal → Outcome
+outcome_of (Ok r) = Ran (status_of r.status) r.tries r.matches r.written
+outcome_of (Err f) = Refused f.number (text_number f.text) f.line
 
-abbrev pub outcome_result : OutcomeAs → List ℕ → Result
+abbrev pub outcome_result : ResultOf RanAs Refusal → List ℕ → Result
 outcome_result r o = record { outcome = outcome_of r; output = o }
 
 -- ---- the second entry
 
--- a reply is of one of four kinds
-abbrev pub Kinded : ℕ → Type 0
-Kinded k = k ≤ 3
-
--- 0 none, 1 spent, 2 a match, 3 a refusal; the line of a match, by the counts of the plan p, says its classes and its literals
-abbrev pub reply_of : List ℕ → ReplyAs → Reply
-reply_of p r =
-    pick (eqb r.kind 0) None
-    (pick (eqb r.kind 1) Exhausted
-    (pick (eqb r.kind 2) (Match (match_line p (env_of [] [] r.env)))
-    (Rejected r.number r.text r.line)))
+-- none, spent, a match, or a refusal; the line of a match, by the counts of the plan p, says its classes and its literals
+abbrev pub reply_of : List ℕ → ResultOf ReplyAs Refusal → Reply
+reply_of p (Ok IsNoMatch) = None
+reply_of p (Ok IsExhausted) = Exhausted
+reply_of p (Ok (IsMatch e)) = Match (match_line p (env_of [] [] e))
+reply_of p (Err f) = Rejected f.number (text_number f.text) f.line

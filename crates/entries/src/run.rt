@@ -5,35 +5,34 @@ ghost use Rattle.bindings.specs.Run.{run as run_of};
 ghost use Rattle.execution.specs.Halts.{status_number};
 ghost use Rattle.entries.specs.Outcomes.{status_of, status_by, outcome_result};
 
+use execution::below::Refusal;
 use execution::texts::run_texts;
-use modes::mode::DeltaAtom;
 
-#[derive(Clone, Copy)]
+#[derive(Clone, Copy, PartialEq, Eq)]
 pub enum Status {
     Done,
     Spent,
     Full,
 }
 
-#[derive(Clone, Copy)]
-pub enum Outcome {
-    // number, text (1 plan, 2 table) and line
-    Refused(u8, u8, usize),
-    // how the run ended; tries, matches, bytes written
-    Ran(Status, u64, u64, usize),
+// How a run ended; its tries, its matches and the bytes written.
+#[derive(Clone, Copy, PartialEq, Eq)]
+pub struct Ran {
+    pub status: Status,
+    pub tries: u64,
+    pub matches: u64,
+    pub written: usize,
 }
 
 // A run's status by its number.
-fn status_of(number: u8) -> Status
+pub fn status_of(number: u8) -> Status
     ensures { result ≡ status_by number }
 {
-    if number == 0 {
-        return Status::Done;
+    match number {
+        0 => Status::Done,
+        1 => Status::Spent,
+        _ => Status::Full,
     }
-    if number == 1 {
-        return Status::Spent;
-    }
-    Status::Full
 }
 
 // A status as a number: 0 done, 1 spent, 2 full.
@@ -48,14 +47,21 @@ pub fn status_number(s: Status) -> u8
 }
 
 // Runs a plan over a table, with an allowance of tries and an atom named as the new one, or none, into a lent output.
-pub fn run(plan: &[u8], table: &[u8], allowance: u64, named: DeltaAtom, out: &mut [u8]) -> Outcome
+pub fn run(
+    plan: &[u8],
+    table: &[u8],
+    allowance: u64,
+    named: Option<u64>,
+    out: &mut [u8],
+) -> Result<Ran, Refusal>
     ensures { outcome_result result out.new ≡ run_of plan.now table.now (mode_of named) allowance out.old }
 {
-    let e = run_texts(plan, table, allowance, named, out);
-    if e.passed {
-        let handed = e.handed;
-        let t = handed.tally;
-        return Outcome::Ran(status_of(t.status), t.tries, t.matches, t.written);
-    }
-    Outcome::Refused(e.number, e.text, e.line)
+    let handed = run_texts(plan, table, allowance, named, out)?;
+    let t = handed.tally;
+    Ok(Ran {
+        status: status_of(t.status),
+        tries: t.tries,
+        matches: t.matches,
+        written: t.written,
+    })
 }

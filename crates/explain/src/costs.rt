@@ -3,18 +3,8 @@ ghost use Rattle.std.specs.Prelude.{◌<◌};
 
 use super::words::say;
 
-// The zeros before a number of thousandths that has fewer than three digits.
-fn say_zeros(thousandths: u64) {
-    if thousandths < 100 {
-        say(b"0");
-    }
-    if thousandths < 10 {
-        say(b"0");
-    }
-}
-
 // m over 2^k, the places behind the third left out.
-fn say_over(m: u64, k: u32)
+fn say_over(rt: &HostRuntime, m: u64, k: u32)
     requires { k < 64 }
 {
     let p = 1u64 << k;
@@ -22,50 +12,33 @@ fn say_over(m: u64, k: u32)
         return;
     }
     let rest = m % p;
-    io::print_decimal(1, m / p);
-    if rest == 0 {
-        return;
-    }
-    if 0x20_0000_0000_0000 <= rest {
+    say!(rt; "{}", m / p);
+    if rest == 0 || 0x20_0000_0000_0000 <= rest {
         return;
     }
     let thousandths = rest * 1000 / p;
-    say(b".");
-    say_zeros(thousandths);
-    io::print_decimal(1, thousandths);
-}
-
-// m times 2^k.
-fn say_times(m: u64, k: u64) {
-    io::print_decimal(1, m);
-    say(b" times 2^");
-    io::print_decimal(1, k);
+    say!(rt; ".{thousandths:03}");
 }
 
 // m times 2^(e - 1075), as a double has it.
-fn say_scaled(m: u64, e: u64) {
+fn say_scaled(rt: &HostRuntime, m: u64, e: u64) {
     if 1075 < e {
-        say_times(m, e - 1075);
-        return;
+        say!(rt; "{m} times 2^{}", e - 1075);
+    } else if 1075 - e < 64 {
+        say_over(rt, m, (1075 - e) as u32);
+    } else {
+        say!(rt; "less than 0.001");
     }
-    let k = 1075 - e;
-    if k < 64 {
-        say_over(m, k as u32);
-        return;
-    }
-    say(b"less than 0.001");
 }
 
 // The value of the bits of a double that is not below 0.
-pub fn say_cost(bits: u64) {
+pub fn say_cost(rt: &HostRuntime, bits: u64) {
     let e = bits / 0x10_0000_0000_0000 % 2048;
     let m = bits % 0x10_0000_0000_0000;
     if e == 0 {
-        say_scaled(m, 1);
+        say_scaled(rt, m, 1);
     } else {
-        say_scaled(m + 0x10_0000_0000_0000, e);
+        say_scaled(rt, m + 0x10_0000_0000_0000, e);
     }
-    say(b" (");
-    io::print_hex(1, bits, 16);
-    say(b")");
+    say!(rt; " ({bits:016x})");
 }

@@ -16,70 +16,51 @@ mod table;
 mod words;
 
 use accepted::explain_plan;
-use arguments::Argument;
 use arguments::words::{number_at, word_count};
 use hex_lines::reader::line_from;
 use hexadecimal::line::byte_at;
-use modes::mode::DeltaAtom;
 use planned::explain_query;
 use printing::TEXT_ROOM;
 use table::explain_table;
 use table_file::read_table;
 use words::say;
 
-fn explain_with(text: &[u8], found: bool, table: &[u8], n: usize, named: DeltaAtom) {
-    if n <= table.len() {
-        explain_query(text, found, &table[..n], named);
-    }
-}
-
-fn explain_beside(rt: &HostRuntime, text: &[u8], named: DeltaAtom) {
+fn explain_beside(rt: &HostRuntime, text: &[u8], named: Option<u64>) {
     let mut table = [0u8; TEXT_ROOM];
-    let file = read_table(rt, &mut table);
-    explain_with(text, file.found, &table, file.size, named);
-}
-
-// The frames 30 to 34 are a table's.
-fn is_of_table(kind: u8) -> bool {
-    if 0x30 <= kind { kind <= 0x34 } else { false }
-}
-
-// A text is taken for a plan or for a table by its first byte.
-fn explain(rt: &HostRuntime, text: &[u8], named: DeltaAtom) {
-    let kind = byte_at(line_from(text, 0), 0);
-    if kind == 0x3f {
-        explain_plan(text, named);
-        return;
+    match read_table(rt, &mut table) {
+        Some(size) => explain_query(rt, text, Some(&table[..size]), named),
+        None => explain_query(rt, text, None, named),
     }
-    if is_of_table(kind) {
-        explain_table(text);
-        return;
-    }
-    explain_beside(rt, text, named);
 }
 
-fn explain_input(rt: &HostRuntime, named: DeltaAtom) {
+// A text is taken for a plan or, by the frames 30 to 34, for a table by its first byte.
+fn explain(rt: &HostRuntime, text: &[u8], named: Option<u64>) {
+    match byte_at(line_from(text, 0), 0) {
+        0x3f => explain_plan(rt, text, named),
+        0x30..=0x34 => explain_table(rt, text),
+        _ => explain_beside(rt, text, named),
+    }
+}
+
+fn explain_input(rt: &HostRuntime, named: Option<u64>) {
     let mut text = [0u8; TEXT_ROOM];
     let n = io::read_full(0, &mut text);
     explain(rt, &text[..n], named);
 }
 
 // The atom that `count` words give, the program's name being the first.
-fn atom(rt: &HostRuntime, count: usize) -> Argument {
-    if 2 < count {
-        return Argument::Other;
-    }
-    number_at(rt, 1)
+fn atom(rt: &HostRuntime, count: usize) -> Option<u64> {
+    if 2 < count { None } else { number_at(rt, 1) }
 }
 
 fn main(rt: HostRuntime) {
     let count = word_count(&rt);
     if count < 2 {
-        explain_input(&rt, DeltaAtom::None);
+        explain_input(&rt, None);
         return;
     }
     match atom(&rt, count) {
-        Argument::Number(a) => explain_input(&rt, DeltaAtom::Atom(a)),
-        Argument::Other => say(b"usage: explain [ATOM] < TEXT, ATOM in decimal, below 2^64\n"),
+        Some(a) => explain_input(&rt, Some(a)),
+        None => say!(rt; "usage: explain [ATOM] < TEXT, ATOM in decimal, below 2^64\n"),
     }
 }

@@ -1,39 +1,37 @@
 // Why a text is refused, in document 01's words; and a run that names an atom.
-use super::words::{say, say_number};
-use fields::field::wide;
+use super::words::say;
+use std::fmt;
 
-fn say_condition(number: u8) {
-    match number {
-        1 => say(b"no digits, odd digits, other byte, or last 0a missing"),
-        2 => say(b"kind not of this text, or a header missing or repeated"),
-        3 => say(b"length unlike the kind's, or step count wrong"),
-        4 => say(b"above a limit, undefined tag, or unused byte not 00"),
-        5 => say(b"variable, global, literal or atom not below its count"),
-        6 => say(b"by_repr, fan-out or cv not finite or below 0"),
-        7 => say(b"key given twice"),
-        8 => say(b"whole plan longer than the output"),
-        13 => say(b"frame 24 without a table, or beside frames 21 to 23"),
-        _ => say(b"a leader has a frame 34 itself"),
+// What a refusal's number stands for.
+#[derive(Clone, Copy)]
+struct Condition(u8);
+
+impl fmt::Display for Condition {
+    fn fmt<W: fmt::Write>(&self, f: &mut fmt::Formatter<W>) -> fmt::Result {
+        f.write_str(match self.0 {
+            1 => "no digits, odd digits, other byte, or last 0a missing",
+            2 => "kind not of this text, or a header missing or repeated",
+            3 => "length unlike the kind's, or step count wrong",
+            4 => "above a limit, undefined tag, or unused byte not 00",
+            5 => "variable, global, literal or atom not below its count",
+            6 => "by_repr, fan-out or cv not finite or below 0",
+            7 => "key given twice",
+            8 => "whole plan longer than the output",
+            13 => "frame 24 without a table, or beside frames 21 to 23",
+            _ => "a leader has a frame 34 itself",
+        })
     }
 }
 
-pub fn say_refusal(number: u8, line: usize, text: &[u8]) {
-    say(b"refused ");
-    say_number(wide(number));
+pub fn say_refusal(rt: &HostRuntime, number: u8, line: usize, text: &str) {
+    say!(rt; "refused {number}");
     if 0 < line {
-        say(b" at line ");
-        say_number(line);
+        say!(rt; " at line {line}");
     }
-    say(b" of the ");
-    say(text);
-    say(b": ");
-    say_condition(number);
-    say(b"\n");
+    say!(rt; " of the {text}: {}\n", Condition(number));
 }
 
 // 12: the named atom has no Join.
-pub fn say_unjoined(atom: u64) {
-    say(b"no Join of atom ");
-    io::print_decimal(1, atom);
-    say(b": the run is refused (12)\n");
+pub fn say_unjoined(rt: &HostRuntime, atom: u64) {
+    say!(rt; "no Join of atom {atom}: the run is refused (12)\n");
 }

@@ -4,70 +4,62 @@ ghost use Rattle.reading.specs.Index.{Indexed};
 ghost use Rattle.passed_rows.specs.Stands.{RowsSheet};
 
 use super::refusals::say_refusal;
-use super::words::{say, say_number};
-use first_reading::first::{Reading, sheet_size};
+use super::words::say;
+use first_reading::first::sheet_size;
 use frame_tests::tests::Text;
 use frames::among::has_kinds;
 use passed_rows::passed::is_passed;
 use reading::second::{LONG_INDEX, LONG_SHEET, read_indexed, read_text};
 
 // Row n, where it is passed over.
-fn say_row(sheet: &[u8], index: &[u16], n: usize)
+fn say_row(rt: &HostRuntime, sheet: &[u8], index: &[u16], n: usize)
     requires indexed { Indexed sheet.now index.now }
     requires rows_sheet { RowsSheet sheet.now }
     requires n_bound { n < 65536 }
 {
     if is_passed(sheet, index, n) {
-        say(b"row ");
-        say_number(n);
-        say(b" is passed over: an earlier row is equal by leaders\n");
+        say!(rt; "row {n} is passed over: an earlier row is equal by leaders\n");
     }
 }
 
 // The rows of the numbers below `rows`, in turn.
-fn say_led(sheet: &[u8], index: &[u16], rows: usize)
+fn say_led(rt: &HostRuntime, sheet: &[u8], index: &[u16], rows: usize)
     requires indexed { Indexed sheet.now index.now }
     requires rows_sheet { RowsSheet sheet.now }
     requires rows_bound { rows < 65536 }
 {
-    let mut n: usize = 0;
-    while n < rows {
-        say_row(sheet, index, n);
-        n += 1;
+    for n in 0..rows {
+        say_row(rt, sheet, index, n);
     }
 }
 
 // Without frames 34 no row is passed over.
-fn say_sheet(sheet: &[u8], index: &[u16], rows: usize)
+fn say_sheet(rt: &HostRuntime, sheet: &[u8], index: &[u16], rows: usize)
     requires indexed { Indexed sheet.now index.now }
     requires rows_sheet { RowsSheet sheet.now }
     requires rows_bound { rows < 65536 }
 {
     if has_kinds(sheet, 0x34, 0x34) {
-        say_led(sheet, index, rows);
+        say_led(rt, sheet, index, rows);
     }
 }
 
 // The rows of an accepted table that are passed over, a line each.
-pub fn say_passed(text: &[u8]) {
+pub fn say_passed(rt: &HostRuntime, text: &[u8]) {
     let mut sheet = [0u8; LONG_SHEET];
     let mut index = [0u16; LONG_INDEX];
-    match read_indexed(Text::Table, text, &mut sheet, &mut index) {
-        Reading::Refused(_, _) => (),
-        Reading::Accepted(lines, rows) => {
-            let size = sheet_size(text.len(), lines);
-            say_sheet(&sheet[..size], &index, rows);
-        }
+    if let Ok(lines) = read_indexed(Text::Table, text, &mut sheet, &mut index) {
+        let size = sheet_size(text.len(), lines.count);
+        say_sheet(rt, &sheet[..size], &index, lines.counted);
     }
 }
 
-pub fn explain_table(text: &[u8]) {
+pub fn explain_table(rt: &HostRuntime, text: &[u8]) {
     match read_text(Text::Table, text) {
-        Reading::Refused(number, line) => say_refusal(number, line, b"table"),
-        Reading::Accepted(_, rows) => {
-            say_number(rows);
-            say(b" rows\n");
-            say_passed(text);
+        Ok(lines) => {
+            say!(rt; "{} rows\n", lines.counted);
+            say_passed(rt, text);
         }
+        Err(fault) => say_refusal(rt, fault.number, fault.line, "table"),
     }
 }

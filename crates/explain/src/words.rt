@@ -1,40 +1,41 @@
-// Words and numbers on standard output.
+// Words and operands on standard output; what cannot be written is left out.
 ghost use Rattle.std.specs.Prelude.{◌<◌};
 
-use fields::field::wide;
 use hexadecimal::byte_at;
+use std::fmt;
 
-pub fn say(words: &[u8]) {
-    io::write_all(1, words);
+macro_rules! say {
+    ($rt:expr; $($words:tt)*) => {{
+        let _ = print!($rt; $($words)*);
+    }};
 }
 
-pub fn say_number(n: usize) {
-    io::print_decimal(1, n as u64);
+pub(crate) use say;
+
+// A variable or a global, by its number.
+#[derive(Clone, Copy)]
+pub enum Operand {
+    Variable(u8),
+    Global(u8),
 }
 
-// A handle, an operator, a guard: two digits, as the texts have it.
-pub fn say_byte(b: u8) {
-    io::print_hex(1, b as u64, 2);
-}
-
-pub fn say_variable(v: u8) {
-    say(b"v");
-    say_number(wide(v));
-}
-
-pub fn say_global(g: u8) {
-    say(b"g");
-    say_number(wide(g));
+impl fmt::Display for Operand {
+    fn fmt<W: fmt::Write>(&self, f: &mut fmt::Formatter<W>) -> fmt::Result {
+        match self {
+            Operand::Variable(v) => write!(f, "v{v}"),
+            Operand::Global(g) => write!(f, "g{g}"),
+        }
+    }
 }
 
 // The operand at byte i of a frame.
-pub fn say_operand(frame: &[u8], i: usize)
+pub fn operand_at(frame: &[u8], i: usize) -> Operand
     requires { i < 0x2_0000 }
 {
     let index = byte_at(frame, i + 1);
     if byte_at(frame, i) == 0 {
-        say_variable(index);
-        return;
+        Operand::Variable(index)
+    } else {
+        Operand::Global(index)
     }
-    say_global(index);
 }

@@ -8,23 +8,24 @@ use borrow.Author.Tests.{ne_eqb}
 use Rattle.round_costs.specs.Planner.{Result, plan}
 use Rattle.planner.proofs.AnswerBounds.{Within, plan_within}
 use Rattle.round_costs.specs.Entry.{planned_answer, planned_result}
-use Rattle.round_costs.specs.Planned.{Planned}
-use Rattle.round_costs.specs.Planned.TheVariants.{Written, Refused}
-use Rattle.round_costs.specs.Handed.{is_table, handed_if, handed}
-use Rattle.round_costs.specs.Beside.{Beside}
+use denote.Ref.{Bor}
+use Rattle.std.specs.Prelude.{Ok, Err}
+use Rattle.std.specs.Prelude.{Option as OptionOf, Result as ResultOf}
+use Rattle.round_costs.specs.Refusal.{Refusal}
+use Rattle.round_costs.specs.Written.{Written}
+use Rattle.round_costs.specs.Handed.{handed_if, handed}
 use Rattle.exports.specs.Plans.{packed_answer, packed_planned}
 
--- the number of the case that was found
-pub packed_case : (p q : Planned) (n : ℕ) → p ≡ q → n ≡ packed_planned q → n ≡ packed_planned p
-packed_case p q n e h = h ∙ ap packed_planned (sym e)
-
 -- a refusal has a number, and a plan has bytes
-packed_same : (p : Planned) → Within (planned_answer p) → packed_planned p ≡ packed_answer (planned_answer p)
-packed_same (Written b s t r) w = refl
-packed_same (Refused zero t l) w = let z : 21 ≤ 0 = w.planned refl in absurd (omega arith)
-packed_same (Refused (suc k) t l) w = rw (ne_eqb (suc k) 0 (λ z. omega arith)) refl
+packed_same : (p : ResultOf Written Refusal) → Within (planned_answer p) → packed_planned p ≡ packed_answer (planned_answer p)
+packed_same (Ok w) b = refl
+packed_same (Err f) b = by f.number refl
+  where
+    by : (k : ℕ) → f.number ≡ k → packed_planned (Err f) ≡ packed_answer (planned_answer (Err f))
+    by zero e = let z : 21 ≤ 0 = b.planned e in absurd (omega arith)
+    by (suc k) e = rw (ne_eqb f.number 0 (λ z. omega arith)) refl
 
-module _ (x t o p : List ℕ) (h : Bool) (b : Beside) (q : is_table b ≡ h) (r : Planned) (e : planned_result r p ≡ plan x (handed b t) o) where
+module _ (x t o p : List ℕ) (h : Bool) (b : OptionOf (Bor (List ℕ))) (q : handed b ≡ handed_if h t) (r : ResultOf Written Refusal) (e : planned_result r p ≡ plan x (handed b) o) where
   same : planned_result r p ≡ plan x (handed_if h t) o
   same = e ∙ rw q
 

@@ -5,9 +5,11 @@ use mathlib.Core.List.{List}
 use Rattle.run_answers.specs.Running.{Mode}
 use Rattle.run_answers.specs.Run.{Outcome, Result, run}
 use Rattle.run_answers.specs.Outcomes.{outcome_of, outcome_result}
-use Rattle.run_answers.specs.Outcome.{Outcome as OutcomeAs}
+use Rattle.std.specs.Prelude.{Result as ResultOf}
+use Rattle.run_answers.specs.Ran.{Ran as RanAs}
+use Rattle.run_answers.specs.Refusal.{Refusal}
 
-module _ (p t o q : List ℕ) (md nd : Mode) (same : nd ≡ md) (A : ℕ) (r : OutcomeAs) (is : outcome_result r q ≡ run p t nd A o) where
+module _ (p t o q : List ℕ) (md nd : Mode) (same : nd ≡ md) (A : ℕ) (r : ResultOf RanAs Refusal) (is : outcome_result r q ≡ run p t nd A o) where
   by_mode : outcome_result r q ≡ run p t md A o
   by_mode = rw same at is
 

@@ -6,17 +6,15 @@ ghost use Rattle.exports.specs.Plans.{packed_answer, packed_planned};
 
 use packing::{counts, refusal};
 use planner::entry::plan;
-use round_costs::below::{Planned, beside_if};
+use round_costs::below::{Refusal, Written, table_if};
 
 // The answer as one number.
-fn packed(p: Planned) -> u64
+fn packed(p: Result<Written, Refusal>) -> u64
     ensures { result ≡ packed_planned p }
 {
     match p {
-        Planned::Written(bytes, steps, tallied, rejected) => counts(
-            bytes, steps, tallied, rejected,
-        ),
-        Planned::Refused(number, text, line) => refusal(number, text, line),
+        Ok(w) => counts(w.bytes, w.steps, w.tallied, w.rejected),
+        Err(f) => refusal(f.number, f.text_number(), f.line),
     }
 }
 
@@ -25,5 +23,5 @@ pub fn rimdovek_plan(query: &[u8], handed: bool, table: &[u8], out: &mut [u8]) -
     ensures answer { result ≡ packed_answer (planned query.now (handed_if handed table.now) out.old).answer }
     ensures output { out.new ≡ (planned query.now (handed_if handed table.now) out.old).output }
 {
-    packed(plan(query, beside_if(handed), table, out))
+    packed(plan(query, table_if(handed, table), out))
 }

@@ -5,17 +5,17 @@ ghost use Rattle.round_costs.specs.Handed.{handed_if};
 ghost use Rattle.exports.specs.Rounds.{packed_round};
 
 use packing::{choice, refusal};
-use round_costs::below::beside_if;
-use round_costs::rounds::{RoundCosts, round_costs};
+use round_costs::below::{Refusal, table_if};
+use round_costs::rounds::round_costs;
 
 // The answer as one number.
-fn packed(r: RoundCosts) -> u64
+fn packed(r: Result<Option<u8>, Refusal>) -> u64
     ensures { result ≡ packed_round (round_answer r) }
 {
     match r {
-        RoundCosts::Chosen(i) => choice(true, i),
-        RoundCosts::Ended => choice(false, 0),
-        RoundCosts::Refused(number, text, line) => refusal(number, text, line),
+        Ok(Some(i)) => choice(true, i),
+        Ok(None) => choice(false, 0),
+        Err(f) => refusal(f.number, f.text_number(), f.line),
     }
 }
 
@@ -30,5 +30,5 @@ pub fn rimdovek_round_costs(
     ensures answer { result ≡ packed_round (round_costs query.now (handed_if handed table.now) round costs.old).answer }
     ensures output { costs.new ≡ (round_costs query.now (handed_if handed table.now) round costs.old).output }
 {
-    packed(round_costs(query, beside_if(handed), table, round, costs))
+    packed(round_costs(query, table_if(handed, table), round, costs))
 }

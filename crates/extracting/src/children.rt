@@ -49,10 +49,8 @@ pub fn read_children(frame: &[u8], bound: &mut [bool], out: &mut [u8], from: usi
     let w = item_width(kind);
     let n = items_of(frame);
     let mut at = from;
-    let mut k: usize = 0;
-    while k < n {
+    for k in 0..n {
         at = read_child(frame, i + w * k, k as u8, bound, out, at);
-        k += 1;
     }
     at
 }

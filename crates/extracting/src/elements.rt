@@ -23,14 +23,11 @@ fn put_items(frame: &[u8], w: usize, out: &mut [u8], from: usize) -> usize
     ensures puts_bytes { PutsBytes out.old from (items_bytes w frame.now (fixed_length (kind_of frame.now)) (items_of (kind_of frame.now) frame.now)) out.new result }
 {
     let n = items_of(frame);
-    let mut j = fixed_length(byte_at(frame, 0));
+    let i = fixed_length(byte_at(frame, 0));
     let mut at = from;
-    let mut k: usize = 0;
-    while k < n {
-        let item = item_at(frame, j);
+    for k in 0..n {
+        let item = item_at(frame, i + w * k);
         at = put_first(out, at, &item, w);
-        j += w;
-        k += 1;
     }
     at
 }

@@ -12,7 +12,7 @@ use borrow.Author.Tests.{eqb-true}
 use Rattle.running.specs.Counts.{Counts}
 use Rattle.running.specs.PlanText.{plan_counts}
 use Rattle.running.specs.Text.TheVariants.{Query, Table as TableText}
-use Rattle.running.specs.Reading.TheVariants.{Accepted}
+use Rattle.running.specs.Reading.{Accepted}
 use Rattle.running.specs.First.{frames_of}
 use Rattle.running.specs.Second.{reading}
 use Rattle.running.proofs.Bools.{either}

@@ -12,7 +12,7 @@ use Rattle.running.specs.Kinds.{plan, table}
 use Rattle.running.specs.First.{frames_of}
 use Rattle.running.specs.Text.TheVariants.{Query, Plan, Table}
 use Rattle.running.specs.Reading.{Reading}
-use Rattle.running.specs.Reading.TheVariants.{Accepted, Refused}
+use Rattle.running.specs.Reading.{Accepted, Refused}
 use Rattle.running.specs.Second.{reading}
 use Rattle.running.specs.Lists.{Pairs}
 use Rattle.running.proofs.ListsLaws.{pairs_map, pairs_of_map}

@@ -10,7 +10,7 @@ use lib.ListN.{length}
 use Rattle.running.specs.Choose.{pick}
 use Rattle.running.specs.Kinds.{plan}
 use Rattle.running.specs.Text.TheVariants.{Query}
-use Rattle.running.specs.Reading.TheVariants.{Accepted}
+use Rattle.running.specs.Reading.{Accepted}
 use Rattle.running.specs.Second.{reading}
 use Rattle.running.specs.Refusing.{has_join}
 use Rattle.running.specs.Scheduling.{scans, atom_of}

@@ -10,7 +10,7 @@ use Rattle.running.specs.Digits.{bytes_of}
 use Rattle.running.proofs.Bytes.{byte_back}
 use Rattle.running.specs.First.{frames_of, first_line}
 use Rattle.running.specs.Text.TheVariants.{Query, Plan}
-use Rattle.running.specs.Reading.TheVariants.{Accepted}
+use Rattle.running.specs.Reading.{Accepted}
 use Rattle.running.specs.Second.{reading}
 use Rattle.running.proofs.Whole.{query_within}
 use Rattle.running.specs.Atoms.{Step}

@@ -13,7 +13,7 @@ use Rattle.running.specs.Limits.{variables_most}
 use Rattle.running.specs.First.{frames_of}
 use Rattle.running.specs.Text.TheVariants.{Query, Table as TableText}
 use Rattle.running.specs.Reading.{Reading}
-use Rattle.running.specs.Reading.TheVariants.{Accepted, Refused}
+use Rattle.running.specs.Reading.{Accepted, Refused}
 use Rattle.running.specs.Second.{reading}
 use Rattle.running.proofs.Bools.{first, second}
 use Rattle.running.specs.Atoms.{Atom, Step, Row, Table, is_run}

@@ -107,6 +107,19 @@ field_passes_lem Limits n x f i h = limits_pass x f i h
 field_passes_lem Range n x f i h = range_passes n x f i h
 field_passes_lem Reals n x f i h = reals_pass x f i h
 
+-- free bytes pass every test
+pub free_fits : (m : ℕ) (f : List ℕ) (i : ℕ) → field_fits (Free m) f i ≡ true
+unfolding field_fits
+free_fits m f i = refl
+
+pub free_passes : (t : Test) (n : Counts) (m : ℕ) (f : List ℕ) (i : ℕ) → field_passes t n (Free m) f i ≡ true
+free_passes t n m f i = field_passes_lem t n (Free m) f i (unseen t)
+  where
+    unseen : (t : Test) → looks t (Free m) ≡ false
+    unseen Limits = refl
+    unseen Range = refl
+    unseen Reals = refl
+
 -- ---- codes
 
 -- a code below 16 is that of as many free bytes, one from 128 on that of a count

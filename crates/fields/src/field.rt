@@ -81,26 +81,6 @@ pub struct Counts {
     pub table: bool,
 }
 
-// Small numbers as lengths and places, and back.
-pub fn wide(b: u8) -> usize
-    ensures { (result ≡ b) × (result < 256) }
-{
-    b as usize
-}
-
-pub fn wide_short(s: u16) -> usize
-    ensures { (result ≡ s) × (result < 65536) }
-{
-    s as usize
-}
-
-pub fn narrow(i: usize) -> u8
-    requires { i < 256 }
-    ensures { result ≡ i }
-{
-    i as u8
-}
-
 // The width of the field with this code, which is not that of free bytes.
 pub fn width(code: u8) -> usize
     requires { 16 ≤ code }
@@ -160,13 +140,7 @@ fn fits_by_code(code: u8, frame: &[u8], i: usize) -> bool
             byte_at(frame, i + 2),
             byte_at(frame, i + 3),
         ),
-        _ => {
-            if code < 128 {
-                true
-            } else {
-                count_fits(code, frame, i)
-            }
-        }
+        _ => code < 128 || count_fits(code, frame, i),
     }
 }
 
@@ -176,12 +150,12 @@ pub fn field_fits(code: u8, frame: &[u8], i: usize) -> bool
     ensures { result ≡ field_fits (decode code) frame.now i }
 {
     if code == CLASS {
-        return class_fits(frame, i);
+        class_fits(frame, i)
+    } else if 128 <= code {
+        count_fits(code, frame, i)
+    } else {
+        fits_by_code(code, frame, i)
     }
-    if 128 <= code {
-        return count_fits(code, frame, i);
-    }
-    fits_by_code(code, frame, i)
 }
 
 fn operand_in(n: Counts, tag: u8, index: u8) -> bool
@@ -197,13 +171,11 @@ fn operand_in(n: Counts, tag: u8, index: u8) -> bool
 fn lookup_in(n: Counts, tag: u8, a: u8, b: u8) -> bool
     ensures { result ≡ lookup_in n tag a b }
 {
-    if tag == 0 {
-        return true;
+    match tag {
+        0 => true,
+        2 => a < n.variables,
+        _ => operand_in(n, a, b),
     }
-    if tag == 2 {
-        return a < n.variables;
-    }
-    operand_in(n, a, b)
 }
 
 // Test 5 of the field with this code that begins at byte i.
@@ -215,7 +187,7 @@ pub fn field_in(n: Counts, code: u8, frame: &[u8], i: usize) -> bool
         VARIABLE => byte_at(frame, i) < n.variables,
         GLOBAL => byte_at(frame, i) < n.globals,
         LITERAL => byte_at(frame, i) < n.literals,
-        ATOM => wide(byte_at(frame, i)) < n.atoms,
+        ATOM => usize::from(byte_at(frame, i)) < n.atoms,
         OPERAND => operand_in(n, byte_at(frame, i), byte_at(frame, i + 1)),
         ELEMENT => operand_in(n, byte_at(frame, i), byte_at(frame, i + 1)),
         LOOKUP => lookup_in(
@@ -224,7 +196,7 @@ pub fn field_in(n: Counts, code: u8, frame: &[u8], i: usize) -> bool
             byte_at(frame, i + 1),
             byte_at(frame, i + 2),
         ),
-        ROW => wide_short(short_at(frame, i)) <= n.rows,
+        ROW => usize::from(short_at(frame, i)) <= n.rows,
         _ => true,
     }
 }
@@ -234,11 +206,7 @@ pub fn field_real(code: u8, frame: &[u8], i: usize) -> bool
     requires { i < 65300 }
     ensures { result ≡ field_real (decode code) frame.now i }
 {
-    if code == REAL {
-        real_fits(long_at(frame, i))
-    } else {
-        true
-    }
+    code != REAL || real_fits(long_at(frame, i))
 }
 
 // Which of the tests is made.

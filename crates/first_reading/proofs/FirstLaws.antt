@@ -1,4 +1,6 @@
 -- The first reading, a test and a line at a time. Assumes nothing.
+use Rattle.std.specs.Prelude.{Some, None}
+use Rattle.std.specs.Prelude.{Option as OptionOf}
 use Prim.Native.Nat.{ℕ, zero, suc, ◌+◌, ◌-◌, ◌*◌, ◌/◌, ◌%◌, ◌<◌, ◌≤◌}
 use mathlib.Core.Path.{◌≡◌, refl, sym, ◌∙◌, ap}
 use mathlib.Core.Bool.{Bool, true, false, true≢false}
@@ -16,12 +18,10 @@ use Rattle.hex_lines.specs.Digits.{bytes_of, short_at}
 use Rattle.hex_lines.specs.Lines.{split, is_hex, all_digits, hex_line_in, end_of}
 use Rattle.hex_lines.specs.Decoding.{Room, Decodes}
 use Rattle.hex_lines.proofs.Cuts.{HexLine, hex_found, all_rest, end_is, cut}
-use Rattle.hex_lines.specs.declared.decode.Found.{Found}
-use Rattle.hex_lines.specs.declared.decode.Found.TheVariants.{At, Nothing}
 use Rattle.line_steps.specs.Text.{Text}
 use Rattle.line_steps.specs.Text.TheVariants.{Query, Plan, Table}
-use Rattle.first_reading.specs.declared.first.Reading.{Reading}
-use Rattle.first_reading.specs.declared.first.Reading.TheVariants.{Accepted, Refused}
+use Rattle.first_reading.specs.Reading.{Reading}
+use Rattle.first_reading.specs.Reading.{Accepted, Refused}
 use Rattle.line_steps.specs.Limits.{text_most}
 use Rattle.line_steps.specs.Frames.{frame_length}
 use Rattle.line_steps.specs.Sheet.{frame_at, frames_in, laid_out, Whole}
@@ -117,20 +117,20 @@ module _ (t : Text) (x s s' : List ℕ) (at n c to : ℕ) (q : Seen t x s s' at 
   pub count_few : at < length x → c < text_most
   count_few h = omega (arith, q.most, q.sized, q.size)
 
-  module _ (s'' : List ℕ) (f : Found) (d : Decodes x at s' to s'' f) where
-    no_line : at < length x → (es : List (List ℕ)) → (split (drop at x)).ended ≡ es → hex_line_in at es ≡ Nothing → first_from t n c (drop at x) ≡ Refused 1 (n + 1)
+  module _ (s'' : List ℕ) (f : OptionOf ℕ) (d : Decodes x at s' to s'' f) where
+    no_line : at < length x → (es : List (List ℕ)) → (split (drop at x)).ended ≡ es → hex_line_in at es ≡ None → first_from t n c (drop at x) ≡ Refused 1 (n + 1)
     unfolding first_lines line_fault
     no_line h [] e g = rw (all_rest (drop at x) e, e, drop-cons x at 0 h, add-one n)
     no_line h (l ∷ ls) e g = rw e (go (is_hex l) refl g)
       where
-        go : (b : Bool) → is_hex l ≡ b → pick b (At (at + length l)) Nothing ≡ Nothing → first_lines t n c (l ∷ ls) (split (drop at x)).rest ≡ Refused 1 (n + 1)
+        go : (b : Bool) → is_hex l ≡ b → pick b (Some (at + length l)) None ≡ None → first_lines t n c (l ∷ ls) (split (drop at x)).rest ≡ Refused 1 (n + 1)
         go true e w = let z : ◌≡◌ {A = ℕ} 0 1 = cc in absurd (omega arith)
         go false e w = rw (e, add-one n)
 
-    pub none_refused : at < length x → f ≡ Nothing → LinesLaid t x s s'' (Refused 1 (n + 1))
+    pub none_refused : at < length x → f ≡ None → LinesLaid t x s s'' (Refused 1 (n + 1))
     none_refused h p = record { is = sym (q.is ∙ no_line h (split (drop at x)).ended refl (sym d.is ∙ p)); lays = refused_lays x s s'' 1 (n + 1) (d.same ∙ q.same) }
 
-    module _ (e : ℕ) (p : f ≡ At e) where
+    module _ (e : ℕ) (p : f ≡ Some e) where
       line : HexLine x at e
       line = hex_found x at e (sym d.is ∙ p)
 
@@ -251,9 +251,6 @@ module _ (t : Text) (x s s' : List ℕ) (at n c to : ℕ) (q : Seen t x s s' at 
 -- ---- the step count, and the whole
 
 module _ (t : Text) (x s : List ℕ) (f : Reading) (p : t ≡ Plan) where
-  pub steps_refused : (k l : ℕ) → f ≡ Refused k l → Refused k l ≡ steps_right t x f
-  steps_refused k l q = rw (p, q)
-
   module _ (n c : ℕ) (q : f ≡ Accepted n c) (g : Lays x s s f) (z : ℕ) (u : z ≡ sheet_size (length x) n) where
     pub size_fits : z ≡ length (take z s)
     size_fits = sym (length-take-le z s (rw u (g.fits n c q)))
@@ -267,6 +264,12 @@ module _ (t : Text) (x s : List ℕ) (f : Reading) (p : t ≡ Plan) where
 
       pub steps_differ : (v + 1 ≡ n → ⊥) → Refused 3 1 ≡ steps_right t x f
       steps_differ e = rw (p, q, ← say, ne_eqb _ _ e)
+
+-- a refusal of the lines stands
+steps_stop : (t : Text) (x : List ℕ) (k l : ℕ) → Refused k l ≡ steps_right t x (Refused k l)
+steps_stop Query x k l = refl
+steps_stop Table x k l = refl
+steps_stop Plan x k l = refl
 
 -- what was laid stays so for the next function
 pub lays_again : (x s s' : List ℕ) (f : Reading) → Lays x s s' f → Lays x s' s' f
@@ -306,3 +309,6 @@ module _ (t : Text) (x s : List ℕ) where
         fits = λ n c g. p.lays.fits n c (accepted_by t x a n c (sym q ∙ g));
       };
     }
+
+    pub refused_on : (s' : List ℕ) (k l : ℕ) → (length x ≡ 0 → ⊥) → LinesLaid t x s s' (Refused k l) → FirstLaid t x s s' (Refused k l)
+    refused_on s' k l e p = is_read s' (Refused k l) (Refused k l) e p (steps_stop t x k l)

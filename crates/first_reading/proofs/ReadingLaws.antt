@@ -4,8 +4,8 @@ use mathlib.Core.Path.{◌≡◌, refl}
 use mathlib.Core.List.{List}
 use native.Mathlib.Omega.{arith}
 use Rattle.hex_lines.specs.Lines.{end_of, line_at}
-use Rattle.first_reading.specs.declared.first.Reading.{Reading}
-use Rattle.first_reading.specs.declared.first.Reading.TheVariants.{Accepted, Refused}
+use Rattle.first_reading.specs.Reading.{Reading}
+use Rattle.first_reading.specs.Reading.{Accepted, Refused}
 use Rattle.first_reading.specs.First.{or_else, first_line}
 
 pub or_stops : (k n : ℕ) (a : Reading) → (k ≡ 0 → ⊥) → or_else k n a ≡ Refused k (suc n)

@@ -1,4 +1,6 @@
 -- Where the first reading stands, a line at a time. Assumes nothing.
+use Rattle.std.specs.Prelude.{Some, None}
+use Rattle.std.specs.Prelude.{Option as OptionOf}
 use Prim.Native.Nat.{ℕ, zero, suc, ◌+◌, ◌-◌, ◌/◌, ◌<◌, ◌≤◌}
 use mathlib.Core.Path.{◌≡◌, refl, ◌∙◌, ap}
 use mathlib.Core.List.{List}
@@ -8,13 +10,11 @@ use lib.Dec.{eqb}
 use borrow.Author.Tests.{eq-eqb, ne_eqb}
 use Rattle.hex_lines.specs.Lines.{hex_line_of}
 use Rattle.hex_lines.specs.Decoding.{Room, behind, Passes}
-use Rattle.hex_lines.specs.declared.decode.Found.{Found}
-use Rattle.hex_lines.specs.declared.decode.Found.TheVariants.{At, Nothing}
 use Rattle.line_steps.specs.Text.{Text}
 use Rattle.line_steps.specs.declared.stand.Stand.{Stand}
-use Rattle.first_reading.specs.declared.first.Reading.TheVariants.{Accepted, Refused}
+use Rattle.first_reading.specs.Reading.{Accepted, Refused}
 use Rattle.line_steps.specs.Limits.{text_most}
-use Rattle.line_steps.specs.Faults.{counted, frame_fault}
+use Rattle.line_steps.specs.Faults.{frame_fault}
 use Rattle.first_reading.specs.First.{SheetRoom, LinesLaid}
 use Rattle.line_steps.specs.Steps.{at_start, by_fault, after_line, Few, LineRoom}
 use Rattle.first_reading.specs.Stands.{reading_of}
@@ -62,7 +62,7 @@ module _ (t : Text) (x s y : List ℕ) (l : Stand) where
   walked_done (over q e f g) h = rw (ne_eqb _ _ f) q
 
   module _ (h : l.at < l.end) (z : List ℕ) (p : ℕ) (d : Passes x l.at y l.to z p) where
-    abbrev found : Found
+    abbrev found : OptionOf ℕ
     found = hex_line_of l.at (drop l.at x)
 
     -- the frame on the sheet
@@ -77,7 +77,7 @@ module _ (t : Text) (x s y : List ℕ) (l : Stand) where
       few m b = record { lines = lines_few t x s y l.at l.n l.c l.to q; counted = count_few t x s y l.at l.n l.c l.to q below; places = b }
 
       -- it is no line of digits
-      module _ (o : found ≡ Nothing) where
+      module _ (o : found ≡ None) where
         stays : p ≡ l.at
         stays = d.is ∙ ap (behind l.at) o
 
@@ -99,7 +99,7 @@ module _ (t : Text) (x s y : List ℕ) (l : Stand) where
         })
 
       -- it is one, which ends at e
-      module _ (e : ℕ) (o : found ≡ At e) where
+      module _ (e : ℕ) (o : found ≡ Some e) where
         is_behind : p ≡ e + 1
         is_behind = d.is ∙ ap (behind l.at) o
 
@@ -133,13 +133,13 @@ module _ (t : Text) (x s y : List ℕ) (l : Stand) where
         line_moves : Moves t x s z l p (after_line t z l p)
         line_moves = rw (ne_eqb p l.at (λ w. omega (arith, is_behind, from, w))) (tested (frame_fault t (eqb l.n 0) l.c f) refl)
 
-      room_by : (a : Found) → found ≡ a → LineRoom l z p
-      room_by (At e) o = line_room e o
-      room_by Nothing o = none_room o
+      room_by : (a : OptionOf ℕ) → found ≡ a → LineRoom l z p
+      room_by (Some e) o = line_room e o
+      room_by None o = none_room o
 
-      moves_by : (a : Found) → found ≡ a → Moves t x s z l p (after_line t z l p)
-      moves_by (At e) o = line_moves e o
-      moves_by Nothing o = none_moves o
+      moves_by : (a : OptionOf ℕ) → found ≡ a → Moves t x s z l p (after_line t z l p)
+      moves_by (Some e) o = line_moves e o
+      moves_by None o = none_moves o
 
     pub walked_line : Walked t x s y l → LineRoom l z p
     walked_line (going q e f) = room_by q e found refl

@@ -8,8 +8,8 @@ use Rattle.line_steps.specs.Sheet.{frame_at, frames_in, Whole}
 use Rattle.line_steps.specs.Text.{Text}
 use Rattle.line_steps.specs.Text.TheVariants.{Query, Plan, Table}
 use Rattle.line_steps.specs.Faults.{counted, frame_fault}
-use Rattle.first_reading.specs.declared.first.Reading.{Reading}
-use Rattle.first_reading.specs.declared.first.Reading.TheVariants.{Accepted, Refused}
+use Rattle.first_reading.specs.Reading.{Reading}
+use Rattle.first_reading.specs.Reading.{Accepted, Refused}
 
 -- ---- the frames of a text: its lines, as bytes
 unfoldable pub frames_of : List ℕ → List (List ℕ)

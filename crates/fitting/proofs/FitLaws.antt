@@ -10,7 +10,7 @@ use lib.Seq.{sets-eq, get_or-take, length-take-le}
 use borrow.Author.Tests.{lt-ltb, le-ltb, leb-true, leb-false, le-leb, not-true, not-false}
 use Rattle.plan_text.specs.Sheet.{frames_in}
 use Rattle.plan_text.specs.Text.TheVariants.{Query}
-use Rattle.plan_text.specs.Reading.TheVariants.{Accepted}
+use Rattle.plan_text.specs.Reading.{Accepted}
 use Rattle.plan_text.specs.Second.{counts_in, reading}
 use Rattle.plan_text.specs.Atoms.{Step}
 use Rattle.plan_text.specs.Bound.{blank}
@@ -33,7 +33,9 @@ use Rattle.fitting.specs.Promised.{with_read_back}
 use Rattle.fitting.specs.Entry.{plan_on, planned_result}
 use Rattle.gathering.specs.Accepts.{Accepts}
 use Rattle.gathering.proofs.OrderLaws.{sheet_atoms_lem, sheet_items, sheet_keys, places_located}
-use Rattle.fitting.specs.declared.fit.Planned.TheVariants.{Written as Wrote, Refused as Refuses}
+use Rattle.std.specs.Prelude.{Ok, Err}
+use Rattle.gathering.specs.Text.TheVariants.{Query}
+use Rattle.fitting.specs.declared.fit.Written.{Written}
 
 -- the plan of a sheet is that of its query by all its frames
 pub plan_on_lem : (s : List ℕ) (a : Accepts s) → plan_on s ≡ plan_with (frames_in s) a.text
@@ -95,7 +97,7 @@ module _ (x from : List ℕ) (n : ℕ) (s : Scheduled) (a : Accepts x) (y : Plac
   pub fits_measured : (room r : ℕ) → r ≡ 21 + text_length (map frame_of (steps_along (atom_of (sheet_atoms x)) blank (take s.count s.order))) → leb r room ≡ leb (length (plan_on x).text) room
   fits_measured room r e = rw (text_is, text_size, e)
 
-  pub not_fitting : (t : Bool) (o : List ℕ) → t ≡ leb (length (plan_on x).text) (length o) → not t ≡ true → planned_result (Refuses 8 0 0) o ≡ fitted (plan_on x) o
+  pub not_fitting : (t : Bool) (o : List ℕ) → t ≡ leb (length (plan_on x).text) (length o) → not t ≡ true → planned_result (Err (record { number = 8; text = Query; line = 0 })) o ≡ fitted (plan_on x) o
   not_fitting t o e l =
       let k : length o < length text = leb-false (length text) (length o) (sym e ∙ not-true t l) in
       rw (lt-ltb (length o) (length text) k)
@@ -105,7 +107,7 @@ module _ (x from : List ℕ) (n : ℕ) (s : Scheduled) (a : Accepts x) (y : Plac
     unfolding plan_text
     is_text = rw (along, c ∙ counted, ← h.tallied, ← h.rejected)
 
-    pub fitting : (t : Bool) → t ≡ leb (length (plan_on x).text) (length o) → not t ≡ false → planned_result (Wrote r steps s.tallied s.rejected) p ≡ fitted (plan_on x) o
+    pub fitting : (t : Bool) → t ≡ leb (length (plan_on x).text) (length o) → not t ≡ false → planned_result (Ok (record { bytes = r; steps = steps; tallied = s.tallied; rejected = s.rejected })) p ≡ fitted (plan_on x) o
     unfolding written text_length
     fitting t g k =
         let l : length text ≤ length o = leb-true (length text) (length o) (sym g ∙ not-false t k) in

@@ -2,6 +2,7 @@ pub mod FitLaws
 pub mod ReadingsLaws
 pub use Rattle.gathering.proofs.Accepted
 pub use Rattle.gathering.proofs.GatherLaws
+pub use Rattle.gathering.proofs.HandedLaws
 pub use Rattle.gathering.proofs.GivenLaws
 pub use Rattle.gathering.proofs.OrderLaws
 pub use Rattle.gathering.proofs.QueryPlansLaws

@@ -12,7 +12,7 @@ use Rattle.plan_text.specs.Sheet.{frames_in}
 use Rattle.plan_text.specs.Text.TheVariants.{Query, Table}
 use Rattle.plan_text.specs.First.{frames_of, Sheet}
 use Rattle.plan_text.specs.Reading.{Reading}
-use Rattle.plan_text.specs.Reading.TheVariants.{Accepted, Refused}
+use Rattle.plan_text.specs.Reading.{Accepted, Refused}
 use Rattle.plan_text.specs.Second.{reading, query_reading}
 use Rattle.plan_text.proofs.QueryLaws.{query_accepted}
 use Rattle.gathering.proofs.AnswersLaws.{refused_number, query_number}

@@ -1,19 +1,21 @@
 -- The answers of the code, in document 01's numbers, and the plan of a sheet.
-use Rattle.std.specs.Prelude.{ℕ, List}
+use Rattle.std.specs.Prelude.{ℕ, List, Ok, Err}
+use Rattle.std.specs.Prelude.{Result as ResultOf}
 use Rattle.plan_text.specs.Sheet.{frame_at, frames_in}
 use Rattle.plan_text.specs.QueryAtoms.{atoms_in}
 use Rattle.plan_text.specs.Choice.{planned, remembered}
 use Rattle.fitting.specs.Planner.{Plan, plan_by, Answer, writes, refusal, Result}
-use Rattle.fitting.specs.declared.fit.Planned.{Planned}
-use Rattle.fitting.specs.declared.fit.Planned.TheVariants.{Written as Wrote, Refused}
+use Rattle.gathering.specs.Faults.{text_number}
+use Rattle.gathering.specs.Refusal.{Refusal}
+use Rattle.fitting.specs.declared.fit.Written.{Written}
 
 -- bytes written, steps, tallied, rejected; or number, text and line
-abbrev pub planned_answer : Planned → Answer
-planned_answer (Wrote b s t r) = writes b s t r
-planned_answer (Refused k t l) = refusal k t l
+abbrev pub planned_answer : ResultOf Written Refusal → Answer
+planned_answer (Ok w) = writes w.bytes w.steps w.tallied w.rejected
+planned_answer (Err f) = refusal f.number (text_number f.text) f.line
 
 -- the answer r with the output o is what the definition gives
-abbrev pub planned_result : Planned → List ℕ → Result
+abbrev pub planned_result : ResultOf Written Refusal → List ℕ → Result
 planned_result r o = record { answer = planned_answer r; output = o }
 
 -- the plan of a sheet's frames

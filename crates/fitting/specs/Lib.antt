@@ -8,7 +8,8 @@ pub use Rattle.gathering.specs.Handed
 pub use Rattle.gathering.specs.QueryPlans
 pub use Rattle.gathering.specs.Rounds
 pub use Rattle.gathering.specs.Scheduled
-pub use Rattle.gathering.specs.declared.beside.Beside
+pub use Rattle.gathering.specs.Faults
+pub use Rattle.gathering.specs.Refusal
 pub use Rattle.plan_text.specs.Bootstrap
 pub use Rattle.plan_text.specs.Buckets
 pub use Rattle.plan_text.specs.Choice

@@ -4,7 +4,7 @@ use Rattle.std.proofs.Math.Option.{Option}
 use Rattle.std.proofs.Common.{arith}
 use Rattle.plan_text.specs.First.{frames_of}
 use Rattle.plan_text.specs.Text.TheVariants.{Query}
-use Rattle.plan_text.specs.Reading.TheVariants.{Accepted}
+use Rattle.plan_text.specs.Reading.{Accepted}
 use Rattle.plan_text.specs.Second.{reading}
 use Rattle.plan_text.specs.ModelReading.{bound_first}
 use Rattle.plan_text.proofs.Guarantee.{schedule_bound_first}

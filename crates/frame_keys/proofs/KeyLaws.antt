@@ -1,14 +1,14 @@
 -- Keys compared, a byte at a time. Assumes nothing.
-use Prim.Native.Nat.{ℕ, zero, suc, ◌+◌, ◌-◌, ◌<◌, ◌≤◌}
+use Prim.Native.Nat.{ℕ, zero, suc, ◌-◌, ◌<◌, ◌≤◌}
 use mathlib.Core.Path.{◌≡◌, refl, sym, ◌∙◌, ap}
-use mathlib.Core.Bool.{Bool, true, false, true≢false}
+use mathlib.Core.Bool.{Bool, true, false, true≢false, ◌&&◌}
 use mathlib.Core.List.{List, [], ◌∷◌}
-use native.Mathlib.Numerals.{add-one}
 use native.Mathlib.Omega.{arith}
-use lib.ListN.{length, get_or, take, drop, length-drop, drop_of_length-le}
-use lib.Seq.{drop-cons, take_all}
+use lib.ListN.{length, take, drop, length-drop, drop_of_length-le}
+use lib.Seq.{take_all}
 use lib.Dec.{eqb}
-use borrow.Author.Tests.{eq-eqb, ne_eqb}
+use borrow.Author.Tests.{ne_eqb}
+use Rattle.std.specs.Cmp.Lexicographic.{pointwise}
 use Rattle.frames.specs.Choose.{pick}
 use Rattle.frame_keys.specs.Keys.{begins}
 
@@ -22,31 +22,16 @@ shorter [] f h = absurd (omega arith)
 shorter (k ∷ key) [] h = refl
 shorter (k ∷ key) (b ∷ f) h = rw (shorter key f (omega arith)) (pick_false (eqb k b))
 
--- i bytes agree, and the others decide
-pub record Begun (k l : List ℕ) (i : ℕ) : Type 0 where
-  pub is : begins k l ≡ begins (drop i k) (drop i l)
-
-module _ (k l : List ℕ) where
-  pub begins_short : length l < length k → false ≡ begins k l
-  begins_short h = sym (shorter k l (omega arith))
-
-  module _ (i : ℕ) (q : Begun k l i) where
-    pub begins_all : length k ≤ i → true ≡ begins k l
-    unfolding begins
-    begins_all h = sym (q.is ∙ rw (drop_of_length-le k h))
-
-    module _ (h : i < length k) (g : length k ≤ length l) where
-      in_line : i < length l
-      in_line = omega arith
-
-      pub begins_again : get_or k i 0 ≡ get_or l i 0 → Begun k l (i + 1)
-      unfolding begins
-      begins_again p =
-          record { is = q.is ∙ rw (add-one i, drop-cons k i 0 h, drop-cons l i 0 in_line, eq-eqb _ _ p) }
-
-      pub begins_not : (get_or k i 0 ≡ get_or l i 0 → ⊥) → false ≡ begins k l
-      unfolding begins
-      begins_not p = sym (q.is ∙ rw (drop-cons k i 0 h, drop-cons l i 0 in_line, ne_eqb _ _ p))
+-- a key's bytes are those of a frame that begins with it
+pub begins_pointwise : (key f : List ℕ) → pointwise eqb key (take (length key) f) ≡ begins key f
+unfolding begins
+begins_pointwise [] f = refl
+begins_pointwise (k ∷ key) [] = refl
+begins_pointwise (k ∷ key) (b ∷ f) = rw (begins_pointwise key f) (by_first (eqb k b) (begins key f))
+  where
+    by_first : (a b : Bool) → (a && b) ≡ pick a b false
+    by_first true b = refl
+    by_first false b = refl
 
 -- ---- from a place of a sheet on
 

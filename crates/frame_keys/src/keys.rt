@@ -6,18 +6,7 @@ ghost use Rattle.frame_keys.specs.Keys.{begins as begins_with};
 pub fn begins(key: &[u8], frame: &[u8]) -> bool
     ensures { result ≡ begins_with key.now frame.now }
 {
-    let n = key.len();
-    if frame.len() < n {
-        return false;
-    }
-    let mut i: usize = 0;
-    while i < n {
-        if key[i] != frame[i] {
-            return false;
-        }
-        i += 1;
-    }
-    true
+    frame.starts_with(key)
 }
 
 // Whether the bytes from `at` on begin with the key.
@@ -25,7 +14,8 @@ pub fn begins_at(key: &[u8], sheet: &[u8], at: usize) -> bool
     ensures { result ≡ begins_with key.now (drop at sheet.now) }
 {
     if sheet.len() < at {
-        return key.len() == 0;
+        key.is_empty()
+    } else {
+        begins(key, &sheet[at..])
     }
-    begins(key, &sheet[at..])
 }

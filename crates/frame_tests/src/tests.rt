@@ -7,14 +7,14 @@ use frames::below::{byte_at, low_byte, row};
 use frames::frame::{frame_length, limits_pass};
 
 // Which of the three texts is read.
-#[derive(Clone, Copy)]
+#[derive(Clone, Copy, PartialEq, Eq)]
 pub enum Text {
     Query,
     Plan,
     Table,
 }
 
-fn text_number(t: Text) -> u8
+pub fn text_number(t: Text) -> u8
     ensures { result ≡ text_number t }
 {
     match t {
@@ -27,16 +27,17 @@ fn text_number(t: Text) -> u8
 fn is_header(kind: u8) -> bool
     ensures { result ≡ is_header kind }
 {
-    if kind == 0 { true } else { kind == 0x3f }
+    kind == 0 || kind == 0x3f
 }
 
 fn header_first(first: bool, kind: u8) -> bool
     ensures { result ≡ header_first first kind }
 {
     if first {
-        return is_header(kind);
+        is_header(kind)
+    } else {
+        !is_header(kind)
     }
-    !is_header(kind)
 }
 
 fn in_place(t: Text, first: bool, kind: u8) -> bool
@@ -53,23 +54,20 @@ fn belongs(t: Text, first: bool, kind: u8, text: u8) -> bool
     requires { text ≡ (kind_at kind).text }
     ensures { result ≡ belongs_to t first kind }
 {
-    if text == text_number(t) {
-        return in_place(t, first, kind);
-    }
-    false
+    text == text_number(t) && in_place(t, first, kind)
 }
 
 pub fn is_atom(kind: u8) -> bool
     ensures { result ≡ is_atom kind }
 {
-    if 1 <= kind { kind <= 0x0e } else { false }
+    1 <= kind && kind <= 0x0e
 }
 
 // Whether a kind is that of a row: 30 or 31.
 pub fn is_row(kind: u8) -> bool
     ensures { result ≡ is_row kind }
 {
-    if kind == 0x30 { true } else { kind == 0x31 }
+    kind == 0x30 || kind == 0x31
 }
 
 fn is_counted(t: Text, kind: u8) -> bool
@@ -102,10 +100,7 @@ pub fn counted(t: Text, c: usize, kind: u8) -> usize
 fn has_room(t: Text, c: usize, kind: u8) -> bool
     ensures { result ≡ has_room t c kind }
 {
-    if is_counted(t, kind) {
-        return c < counted_most(t);
-    }
-    true
+    !is_counted(t, kind) || c < counted_most(t)
 }
 
 // The tests 2, 3 and 4 of a frame: the first that it fails, or 0.
@@ -116,13 +111,14 @@ pub fn frame_fault(t: Text, first: bool, c: usize, frame: &[u8]) -> u8
     let row = row(kind);
     let tests = low_byte(row);
     if !belongs(t, first, kind, tests % 4) {
-        return 2;
+        2
+    } else if frame.len() != frame_length(frame) {
+        3
+    } else if !limits_pass(tests, row / 0x100, frame) {
+        4
+    } else if has_room(t, c, kind) {
+        0
+    } else {
+        4
     }
-    if frame.len() != frame_length(frame) {
-        return 3;
-    }
-    if !limits_pass(tests, row / 0x100, frame) {
-        return 4;
-    }
-    if has_room(t, c, kind) { 0 } else { 4 }
 }

@@ -3,26 +3,23 @@ ghost use Rattle.std.specs.Prelude.{◌≡◌};
 ghost use Rattle.frames.specs.Among.{is_between, has_kinds};
 ghost use Rattle.frames.specs.Sheet.{frames_in};
 
-use crate::frame::frame_at;
+use crate::walk::Frames;
 use kinds::below::byte_at;
 
 fn is_between(low: u8, high: u8, kind: u8) -> bool
     ensures { result ≡ is_between low high kind }
 {
-    if low <= kind { kind <= high } else { false }
+    low <= kind && kind <= high
 }
 
 // Whether one of the frames is of the kinds from `low` to `high`.
 pub fn has_kinds(sheet: &[u8], low: u8, high: u8) -> bool
     ensures { result ≡ has_kinds low high (frames_in sheet.now) }
 {
-    let mut at: usize = 0;
-    while at < sheet.len() {
-        let frame = frame_at(sheet, at);
+    for frame in Frames::of(sheet) {
         if is_between(low, high, byte_at(frame, 0)) {
             return true;
         }
-        at += frame.len();
     }
     false
 }

@@ -1,3 +1,3 @@
 // What crates above take from those below this one.
-pub use kinds::below::{byte_at, wide, wide_short};
+pub use kinds::below::byte_at;
 pub use kinds::table::{fixed_length, item_width, key_length, low_byte, row, tests_of};

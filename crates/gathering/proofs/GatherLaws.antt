@@ -14,8 +14,8 @@ use Rattle.reading.specs.Index.{many_slots, slots_for, Indexed, Finds}
 use Rattle.reading.proofs.BehindLaws.{found_with_behind}
 use Rattle.frame_tests.specs.declared.tests.Text.TheVariants.{Query, Table}
 use Rattle.first_reading.specs.First.{frames_of, sheet_size, Sheet}
-use Rattle.first_reading.specs.declared.first.Reading.{Reading}
-use Rattle.first_reading.specs.declared.first.Reading.TheVariants.{Accepted, Refused}
+use Rattle.first_reading.specs.Reading.{Reading}
+use Rattle.first_reading.specs.Reading.{Accepted, Refused}
 use Rattle.reading.specs.Second.{reading, query_reading}
 use Rattle.reading.specs.Rereading.{index_size}
 use Rattle.reading.proofs.QueryLaws.{query_accepted}
@@ -31,6 +31,9 @@ use Rattle.sampled_frames.specs.Laid.{part_of, TableLaid, SampledSheet, SampledL
 use Rattle.reading.specs.IndexedReading.{index_for, Lent, ReadIndexed}
 use Rattle.reading.proofs.LentLaws.{lent_for}
 use borrow.Rule.Slice.PartMut.{post_of, put_mid}
+use Rattle.std.specs.Prelude.{Result, Ok, Err}
+use Rattle.first_reading.specs.declared.first.Fault.{Fault}
+use Rattle.first_reading.specs.declared.first.Refusal.{Refusal}
 use Rattle.gathering.specs.Gathered.{Asks, BothLent, QueryLaid, AcceptsAs, Both, Gathers}
 
 -- ---- both sheets
@@ -101,8 +104,11 @@ module _ (x t s : List ℕ) (size : ℕ) (i k : List ℕ) (l : QueryLaid x t s s
   abbrev laid : List ℕ
   laid = put_mid size (length s - size) s y
 
-  pub table_refused : (a b : ℕ) → v ≡ Refused a b → (i' : List ℕ) → Gathers x t laid i' (Refused a b)
-  table_refused a b e i' = record { refused = λ c f g. sym d.is ∙ e ∙ g; both = λ c f g. let z : ◌≡◌ {A = ℕ} 0 1 = cc in absurd (omega arith) }
+  pub table_refused : (f : Fault) → v ≡ Refused f.number f.line → (g : Refusal) → g ≡ record { number = f.number; text = Table; line = f.line } → (i' : List ℕ) → Gathers x t laid i' (Err g)
+  table_refused f e g q i' = record {
+    refused = λ h p. let o : g ≡ h = cc p in (ap (λ (z : Refusal). z.text) (sym o ∙ q), sym d.is ∙ e ∙ ap (λ (z : Refusal). Refused z.number z.line) (sym q ∙ o));
+    both = λ c p. let z : ◌≡◌ {A = ℕ} 0 1 = cc in absurd (omega arith);
+  }
 
   module _ (n c m : ℕ) (e : v ≡ Accepted n c) (z : m ≡ sheet_size (length t) n) where
     okt : reading Table t ≡ Accepted n c
@@ -164,10 +170,10 @@ module _ (x t s : List ℕ) (size : ℕ) (i k : List ℕ) (l : QueryLaid x t s s
           let g : TableRoom (q ++ p) (length q) i = both_room x t q p l.lines l.atoms l.is l.laid (frames_of t) p_sheet short i (omega (arith, l.length_is)) l.blank in
           rw is_both (rw q_long at g)
 
-      pub table_behind : (i' : List ℕ) → TableIndexed (rows_on (drop size (take f s'))) (take f s') rows_at i i' → Gathers x t s' i' (Accepted f c)
+      pub table_behind : (i' : List ℕ) → TableIndexed (rows_on (drop size (take f s'))) (take f s') rows_at i i' → Gathers x t s' i' (Ok f)
       table_behind i' h = record {
-        refused = λ a b g. let y : ◌≡◌ {A = ℕ} 0 1 = cc in absurd (omega arith);
-        both = λ a b g. let o : f ≡ a = cc in rw (← o) both_of;
+        refused = λ a g. let y : ◌≡◌ {A = ℕ} 0 1 = cc in absurd (omega arith);
+        both = λ a g. let o : f ≡ a = cc in rw (← o) both_of;
       }
         where
           given_both : Given (q ++ p) i'
@@ -214,8 +220,8 @@ module _ (x t s i k : List ℕ) (asks : Asks x) (l : BothLent t s i k) where
   }
 
   module _ (s' j : List ℕ) (v : Reading) (d : ReadIndexed (query_reading true x) x s' j v) (len : length s' ≡ length s) (size-j : length j ≡ rows_at) where
-    pub never_refused : (a b : ℕ) → v ≡ Refused a b → (i' : List ℕ) → Gathers x t s' i' (Refused a b)
-    never_refused a b e i' = let z : ◌≡◌ {A = ℕ} 0 1 = cc (sym e ∙ d.is ∙ asks.is) in absurd (omega arith)
+    pub never_refused : (f : Fault) → v ≡ Refused f.number f.line → (g : Refusal) (i' : List ℕ) → Gathers x t s' i' (Err g)
+    never_refused f e g i' = let z : ◌≡◌ {A = ℕ} 0 1 = cc (sym e ∙ d.is ∙ asks.is) in absurd (omega arith)
 
     pub query_laid : (n c z : ℕ) → v ≡ Accepted n c → z ≡ sheet_size (length x) n → QueryLaid x t s' z (j ++ drop rows_at i) k
     query_laid n c z e h = record {

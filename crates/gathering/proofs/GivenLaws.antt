@@ -14,8 +14,8 @@ use Rattle.sampled_frames.proofs.KeyLaws.{part_whole}
 use Rattle.reading.specs.Second.{query_reading}
 use Rattle.reading.proofs.QueryLaws.{table_handed}
 use Rattle.first_reading.specs.First.{frames_of, Sheet}
-use Rattle.first_reading.specs.declared.first.Reading.{Reading}
-use Rattle.first_reading.specs.declared.first.Reading.TheVariants.{Accepted}
+use Rattle.first_reading.specs.Reading.{Reading}
+use Rattle.first_reading.specs.Reading.{Accepted}
 use Rattle.gathering.specs.Gathered.{Asks}
 
 pub keyed_alone : (s i : List ℕ) → Indexed s i → length i ≤ rows_at → Keyed s i

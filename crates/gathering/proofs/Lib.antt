@@ -1,4 +1,5 @@
 pub mod GatherLaws
+pub mod HandedLaws
 pub mod GivenLaws
 pub use Rattle.ordering.proofs.Accepted
 pub use Rattle.ordering.proofs.OrderLaws

@@ -1,11 +1,12 @@
 -- A query that asks for a table, and the table behind it: one sheet, one index.
-use Rattle.std.specs.Prelude.{ℕ, ◌<◌, ◌≤◌, ◌≡◌, true, List, ◌++◌, length, get_or, take}
+use Rattle.std.specs.Prelude.{ℕ, ◌<◌, ◌≤◌, ◌≡◌, true, List, ◌++◌, length, get_or, take, Result, Ok, Err, Option, is_some}
 use Rattle.frame_tests.specs.Sheet.{frames_in}
 use Rattle.reading.specs.Index.{Indexed}
 use Rattle.first_reading.specs.First.{frames_of, Sheet}
 use Rattle.frame_tests.specs.declared.tests.Text.TheVariants.{Query, Table}
-use Rattle.first_reading.specs.declared.first.Reading.{Reading}
-use Rattle.first_reading.specs.declared.first.Reading.TheVariants.{Accepted, Refused}
+use denote.Ref.{Bor}
+use Rattle.first_reading.specs.declared.first.Refusal.{Refusal}
+use Rattle.first_reading.specs.Reading.{Accepted, Refused}
 use Rattle.reading.specs.Second.{reading, query_reading}
 use Rattle.reading.specs.IndexedReading.{Blank}
 use Rattle.buckets.specs.RowIndex.{rows_at, table_index}
@@ -55,6 +56,22 @@ pub record Both (x t s i : List ℕ) (e : ℕ) : Type 0 where
   pub given : Given (take e s) i
 
 -- r is the table's refusal, or says how many bytes there are
-pub record Gathers (x t s i : List ℕ) (r : Reading) : Type 0 where
-  pub refused : (k l : ℕ) → r ≡ Refused k l → reading Table t ≡ Refused k l
-  pub both : (e c : ℕ) → r ≡ Accepted e c → Both x t s i e
+pub record Gathers (x t s i : List ℕ) (r : Result ℕ Refusal) : Type 0 where
+  pub refused : (f : Refusal) → r ≡ Err f → (f.text ≡ Table) × (reading Table t ≡ Refused f.number f.line)
+  pub both : (e : ℕ) → r ≡ Ok e → Both x t s i e
+
+-- ---- a query, with a table beside it or none
+
+-- the query text x is accepted, where the table o is handed in beside it; s is its sheet, and i the index of that
+pub record QueryRead (x : List ℕ) (o : Option (Bor (List ℕ))) (s i : List ℕ) : Type 0 where
+  pub lines : ℕ
+  pub atoms : ℕ
+  pub is : query_reading (is_some o) x ≡ Accepted lines atoms
+  pub sheet : Sheet x s
+  pub indexed : Indexed s i
+  pub few : length i ≤ rows_at
+
+-- r is the query's refusal, or says how many bytes of the sheet s its frames are
+pub record ReadsBeside (x : List ℕ) (o : Option (Bor (List ℕ))) (s i : List ℕ) (r : Result ℕ Refusal) : Type 0 where
+  pub refused : (f : Refusal) → r ≡ Err f → (f.text ≡ Query) × (query_reading (is_some o) x ≡ Refused f.number f.line)
+  pub read : (e : ℕ) → r ≡ Ok e → (e ≤ length s) × QueryRead x o (take e s) i

@@ -1,5 +1,8 @@
 pub mod Handed
 pub mod Gathered
+pub use Rattle.first_reading.specs.declared.first.Refusal
+pub use Rattle.frame_tests.specs.Faults
+pub use Rattle.frame_tests.specs.declared.tests.Text
 pub use Rattle.ordering.specs.Accepts
 pub use Rattle.ordering.specs.Places
 pub use Rattle.ordering.specs.QueryPlans

@@ -2,7 +2,7 @@
 ghost use Rattle.gathering.specs.Gathered.{Asks, BothLent, QueryLaid, Gathers};
 
 use buckets::index::ROWS_AT;
-use first_reading::first::{Reading, sheet_size};
+use first_reading::first::{Refusal, sheet_size};
 use frame_tests::tests::Text;
 use reading::second::{LONG_SHEET, read_indexed, read_query};
 use row_indexing::fill::index_table;
@@ -20,19 +20,18 @@ fn add_table(
     size: usize,
     index: &mut [u16],
     keys: &mut [u16],
-) -> Reading
+) -> Result<usize, Refusal>
     requires { QueryLaid text.now table.now sheet.old size index.old keys.old }
     ensures { Gathers text.now table.now sheet.new index.new result }
 {
-    match read_indexed(Text::Table, table, &mut sheet[size..], keys) {
-        Reading::Refused(k, line) => Reading::Refused(k, line),
-        Reading::Accepted(lines, rows) => {
-            let last = size + sheet_size(table.len(), lines);
-            let end = lay_sampled(sheet, size, last, keys);
-            index_table(&sheet[..end], size, index);
-            Reading::Accepted(end, rows)
-        }
-    }
+    let lines = match read_indexed(Text::Table, table, &mut sheet[size..], keys) {
+        Ok(lines) => lines,
+        Err(fault) => return Err(fault.of(Text::Table)),
+    };
+    let last = size + sheet_size(table.len(), lines.count);
+    let end = lay_sampled(sheet, size, last, keys);
+    index_table(&sheet[..end], size, index);
+    Ok(end)
 }
 
 // Reads a query that asks for a table, and the table behind it.
@@ -42,16 +41,15 @@ pub fn gather(
     sheet: &mut [u8],
     index: &mut [u16],
     keys: &mut [u16],
-) -> Reading
+) -> Result<usize, Refusal>
     requires asks { Asks text.now }
     requires both_lent { BothLent table.now sheet.old index.old keys.old }
     ensures { Gathers text.now table.now sheet.new index.new result }
 {
-    match read_query(true, text, sheet, &mut index[..ROWS_AT]) {
-        Reading::Refused(k, line) => Reading::Refused(k, line),
-        Reading::Accepted(lines, _) => {
-            let size = sheet_size(text.len(), lines);
-            add_table(text, table, sheet, size, index, keys)
-        }
-    }
+    let lines = match read_query(true, text, sheet, &mut index[..ROWS_AT]) {
+        Ok(lines) => lines,
+        Err(fault) => return Err(fault.of(Text::Query)),
+    };
+    let size = sheet_size(text.len(), lines.count);
+    add_table(text, table, sheet, size, index, keys)
 }

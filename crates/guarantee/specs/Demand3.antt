@@ -11,7 +11,7 @@ use mathlib.Core.List.{List, ◌++◌, Memᴰ, Perm}
 use Rattle.std.proofs.Common.{le-ltb}
 use Rattle.fair_plans.specs.Kinds.{plan as plan_text}
 use Rattle.fair_plans.specs.Text.TheVariants.{Query}
-use Rattle.fair_plans.specs.Reading.TheVariants.{Accepted}
+use Rattle.fair_plans.specs.Reading.{Accepted}
 use Rattle.fair_plans.specs.Second.{reading, query_reading}
 use Rattle.fair_plans.specs.Atoms.{Atom, is_run}
 use Rattle.fair_plans.specs.Matching.{InShapes}

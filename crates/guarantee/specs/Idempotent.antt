@@ -9,7 +9,7 @@ use Rattle.fair_plans.specs.Frames.{frame_length, pass_all}
 use Rattle.fair_plans.specs.Faults.{frame_fault}
 use Rattle.fair_plans.specs.Text.TheVariants.{Query, Plan}
 use Rattle.fair_plans.specs.First.{frames_of}
-use Rattle.fair_plans.specs.Reading.TheVariants.{Accepted}
+use Rattle.fair_plans.specs.Reading.{Accepted}
 use Rattle.fair_plans.specs.Second.{reading}
 use Rattle.fair_plans.specs.Items.{Each}
 use Rattle.fair_plans.proofs.PlanRead.{plan_frames_lem}

@@ -7,7 +7,7 @@ use Rattle.std.specs.Prelude.{ℕ, ◌≡◌, true}
 use Rattle.std.proofs.Math.Option.{none, some}
 use mathlib.Core.List.{List, Memᴰ}
 use Rattle.fair_plans.specs.Text.TheVariants.{Query}
-use Rattle.fair_plans.specs.Reading.TheVariants.{Accepted}
+use Rattle.fair_plans.specs.Reading.{Accepted}
 use Rattle.fair_plans.specs.Second.{reading}
 use Rattle.fair_plans.specs.Refusing.{has_join}
 use Rattle.fair_plans.specs.Matching.{InShapes, Line, IsMatch}

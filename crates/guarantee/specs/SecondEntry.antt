@@ -4,7 +4,7 @@
 use Rattle.std.specs.Prelude.{ℕ, ◌≤◌, ◌≡◌, refl, List, map}
 use Rattle.std.proofs.Common.{sym, ◌∙◌, ap, subst, arith}
 use Rattle.fair_plans.specs.Text.TheVariants.{Query}
-use Rattle.fair_plans.specs.Reading.TheVariants.{Accepted}
+use Rattle.fair_plans.specs.Reading.{Accepted}
 use Rattle.fair_plans.specs.Second.{reading}
 use Rattle.fair_plans.specs.Running.{Mode, Env, Event, runs, trace, attempts}
 use Rattle.fair_plans.specs.Matching.{InShapes, Line, line, IsMatch, Exact}

@@ -10,7 +10,7 @@ use Rattle.fair_plans.specs.Kinds.{kind_at}
 use Rattle.fair_plans.specs.Among.{has_kinds}
 use Rattle.fair_plans.specs.Frames.{pass_all}
 use Rattle.fair_plans.specs.First.{frames_of}
-use Rattle.fair_plans.specs.Reading.TheVariants.{Accepted}
+use Rattle.fair_plans.specs.Reading.{Accepted}
 use Rattle.fair_plans.specs.Keys.{begins, find}
 use Rattle.fair_plans.specs.Second.{query_reading}
 use Rattle.fair_plans.specs.Ascii.{ascii}

@@ -4,7 +4,7 @@ use Rattle.std.specs.Prelude.{ℕ, ◌≡◌, refl}
 use Rattle.std.proofs.Math.Option.{Option, none}
 use mathlib.Core.List.{List, Perm}
 use Rattle.fair_plans.specs.Text.TheVariants.{Query}
-use Rattle.fair_plans.specs.Reading.TheVariants.{Accepted}
+use Rattle.fair_plans.specs.Reading.{Accepted}
 use Rattle.fair_plans.specs.Second.{reading}
 use Rattle.fair_plans.specs.Matching.{InShapes}
 use Rattle.fair_plans.specs.QueryPlans.{atoms_of}

@@ -1,4 +1,5 @@
 -- A text's first line cut off: what the split into lines says of the bytes. Assumes nothing.
+use Rattle.std.specs.Prelude.{Some, None}
 use Prim.Native.Nat.{ℕ, suc, ◌+◌, ◌-◌, ◌<◌, ◌≤◌}
 use mathlib.Core.Path.{◌≡◌, refl, sym, ◌∙◌, ap}
 use mathlib.Core.List.{List, [], ◌∷◌}
@@ -10,7 +11,6 @@ use lib.Seq.{drop-drop}
 use lib.Dec.{eqb}
 use Rattle.hexadecimal.specs.Choose.{pick}
 use Rattle.hex_lines.specs.Lines.{Split, with_line, with_byte, split, is_hex, hex_line_in, hex_line_of, end_of}
-use Rattle.hex_lines.specs.declared.decode.Found.TheVariants.{At, Nothing}
 
 -- l is the first line of t, and the rest of t is what follows its 0a
 pub record Cut (t l : List ℕ) : Type 0 where
@@ -93,7 +93,7 @@ pub record HexLine (t : List ℕ) (at e : ℕ) : Type 0 where
   pub line : Line t at e
   pub hex : is_hex (take (e - at) (drop at t)) ≡ true
 
-hex_by : (t : List ℕ) (at e : ℕ) (l : List ℕ) (ls : List (List ℕ)) → (split (drop at t)).ended ≡ l ∷ ls → (h : Bool) → is_hex l ≡ h → pick h (At (at + length l)) Nothing ≡ At e → HexLine t at e
+hex_by : (t : List ℕ) (at e : ℕ) (l : List ℕ) (ls : List (List ℕ)) → (split (drop at t)).ended ≡ l ∷ ls → (h : Bool) → is_hex l ≡ h → pick h (Some (at + length l)) None ≡ Some e → HexLine t at e
 hex_by t at e l ls q true h p =
     let w : at + length l ≡ e = cc in
     let c = cut (drop at t) l ls q in
@@ -101,10 +101,10 @@ hex_by t at e l ls q true h p =
     record { line = line_of t at e l c (sym w); hex = rw (k, ← c.line) h }
 hex_by t at e l ls q false h p = let z : ◌≡◌ {A = ℕ} 0 1 = cc in absurd (omega arith)
 
-pub hex_found : (t : List ℕ) (at e : ℕ) → hex_line_of at (drop at t) ≡ At e → HexLine t at e
+pub hex_found : (t : List ℕ) (at e : ℕ) → hex_line_of at (drop at t) ≡ Some e → HexLine t at e
 hex_found t at e p = go (split (drop at t)).ended refl p
   where
-    go : (es : List (List ℕ)) → (split (drop at t)).ended ≡ es → hex_line_in at es ≡ At e → HexLine t at e
+    go : (es : List (List ℕ)) → (split (drop at t)).ended ≡ es → hex_line_in at es ≡ Some e → HexLine t at e
     go [] q g = let z : ◌≡◌ {A = ℕ} 0 1 = cc in absurd (omega arith)
     go (l ∷ ls) q g = hex_by t at e l ls q (is_hex l) refl g
 

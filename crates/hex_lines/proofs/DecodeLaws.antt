@@ -1,4 +1,6 @@
 -- A line's digits laid on a sheet, two at a time. Assumes nothing.
+use Rattle.std.specs.Prelude.{Some, None}
+use Rattle.std.specs.Prelude.{Option as OptionOf}
 use Prim.Native.Nat.{ℕ, suc, ◌+◌, ◌-◌, ◌*◌, ◌/◌, ◌%◌, ◌<◌, ◌≤◌}
 use mathlib.Core.Path.{◌≡◌, refl, sym, ◌∙◌, ap}
 use mathlib.Core.Bool.{Bool, true, false}
@@ -12,8 +14,6 @@ use borrow.Author.Tests.{ne_eqb, eqb-true}
 use mir.Val.{Fits}
 use mir.Syntax.{w64}
 use Rattle.hexadecimal.specs.Choose.{pick}
-use Rattle.hex_lines.specs.declared.decode.Found.{Found}
-use Rattle.hex_lines.specs.declared.decode.Found.TheVariants.{At, Nothing}
 use Rattle.hexadecimal.specs.Digits.{digit_value, bytes_of}
 use Rattle.hexadecimal.proofs.Bytes.{bytes_length, bytes_take, byte_is}
 use Rattle.hex_lines.specs.Lines.{hex_line_of, stopped_at}
@@ -48,30 +48,30 @@ laying_starts t at s to r =
     }
 
 -- where a pass stops, it says that the line ends there or that there is none
-stops_there : (at i b e : ℕ) → stopped_at at i b ≡ At e → e ≡ i
+stops_there : (at i b e : ℕ) → stopped_at at i b ≡ Some e → e ≡ i
 stops_there at i b e = go (eqb b 10) (eqb (i - at) 0) (eqb ((i - at) % 2) 0)
   where
-    no : Nothing ≡ At e → ⊥
+    no : None ≡ Some e → ⊥
     no p = let z : ◌≡◌ {A = ℕ} 0 1 = cc in omega arith
 
-    go : (x y z : Bool) → pick x (pick y Nothing (pick z (At i) Nothing)) Nothing ≡ At e → e ≡ i
+    go : (x y z : Bool) → pick x (pick y None (pick z (Some i) None)) None ≡ Some e → e ≡ i
     go true true z p = absurd (no p)
     go true false true p = let q : i ≡ e = cc in sym q
     go true false false p = absurd (no p)
     go false y z p = absurd (no p)
 
-odd_stop : (at i b : ℕ) → ((i - at) % 2 ≡ 0 → ⊥) → stopped_at at i b ≡ Nothing
+odd_stop : (at i b : ℕ) → ((i - at) % 2 ≡ 0 → ⊥) → stopped_at at i b ≡ None
 odd_stop at i b n = rw (ne_eqb _ _ n) (go (eqb b 10) (eqb (i - at) 0))
   where
-    go : (x y : Bool) → pick x (pick y Nothing Nothing) Nothing ≡ Nothing
+    go : (x y : Bool) → pick {A = OptionOf ℕ} x (pick y None None) None ≡ None
     go true true = refl
     go true false = refl
     go false y = refl
 
-digit_stop : (at i b : ℕ) → eqb (digit_value b) 16 ≡ false → stopped_at at i b ≡ Nothing
+digit_stop : (at i b : ℕ) → eqb (digit_value b) 16 ≡ false → stopped_at at i b ≡ None
 digit_stop at i b d = go (eqb b 10) refl
   where
-    go : (x : Bool) → eqb b 10 ≡ x → pick x (pick (eqb (i - at) 0) Nothing (pick (eqb ((i - at) % 2) 0) (At i) Nothing)) Nothing ≡ Nothing
+    go : (x : Bool) → eqb b 10 ≡ x → pick x (pick (eqb (i - at) 0) None (pick (eqb ((i - at) % 2) 0) (Some i) None)) None ≡ None
     go true e = absurd (no_digit (eqb-true b 10 e) d)
       where
         no_digit : b ≡ 10 → eqb (digit_value b) 16 ≡ false → ⊥
@@ -86,11 +86,11 @@ module _ (t : List ℕ) (at : ℕ) (s : List ℕ) (to : ℕ) (s' : List ℕ) (i 
   place_fits n e h = omega (arith, q.even, q.few, q.room, q.same)
 
   -- where there is no line
-  nothing : Nothing ≡ hex_line_of at (drop at t) → Decodes t at s to s' Nothing
+  nothing : None ≡ hex_line_of at (drop at t) → Decodes t at s to s' None
   nothing p = record { is = p; same = q.same; laid = λ e g. let z : ◌≡◌ {A = ℕ} 0 1 = cc in absurd (omega arith) }
 
   -- where it stops at i
-  ends_here : (f : Found) → f ≡ hex_line_of at (drop at t) → f ≡ stopped_at at i (get_or t i 0) → Decodes t at s to s' f
+  ends_here : (f : OptionOf ℕ) → f ≡ hex_line_of at (drop at t) → f ≡ stopped_at at i (get_or t i 0) → Decodes t at s to s' f
   ends_here f p g = record {
     is = p;
     same = q.same;
@@ -104,7 +104,7 @@ module _ (t : List ℕ) (at : ℕ) (s : List ℕ) (to : ℕ) (s' : List ℕ) (i 
           rw (a, b, bytes_take (j - to) (drop at t)) q.laid
 
   module _ (v : ℕ) (e : v ≡ digit_value (get_or t i 0)) where
-    pub high_stops : (f : Found) (n : ℕ) → n ≡ length t - 1 → i < n → v ≡ 16 → f ≡ stopped_at at i (get_or t i 0) → Decodes t at s to s' f
+    pub high_stops : (f : OptionOf ℕ) (n : ℕ) → n ≡ length t - 1 → i < n → v ≡ 16 → f ≡ stopped_at at i (get_or t i 0) → Decodes t at s to s' f
     high_stops f m g h n p = ends_here f (scan_stops t at i v f q.is (omega arith) e n p) p
 
     module _ (last : ℕ) (is_last : last ≡ length t - 1) (below : i < last) (n : v ≡ 16 → ⊥) (w : ℕ) (g : w ≡ digit_value (get_or t (i + 1) 0)) where
@@ -114,8 +114,8 @@ module _ (t : List ℕ) (at : ℕ) (s : List ℕ) (to : ℕ) (s' : List ℕ) (i 
       once : hex_line_of at (drop at t) ≡ scan at (i + 1) (drop (i + 1) t)
       once = scan_again t at i v q.is (omega arith) e n
 
-      pub low_stops : w ≡ 16 → Decodes t at s to s' Nothing
-      low_stops m = nothing (scan_stops t at (i + 1) w Nothing once h g m (sym (odd_stop at (i + 1) (get_or t (i + 1) 0) (λ z. omega (arith, q.even)))))
+      pub low_stops : w ≡ 16 → Decodes t at s to s' None
+      low_stops m = nothing (scan_stops t at (i + 1) w None once h g m (sym (odd_stop at (i + 1) (get_or t (i + 1) 0) (λ z. omega (arith, q.even)))))
 
       pub laying_again : (w ≡ 16 → ⊥) → v ≤ 16 → w ≤ 16 → Laying t at s to (set s' j (v * 16 + w)) (i + 2) (j + 1)
       laying_again m vs ws =
@@ -148,32 +148,32 @@ module _ (t : List ℕ) (at : ℕ) (s : List ℕ) (to : ℕ) (s' : List ℕ) (i 
           }
 
   -- one byte is left, or none
-  pub last_stops : (f : Found) (n : ℕ) → n ≡ length t - 1 → n ≤ i → i < length t → f ≡ stopped_at at i (get_or t i 0) → Decodes t at s to s' f
+  pub last_stops : (f : OptionOf ℕ) (n : ℕ) → n ≡ length t - 1 → n ≤ i → i < length t → f ≡ stopped_at at i (get_or t i 0) → Decodes t at s to s' f
   unfolding scan
   last_stops f n e h g p = ends_here f (p ∙ sym (q.is ∙ rw (drop-cons t i 0 g, drop_of_length-le t l) (by (eqb (digit_value (get_or t i 0)) 16) refl))) p
     where
       l : length t ≤ suc i
       l = omega arith
 
-      by : (d : Bool) → eqb (digit_value (get_or t i 0)) 16 ≡ d → pick d (stopped_at at i (get_or t i 0)) Nothing ≡ stopped_at at i (get_or t i 0)
+      by : (d : Bool) → eqb (digit_value (get_or t i 0)) 16 ≡ d → pick d (stopped_at at i (get_or t i 0)) None ≡ stopped_at at i (get_or t i 0)
       by true e = refl
       by false e = sym (digit_stop at i (get_or t i 0) e)
 
-  pub none_left : length t ≤ i → Decodes t at s to s' Nothing
+  pub none_left : length t ≤ i → Decodes t at s to s' None
   none_left h = nothing (scan_ends t at i q.is h)
 
 -- a text without bytes has no line
-pub no_bytes : (t : List ℕ) (at : ℕ) (s : List ℕ) (to : ℕ) → Room t at s to → length t ≡ 0 → Decodes t at s to s Nothing
+pub no_bytes : (t : List ℕ) (at : ℕ) (s : List ℕ) (to : ℕ) → Room t at s to → length t ≡ 0 → Decodes t at s to s None
 no_bytes t at s to r e = none_left t at s to s at to (laying_starts t at s to r) (omega arith)
 
 -- ---- the place behind a line
 
-module _ (t : List ℕ) (at : ℕ) (s : List ℕ) (to : ℕ) (s' : List ℕ) (f : Found) (d : Decodes t at s to s' f) where
-  pub behind_fits : (e : ℕ) → f ≡ At e → Room t at s to → Fits w64 (e + 1)
+module _ (t : List ℕ) (at : ℕ) (s : List ℕ) (to : ℕ) (s' : List ℕ) (f : OptionOf ℕ) (d : Decodes t at s to s' f) where
+  pub behind_fits : (e : ℕ) → f ≡ Some e → Room t at s to → Fits w64 (e + 1)
   behind_fits e p r = omega (arith, (hex_found t at e (sym d.is ∙ p)).line.within, r.size)
 
-  pub passes_line : (e : ℕ) → f ≡ At e → Passes t at s to s' (e + 1)
+  pub passes_line : (e : ℕ) → f ≡ Some e → Passes t at s to s' (e + 1)
   passes_line e p = record { is = rw (← d.is, p); lays = rw (← d.is) d }
 
-  pub passes_none : f ≡ Nothing → Passes t at s to s' at
+  pub passes_none : f ≡ None → Passes t at s to s' at
   passes_none p = record { is = rw (← d.is, p); lays = rw (← d.is) d }

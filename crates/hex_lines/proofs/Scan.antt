@@ -1,4 +1,6 @@
 -- A line's digits in one pass: what the pass over the bytes finds is what the split into lines says. Assumes nothing.
+use Rattle.std.specs.Prelude.{Some, None}
+use Rattle.std.specs.Prelude.{Option as OptionOf}
 use Prim.Native.Nat.{ℕ, suc, ◌+◌, ◌-◌, ◌%◌}
 use mathlib.Core.Path.{◌≡◌, refl, ◌∙◌}
 use mathlib.Core.List.{List, [], ◌∷◌}
@@ -11,19 +13,17 @@ use borrow.Author.Tests.{eqb-true}
 use Rattle.hexadecimal.specs.Choose.{pick}
 use Rattle.hexadecimal.specs.Digits.{digit_value}
 use Rattle.hex_lines.specs.Lines.{with_byte, split, all_digits, hex_line_in, hex_line_of, stopped_at}
-use Rattle.hex_lines.specs.declared.decode.Found.{Found}
-use Rattle.hex_lines.specs.declared.decode.Found.TheVariants.{At, Nothing}
 
 -- digits were seen from `at` up to i, and t comes next
-unfoldable pub scan : ℕ → ℕ → List ℕ → Found
-scan at i [] = Nothing
+unfoldable pub scan : ℕ → ℕ → List ℕ → OptionOf ℕ
+scan at i [] = None
 scan at i (b ∷ t) = pick (eqb (digit_value b) 16) (stopped_at at i b) (scan at (suc i) t)
 
 -- the same from the lines of t
-Seen : ℕ → ℕ → List (List ℕ) → Found
-Seen at i [] = Nothing
+Seen : ℕ → ℕ → List (List ℕ) → OptionOf ℕ
+Seen at i [] = None
 Seen at i (l ∷ ls) =
-    pick (all_digits l) (pick (eqb (i + length l - at) 0) Nothing (pick (eqb ((i + length l - at) % 2) 0) (At (i + length l)) Nothing)) Nothing
+    pick (all_digits l) (pick (eqb (i + length l - at) 0) None (pick (eqb ((i + length l - at) % 2) 0) (Some (i + length l)) None)) None
 
 -- a digit more in front of what follows
 digit_more : (at i b : ℕ) (ls : List (List ℕ)) (r : List ℕ) → eqb (digit_value b) 16 ≡ false → Seen at (suc i) ls ≡ Seen at i (with_byte b ls r).ended
@@ -31,7 +31,7 @@ unfolding Seen
 digit_more at i b [] r e = refl
 digit_more at i b (l ∷ ls) r e = rw (e, add-suc i (length l), suc-add i (length l))
 
-other_byte : (at i b : ℕ) (ls : List (List ℕ)) (r : List ℕ) → eqb (digit_value b) 16 ≡ true → Nothing ≡ Seen at i (with_byte b ls r).ended
+other_byte : (at i b : ℕ) (ls : List (List ℕ)) (r : List ℕ) → eqb (digit_value b) 16 ≡ true → None ≡ Seen at i (with_byte b ls r).ended
 unfolding Seen
 other_byte at i b [] r e = refl
 other_byte at i b (l ∷ ls) r e = rw e
@@ -59,7 +59,7 @@ seen_line at (l ∷ ls) =
     let z : at + length l - at ≡ length l = omega arith in
     rw z (swap (all_digits l) (eqb (length l) 0) (eqb (length l % 2) 0))
   where
-    swap : (a e o : Bool) → pick a (pick e Nothing (pick o (At (at + length l)) Nothing)) Nothing ≡ pick (pick e false (pick o a false)) (At (at + length l)) Nothing
+    swap : (a e o : Bool) → pick a (pick e None (pick o (Some (at + length l)) None)) None ≡ pick (pick e false (pick o a false)) (Some (at + length l)) None
     swap true true o = refl
     swap true false true = refl
     swap true false false = refl

@@ -1,4 +1,6 @@
 -- The scan of a line, and its end. Proved byte by byte.
+use Rattle.std.specs.Prelude.{None}
+use Rattle.std.specs.Prelude.{Option as OptionOf}
 use Prim.Native.Nat.{ℕ, suc, ◌+◌, ◌-◌, ◌<◌, ◌≤◌}
 use mathlib.Core.Path.{◌≡◌, sym, ◌∙◌}
 use mathlib.Core.Bool.{Bool, true, false}
@@ -10,8 +12,6 @@ use lib.Seq.{drop-cons, take-nil}
 use lib.Dec.{eqb}
 use borrow.Author.Tests.{eq-eqb, ne_eqb}
 use Rattle.hexadecimal.specs.Choose.{pick}
-use Rattle.hex_lines.specs.declared.decode.Found.{Found}
-use Rattle.hex_lines.specs.declared.decode.Found.TheVariants.{Nothing}
 use Rattle.hexadecimal.specs.Digits.{digit_value}
 use Rattle.hex_lines.specs.Lines.{hex_line_of, end_of, line_at, stopped_at}
 use Rattle.hex_lines.proofs.Scan.{scan, scan_line}
@@ -25,11 +25,11 @@ module _ (t : List ℕ) (at i : ℕ) where
   unfolding scan
   scan_again v q h e n = q ∙ rw (add-one i, drop-cons t i 0 h, ← e, ne_eqb _ _ n)
 
-  pub scan_stops : (v : ℕ) (f : Found) → hex_line_of at (drop at t) ≡ scan at i (drop i t) → i < length t → v ≡ digit_value (get_or t i 0) → v ≡ 16 → f ≡ stopped_at at i (get_or t i 0) → f ≡ hex_line_of at (drop at t)
+  pub scan_stops : (v : ℕ) (f : OptionOf ℕ) → hex_line_of at (drop at t) ≡ scan at i (drop i t) → i < length t → v ≡ digit_value (get_or t i 0) → v ≡ 16 → f ≡ stopped_at at i (get_or t i 0) → f ≡ hex_line_of at (drop at t)
   unfolding scan
   scan_stops v f q h e n p = p ∙ sym (q ∙ rw (drop-cons t i 0 h, ← e, eq-eqb _ _ n))
 
-  pub scan_ends : hex_line_of at (drop at t) ≡ scan at i (drop i t) → length t ≤ i → Nothing ≡ hex_line_of at (drop at t)
+  pub scan_ends : hex_line_of at (drop at t) ≡ scan at i (drop i t) → length t ≤ i → None ≡ hex_line_of at (drop at t)
   unfolding scan
   scan_ends q h = sym (q ∙ rw (drop_of_length-le t h))
 

@@ -1,9 +1,9 @@
 -- "Lines of hexadecimal, one frame a line, each ended by byte 0a."
+use Rattle.std.specs.Prelude.{Some, None}
+use Rattle.std.specs.Prelude.{Option as OptionOf}
 use Rattle.std.specs.Prelude.{ℕ, suc, ◌+◌, ◌-◌, ◌%◌, List, [], ◌∷◌, Bool, true, false, length, take, drop, eqb}
 use Rattle.hexadecimal.specs.Choose.{pick}
 use Rattle.hexadecimal.specs.Digits.{digit_value}
-use Rattle.hex_lines.specs.declared.decode.Found.{Found}
-use Rattle.hex_lines.specs.declared.decode.Found.TheVariants.{At, Nothing}
 
 -- ---- a text's lines
 
@@ -38,11 +38,11 @@ is_hex l = pick (eqb (length l) 0) false (pick (eqb (length l % 2) 0) (all_digit
 -- ---- where a line ends
 
 -- the place, counted from `at`, of the 0a that ends the first line, where that is a line of digits
-abbrev pub hex_line_in : ℕ → List (List ℕ) → Found
-hex_line_in at [] = Nothing
-hex_line_in at (l ∷ ls) = pick (is_hex l) (At (at + length l)) Nothing
+abbrev pub hex_line_in : ℕ → List (List ℕ) → OptionOf ℕ
+hex_line_in at [] = None
+hex_line_in at (l ∷ ls) = pick (is_hex l) (Some (at + length l)) None
 
-abbrev pub hex_line_of : ℕ → List ℕ → Found
+abbrev pub hex_line_of : ℕ → List ℕ → OptionOf ℕ
 hex_line_of at t = hex_line_in at (split t).ended
 
 -- the place, counted from `at`, of the first 0a, or of the text's end where there is none
@@ -55,5 +55,5 @@ abbrev pub line_at : List ℕ → ℕ → List ℕ
 line_at x i = take (end_of i (drop i x) - i) (drop i x)
 
 -- the digits from `at` up to i are a whole line where 0a follows, and there are some, and their number is even
-abbrev pub stopped_at : ℕ → ℕ → ℕ → Found
-stopped_at at i b = pick (eqb b 10) (pick (eqb (i - at) 0) Nothing (pick (eqb ((i - at) % 2) 0) (At i) Nothing)) Nothing
+abbrev pub stopped_at : ℕ → ℕ → ℕ → OptionOf ℕ
+stopped_at at i b = pick (eqb b 10) (pick (eqb (i - at) 0) None (pick (eqb ((i - at) % 2) 0) (Some i) None)) None

@@ -5,36 +5,25 @@ ghost use Rattle.hex_lines.specs.Decoding.{Room, Decodes};
 
 use hexadecimal::digit_value;
 
-#[derive(Clone, Copy)]
-pub enum Found {
-    At(usize),
-    Nothing,
-}
-
 // Whether the bytes from `at` up to i, all digits, are a whole line that byte b ends.
-fn stopped(at: usize, i: usize, b: u8) -> Found
+fn stopped(at: usize, i: usize, b: u8) -> Option<usize>
     requires { at ≤ i }
     ensures { result ≡ stopped_at at i b }
 {
-    if b != 10 {
-        return Found::Nothing;
+    if b == 10 && i - at != 0 && (i - at) % 2 == 0 {
+        Some(i)
+    } else {
+        None
     }
-    if i - at == 0 {
-        return Found::Nothing;
-    }
-    if (i - at) % 2 == 0 {
-        return Found::At(i);
-    }
-    Found::Nothing
 }
 
 // The line of digits at `at` is laid as bytes on the sheet, from place `to` on: the place of the 0a that ends it. One pass over the line.
-pub fn decode_line(text: &[u8], at: usize, sheet: &mut [u8], to: usize) -> Found
+pub fn decode_line(text: &[u8], at: usize, sheet: &mut [u8], to: usize) -> Option<usize>
     requires { Room text.now at sheet.old to }
     ensures { Decodes text.now at sheet.old to sheet.new result }
 {
     if text.len() == 0 {
-        return Found::Nothing;
+        return None;
     }
     let last = text.len() - 1;
     let mut i = at;
@@ -46,7 +35,7 @@ pub fn decode_line(text: &[u8], at: usize, sheet: &mut [u8], to: usize) -> Found
         }
         let low = digit_value(text[i + 1]);
         if low == 16 {
-            return Found::Nothing;
+            return None;
         }
         sheet[j] = high * 16 + low;
         i += 2;
@@ -55,5 +44,5 @@ pub fn decode_line(text: &[u8], at: usize, sheet: &mut [u8], to: usize) -> Found
     if i < text.len() {
         return stopped(at, i, text[i]);
     }
-    Found::Nothing
+    None
 }

@@ -7,14 +7,12 @@ fn line_end(text: &[u8], at: usize) -> usize
     requires { at ≤ length text.now }
     ensures { (result ≡ end_of at (drop at text.now)) × (result ≤ length text.now) }
 {
-    let mut i = at;
-    while i < text.len() {
+    for i in at..text.len() {
         if text[i] == 10 {
             return i;
         }
-        i += 1;
     }
-    i
+    text.len()
 }
 
 // The line that begins at `at`: no bytes where the text ends before.

@@ -10,25 +10,12 @@ pub mod line;
 pub fn digit_value(b: u8) -> u8
     ensures { (result ≡ digit_value b) × (result ≤ 16) }
 {
-    if b < 58 {
-        if b < 48 {
-            return 16;
-        }
-        return b - 48;
+    match b {
+        b'0'..=b'9' => b - 48,
+        b'A'..=b'F' => b - 55,
+        b'a'..=b'f' => b - 87,
+        _ => 16,
     }
-    if b < 97 {
-        if b < 65 {
-            return 16;
-        }
-        if b < 71 {
-            return b - 55;
-        }
-        return 16;
-    }
-    if b < 103 {
-        return b - 87;
-    }
-    16
 }
 
 // The digit that is written for a value; any other number counts by its last four binary places.
@@ -36,38 +23,14 @@ pub fn hex_digit(v: u8) -> u8
     ensures { result ≡ hex_digit (v % 16) }
 {
     let digit = v % 16;
-    if digit < 10 {
-        return 48 + digit;
-    }
-    87 + digit
+    if digit < 10 { 48 + digit } else { 87 + digit }
 }
 
 // The i-th byte of a frame, and 0 past its end.
 pub fn byte_at(frame: &[u8], i: usize) -> u8
     ensures { result ≡ get_or frame.now i 0 }
 {
-    if frame.len() <= i {
-        return 0;
-    }
-    frame[i]
-}
-
-fn wide16(b: u8) -> u16
-    ensures { (result ≡ b) × (result < 256) }
-{
-    b as u16
-}
-
-fn wide32(s: u16) -> u32
-    ensures { (result ≡ s) × (result < 65536) }
-{
-    s as u32
-}
-
-fn wide64(w: u32) -> u64
-    ensures { (result ≡ w) × (result < 4294967296) }
-{
-    w as u64
+    frame.get(i).copied().unwrap_or(0)
 }
 
 // The fields of two, four and eight bytes that begin at byte i, the highest byte first.
@@ -75,8 +38,8 @@ pub fn short_at(frame: &[u8], i: usize) -> u16
     requires { i < 65536 }
     ensures { result ≡ short_at frame.now i }
 {
-    let high = wide16(byte_at(frame, i));
-    let low = wide16(byte_at(frame, i + 1));
+    let high = u16::from(byte_at(frame, i));
+    let low = u16::from(byte_at(frame, i + 1));
     high * 0x100 + low
 }
 
@@ -84,9 +47,7 @@ pub fn short_at(frame: &[u8], i: usize) -> u16
 fn joined(a: u8, b: u8, c: u8, d: u8) -> u32
     ensures { (result ≡ (a * 0x100 + b) * 0x1_0000 + (c * 0x100 + d)) × (result < 4294967296) }
 {
-    let high = wide32(wide16(a) * 0x100 + wide16(b));
-    let low = wide32(wide16(c) * 0x100 + wide16(d));
-    high * 0x1_0000 + low
+    u32::from_be_bytes([a, b, c, d])
 }
 
 pub fn word_at(frame: &[u8], i: usize) -> u32
@@ -96,8 +57,8 @@ pub fn word_at(frame: &[u8], i: usize) -> u32
     if i + 4 <= frame.len() {
         return joined(frame[i], frame[i + 1], frame[i + 2], frame[i + 3]);
     }
-    let high = wide32(short_at(frame, i));
-    let low = wide32(short_at(frame, i + 2));
+    let high = u32::from(short_at(frame, i));
+    let low = u32::from(short_at(frame, i + 2));
     high * 0x1_0000 + low
 }
 
@@ -105,7 +66,7 @@ pub fn long_at(frame: &[u8], i: usize) -> u64
     requires { i < 65400 }
     ensures { result ≡ long_at frame.now i }
 {
-    let high = wide64(word_at(frame, i));
-    let low = wide64(word_at(frame, i + 4));
+    let high = u64::from(word_at(frame, i));
+    let low = u64::from(word_at(frame, i + 4));
     high * 0x1_0000_0000 + low
 }

@@ -17,7 +17,5 @@ pub fn byte_at(line: &[u8], i: usize) -> u8
     if line.len() / 2 <= i {
         return 0;
     }
-    let high = nibble(line[2 * i]);
-    let low = nibble(line[2 * i + 1]);
-    high * 16 + low
+    nibble(line[2 * i]) * 16 + nibble(line[2 * i + 1])
 }

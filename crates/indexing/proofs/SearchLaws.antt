@@ -4,7 +4,7 @@ use mathlib.Core.Path.{◌≡◌, refl, sym, ◌∙◌, ap}
 use mathlib.Core.Bool.{Bool, true, false, not}
 use mathlib.Core.List.{List, [], ◌∷◌}
 use native.Mathlib.Omega.{arith}
-use lib.ListN.{length, get_or, take, drop, get_or-eq_default}
+use lib.ListN.{length, get_or, take, drop}
 use lib.Dec.{leb, ltb, eqb}
 use borrow.Author.Tests.{eq-eqb, ne_eqb, eqb-true, le-leb, not-true, not-false}
 use Rattle.frame_keys.specs.Choose.{pick}
@@ -15,9 +15,6 @@ use Rattle.frame_keys.specs.Keys.{begins, find, is_found}
 use Rattle.indexing.specs.Index.{slots_for, hash_of, place_of, older_of, searched, found, Falling, given_by, Proper, Indexed}
 use Rattle.indexing.proofs.SlotLaws.{take_least, key_hash}
 use Rattle.frame_keys.proofs.KeyLaws.{shorter, part_begins, part_not}
-
-pub number_past : (l : List ℕ) (i : ℕ) → length l ≤ i → (0 ≡ get_or l i 0) × (0 < 65536)
-number_past l i h = (sym (get_or-eq_default l 0 h), omega arith)
 
 module _ (slots : ℕ) where
   -- the entries fall: no more than e of them are looked at from entry e on

@@ -1,5 +1,5 @@
 -- The hash of a key: by its bytes in turn, and the same for a frame that begins with the key; its slot. Assumes nothing.
-use Prim.Native.Nat.{ℕ, zero, suc, ◌+◌, ◌*◌, ◌%◌, ◌<◌, ◌≤◌}
+use Prim.Native.Nat.{min, ℕ, zero, suc, ◌+◌, ◌*◌, ◌%◌, ◌<◌, ◌≤◌}
 use mathlib.Core.Path.{◌≡◌, refl, sym, ◌∙◌}
 use mathlib.Core.Bool.{Bool, true, false}
 use mathlib.Core.List.{List, [], ◌∷◌}
@@ -9,7 +9,7 @@ use native.Mathlib.Omega.{arith}
 use lib.ListN.{length, get_or, take, drop, drop_of_length-le}
 use lib.Seq.{drop-cons, get_or-take, length-take-le, take_all, take-length, take-nil, take-take}
 use lib.Dec.{T, eqb, leb, ltb, leb→le}
-use borrow.Author.Tests.{lt-ltb, le-ltb, eq-eqb, ne_eqb, le-leb, lt-leb, eqb-true, leb-true, leb-false, ltb-false}
+use borrow.Author.Tests.{lt-ltb, le-ltb, eq-eqb, ne_eqb, le-leb, lt-leb, eqb-true, leb-true, leb-false, ltb-true, ltb-false}
 use Rattle.frame_keys.specs.Choose.{pick}
 use Rattle.frame_keys.proofs.ChooseLaws.{pick_elim}
 use Rattle.frame_keys.specs.Table.{all}
@@ -53,36 +53,38 @@ take_least k m f p = rw p (go (ltb k (length f)) refl)
     go true h = refl
     go false h = take-length f ∙ sym (take_all k f (ltb-false k (length f) h))
 
--- i bytes of n are mixed
-pub record Mixing (f : List ℕ) (n h i : ℕ) : Type 0 where
+-- the smaller of two, by the test
+pub least : (k m l : ℕ) → m ≡ min k l → m ≡ pick (ltb k l) k l
+least k m l p = p ∙ go (ltb k l) refl
+  where
+    go : (t : Bool) → ltb k l ≡ t → min k l ≡ pick t k l
+    go true h = let g : k < l = ltb-true k l h in omega arith
+    go false h = let g : l ≤ k = ltb-false k l h in omega arith
+
+-- i of the bytes that count are mixed
+pub record Mixing (f bs : List ℕ) (h i : ℕ) : Type 0 where
   pub below : h < hashes
-  pub within : n ≤ length f
-  pub is : hash_of f ≡ mixed h (drop i (take n f))
+  pub is : hash_of f ≡ mixed h (drop i bs)
 
 pub hash_empty : (f : List ℕ) → length f ≡ 0 → 0 ≡ hash_of f
 unfolding hash_of
 hash_empty [] h = rw (take-nil {A = ℕ} (hashed 0))
 hash_empty (b ∷ f) h = absurd (omega arith)
 
-pub mix_starts : (f : List ℕ) (w n : ℕ) → w ≡ hashed (get_or f 0 0) → n ≤ length f → n ≡ pick (ltb w (length f)) w (length f) → Mixing f n 0 0
+pub mix_starts : (f : List ℕ) (w n : ℕ) → w ≡ hashed (get_or f 0 0) → n ≡ min w (length f) → Mixing f (take n f) 0 0
 unfolding hash_of
-mix_starts f w n q h g =
-    let e : take n f ≡ take w f = take_least w n f g in
-    record { below = omega arith; within = h; is = rw (← q, e) }
+mix_starts f w n q g =
+    let e : take n f ≡ take w f = take_least w n f (least w n (length f) g) in
+    record { below = omega arith; is = rw (← q, e) }
 
-module _ (f : List ℕ) (n h i : ℕ) (s : Mixing f n h i) where
-  pub mix_again : (w : ℕ) → i < n → w ≡ get_or f i 0 → Mixing f n ((h * 31 + w) % 512) (i + 1)
+module _ (f bs : List ℕ) (h i : ℕ) (s : Mixing f bs h i) where
+  pub mix_again : (w : ℕ) → i < length bs → w ≡ get_or bs i 0 → Mixing f bs ((h * 31 + w) % 512) (i + 1)
   unfolding mixed
-  mix_again w g p =
-      let e : i < length (take n f) = rw (length-take-le n f s.within) g in
-      let d : get_or (take n f) i 0 ≡ w = get_or-take n f i 0 g ∙ sym p in
-      record { below = omega arith; within = s.within; is = s.is ∙ rw (add-one i, drop-cons (take n f) i 0 e, d) }
+  mix_again w g p = record { below = omega arith; is = s.is ∙ rw (add-one i, drop-cons bs i 0 g, ← p) }
 
-  pub mix_ends : n ≤ i → h ≡ hash_of f
+  pub mix_ends : length bs ≤ i → h ≡ hash_of f
   unfolding mixed
-  mix_ends g =
-      let e : length (take n f) ≤ i = rw (length-take-le n f s.within) g in
-      sym (s.is ∙ rw (drop_of_length-le (take n f) e))
+  mix_ends g = sym (s.is ∙ rw (drop_of_length-le bs g))
 
 -- ---- a frame that begins with a key
 

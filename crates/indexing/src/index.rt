@@ -1,27 +1,19 @@
 // An index of a sheet's keyed frames: one list of entries a slot, by the first bytes of a frame's key.
-ghost use Rattle.std.specs.Prelude.{◌≡◌, ◌%◌, ◌<◌, ◌≤◌, length, get_or, ltb, eqb};
-ghost use Rattle.frame_keys.specs.Choose.{pick};
+ghost use Rattle.std.specs.Prelude.{◌≡◌, ◌%◌, ◌<◌, ◌≤◌, length, get_or, eqb};
 ghost use Rattle.frame_keys.specs.Sheet.{frames_in};
 ghost use Rattle.frame_keys.specs.Frames.{kind_of};
 ghost use Rattle.frame_keys.specs.Keys.{find as find_of};
 ghost use Rattle.indexing.specs.Index.{slots_for, hashed as hashed_of, hash_of, found, given_by, noted, entries_with, Falling, Proper, Indexed, Finds, Noting};
 
-use frame_keys::below::{frame_at, key_length, wide};
+use frame_keys::below::{frame_at, key_length};
 use frame_keys::keys::begins_at;
 
 // How many of a key's first bytes count.
 fn hashed(kind: u8) -> usize
     ensures { (result ≡ hashed_of kind) × (result ≤ 6) }
 {
-    let k = wide(key_length(kind));
+    let k = usize::from(key_length(kind));
     if k <= 6 { k } else { 4 }
-}
-
-// How many bytes of a frame are its first k.
-fn at_most(k: usize, length: usize) -> usize
-    ensures { (result ≤ length) × (result ≡ pick (ltb k length) k length) × (result ≤ k) }
-{
-    if k < length { k } else { length }
 }
 
 // How many hashes there are: each is below.
@@ -34,12 +26,10 @@ pub fn hash_of(key: &[u8]) -> usize
     if key.len() == 0 {
         return 0;
     }
-    let n = at_most(hashed(key[0]), key.len());
+    let n = hashed(key[0]).min(key.len());
     let mut h: usize = 0;
-    let mut i: usize = 0;
-    while i < n {
-        h = (h * 31 + wide(key[i])) % HASHES;
-        i += 1;
+    for b in &key[..n] {
+        h = (h * 31 + usize::from(*b)) % HASHES;
     }
     h
 }
@@ -77,10 +67,7 @@ fn slot_for(hash: usize, length: usize) -> usize
 fn number_at(index: &[u16], i: usize) -> usize
     ensures { (result ≡ get_or index.now i 0) × (result < 65536) }
 {
-    if index.len() <= i {
-        return 0;
-    }
-    index[i] as usize
+    usize::from(index.get(i).copied().unwrap_or(0))
 }
 
 // Whether the slot of a hash has no entry: then no frame is entered with that hash.
@@ -143,13 +130,10 @@ pub fn key_given(sheet: &[u8], index: &[u16], frame: &[u8], hash: usize, k: u8) 
     requires falling { Falling (slots_for (length index.now)) index.now }
     ensures { result ≡ given_by (slots_for (length index.now)) sheet.now index.now frame.now }
 {
-    if k == 0 {
+    if k == 0 || is_empty(index, hash) {
         return false;
     }
-    if is_empty(index, hash) {
-        return false;
-    }
-    let n = at_most(wide(k), frame.len());
+    let n = usize::from(k).min(frame.len());
     let alike = search(sheet, index, &frame[..n], hash);
     1 <= alike.len()
 }

@@ -1,4 +1,7 @@
 -- The cost of one item of an atom. Proved by what its sample gives.
+use Rattle.std.specs.Prelude.{None}
+use Rattle.std.specs.Prelude.{Option as OptionOf}
+use Rattle.query.specs.Settings.{Sampled}
 use Prim.Native.Nat.{ℕ, ◌≤◌}
 use mathlib.Core.Path.{◌≡◌, refl, ◌∙◌}
 use mathlib.Core.Bool.{true, false, not}
@@ -8,10 +11,7 @@ use lib.Ieee.{Float, binary64, mul}
 use lib.ListN.{length}
 use borrow.Author.Tests.{not-true, not-false}
 use Rattle.measure.specs.Selectivity.{path_selectivity}
-use Rattle.measure.specs.declared.FanOut.{FanOut}
-use Rattle.measure.specs.declared.FanOut.TheVariants.{Unmeasured}
 use Rattle.query.specs.Statistics.{denominator}
-use Rattle.query.specs.declared.statistics.Sampled.{Sampled}
 use Rattle.samples.specs.Emitters.{Emitters}
 use Rattle.samples.specs.Memo.{tally_at}
 use Rattle.query.specs.Lookups.{operand_at}
@@ -24,7 +24,7 @@ use Rattle.item_pricing.specs.declared.items.Costed.{Costed}
 use Rattle.samples.specs.declared.sampled.Probe.{Probe}
 use Rattle.prices.specs.declared.items.Item.{Item}
 
-or_measured_lem : (v : Option Float) (f : FanOut) → or_fan (or_measured v Unmeasured) f ≡ or_measured v f
+or_measured_lem : (v : Option Float) (f : OptionOf Float) → or_fan (or_measured v None) f ≡ or_measured v f
 or_measured_lem none f = refl
 or_measured_lem (some x) f = refl
 

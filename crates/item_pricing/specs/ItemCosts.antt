@@ -1,8 +1,8 @@
 -- The cost of the items of an atom's frame, children of a Plain or elements of a collection, in one definition.
+use Rattle.query.specs.Settings.{Sampled}
 use Rattle.std.specs.Prelude.{ℕ, suc, ◌≡◌, Bool, true, false, List, [], ◌∷◌, ltb, get_or, Float}
 use Rattle.fields.specs.Choose.{pick}
 use Rattle.query.specs.Statistics.{denominator}
-use Rattle.query.specs.declared.statistics.Sampled.{Sampled}
 use Rattle.query.specs.Atoms.{Operand}
 use Rattle.query.specs.Bound.{Bound}
 use Rattle.query.specs.Lowering.{pv_is_bound}

@@ -10,8 +10,7 @@ ghost use Rattle.prices.specs.Items.{item_fan, or_fan};
 ghost use Rattle.prices.specs.Prices.{ItemPriced};
 ghost use Rattle.item_pricing.specs.ItemCosts.{item_probe, cost_behind, Stands, cost_at};
 
-use fields::field::wide;
-use measure::{FanOut, path_selectivity};
+use measure::path_selectivity;
 use prices::items::Item;
 use query::statistics::denominator;
 use samples::below::Sampling;
@@ -43,14 +42,14 @@ fn item_probe(x: Item) -> Probe
 }
 
 // The selectivity of an item: by its sample, else as its row has it.
-fn item_selectivity(sheet: &[u8], index: &[u16], row: &[f64], x: Item, drawn: FanOut) -> f64
+fn item_selectivity(sheet: &[u8], index: &[u16], row: &[f64], x: Item, drawn: Option<f64>) -> f64
     requires given { Given sheet.now index.now }
     requires item_priced { ItemPriced (frames_in sheet.now) x row.now }
     ensures { result ≡ path_selectivity (or_fan drawn (item_fan (frames_in sheet.now) x.op x.element x.position)) (denominator_of (frames_in sheet.now) x.op) }
 {
     match drawn {
-        FanOut::Measured(_) => path_selectivity(drawn, denominator(sheet, index, x.op)),
-        FanOut::Unmeasured => row[wide(x.position) + 2],
+        Some(_) => path_selectivity(drawn, denominator(sheet, index, x.op)),
+        None => row[usize::from(x.position) + 2],
     }
 }
 
@@ -78,11 +77,9 @@ pub fn item_cost(
         return c;
     }
     let q = item_probe(x);
-    let t = c.tallies;
-    let j = x.at;
-    let s = sampled(sheet, index, frame, j, em, q, keys, values, t);
-    let drawn = s.fan;
-    let tallies = s.tallies;
-    let cost = c.cost * item_selectivity(sheet, index, row, x, drawn);
-    Costed { cost, tallies }
+    let s = sampled(sheet, index, frame, x.at, em, q, keys, values, c.tallies);
+    Costed {
+        cost: c.cost * item_selectivity(sheet, index, row, x, s.fan),
+        tallies: s.tallies,
+    }
 }

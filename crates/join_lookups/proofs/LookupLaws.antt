@@ -1,14 +1,13 @@
 -- The lookups of a Join, operand by operand. Proved by induction on how many.
 use Prim.Native.Nat.{ℕ, ◌+◌, ◌-◌, ◌*◌, ◌<◌, ◌≤◌}
 use mathlib.Core.Path.{◌≡◌, refl, sym, ◌∙◌, ap, subst}
-use mathlib.Core.Bool.{Bool, true, false, not}
+use mathlib.Core.Bool.{Bool, true, false}
 use mathlib.Core.List.{List, [], ◌∷◌, ◌++◌, flat_map, append_assoc, append-nil}
 use native.Mathlib.Omega.{arith}
 use native.Mathlib.Numerals.{add-one}
 use lib.Dec.{eqb}
 use lib.ListN.{length, get_or, take}
 use lib.Seq.{take_all}
-use borrow.Author.Tests.{not-true, not-false}
 use Rattle.hexadecimal.specs.Digits.{digits_of}
 use Rattle.kinds.specs.Fields.{width}
 use Rattle.kinds.specs.Kinds.{kinds, kind_at, fixed_length, items_of}
@@ -56,11 +55,11 @@ left_all f kind i w n B z =
     rw (e, g, placed_items f kind i w n z, z.is)
 
 module _ (f : List ℕ) (plain : Bool) (i w n : ℕ) (B : Bound) (k : ℕ) (h : k < n) (t : Bool) (is : t ≡ pv_is_bound B (operand_at f (i + w * k))) where
-  left_free : not t ≡ true → left_from plain f i w n B k ≡ left_from plain f i w n B (k + 1)
-  left_free q = rw (sym is ∙ not-true t q) at (left_more plain f i w n B k h)
+  left_free : t ≡ false → left_from plain f i w n B k ≡ left_from plain f i w n B (k + 1)
+  left_free q = rw (sym is ∙ q) at (left_more plain f i w n B k h)
 
-  left_bound : not t ≡ false → left_from plain f i w n B k ≡ lookup_for plain (operand_at f (i + w * k)) k ∷ left_from plain f i w n B (k + 1)
-  left_bound q = rw (sym is ∙ not-false t q) at (left_more plain f i w n B k h)
+  left_bound : t ≡ true → left_from plain f i w n B k ≡ lookup_for plain (operand_at f (i + w * k)) k ∷ left_from plain f i w n B (k + 1)
+  left_bound q = rw (sym is ∙ q) at (left_more plain f i w n B k h)
 
 -- ---- how many
 
@@ -78,10 +77,10 @@ counting_none f B kind i w n p hi li hw lw hn ln =
 
 module _ (f : List ℕ) (B : Bound) (kind i w n count k : ℕ) (m : Counting f B kind i w n count k) where
   module _ (h : k < n) (t : Bool) (is : t ≡ pv_is_bound B (operand_at f (i + w * k))) where
-    pub count_free : not t ≡ true → Counting f B kind i w n count (k + 1)
+    pub count_free : t ≡ false → Counting f B kind i w n count (k + 1)
     count_free q = record { placed = m.placed; few = omega arith; place = omega (arith, m.place, m.placed.narrow); small = omega (arith, m.small); is = omega (arith, m.is, ap length (left_free f (eqb kind 1) i w n B k h t is q)) }
 
-    pub count_one : not t ≡ false → Counting f B kind i w n (count + 1) (k + 1)
+    pub count_one : t ≡ true → Counting f B kind i w n (count + 1) (k + 1)
     count_one q = record { placed = m.placed; few = omega arith; place = omega (arith, m.place, m.placed.narrow); small = omega (arith, m.small); is = omega (arith, m.is, ap length (left_bound f (eqb kind 1) i w n B k h t is q)) }
 
   module _ (h : n ≤ k) where
@@ -125,10 +124,10 @@ looking_none f B o from kind i w n p hi li hw lw hn ln =
 
 module _ (f : List ℕ) (B : Bound) (o₀ : List ℕ) (from kind i w n : ℕ) (o : List ℕ) (at k : ℕ) (m : Looking f B o₀ from kind i w n o at k) where
   module _ (h : k < n) (t : Bool) (is : t ≡ pv_is_bound B (operand_at f (i + w * k))) where
-    pub look_free : not t ≡ true → Looking f B o₀ from kind i w n o at (k + 1)
+    pub look_free : t ≡ false → Looking f B o₀ from kind i w n o at (k + 1)
     look_free q = record { placed = m.placed; few = omega arith; place = omega (arith, m.place, m.placed.narrow); room = omega (arith, m.room); size = m.size; done = m.done; puts = m.puts; rest = ap (λ (x : List Lookup). m.done ++ flat_map lookup_bytes x) (sym (left_free f (eqb kind 1) i w n B k h t is q)) ∙ m.rest }
 
-    pub look_bound : (x q : List ℕ) (r v : ℕ) → not t ≡ false → x ≡ lookup_bytes (lookup_for (eqb kind 1) (operand_at f (i + w * k)) k) → v ≡ width (kind_at 0x40).item → PutsBytes o at (take v x) q r → Looking f B o₀ from kind i w n q r (k + 1)
+    pub look_bound : (x q : List ℕ) (r v : ℕ) → t ≡ true → x ≡ lookup_bytes (lookup_for (eqb kind 1) (operand_at f (i + w * k)) k) → v ≡ width (kind_at 0x40).item → PutsBytes o at (take v x) q r → Looking f B o₀ from kind i w n q r (k + 1)
     unfolding flat_map
     look_bound x q r v g e hv z = record {
       placed = m.placed;

@@ -23,14 +23,10 @@ pub fn count_bound(frame: &[u8], bound: &[bool]) -> u8
     let w = item_width(kind);
     let n = items_of(frame);
     let mut count: u8 = 0;
-    let mut k: usize = 0;
-    while k < n {
-        let j = i + w * k;
-        k += 1;
-        if !pv_is_bound(frame, j, bound) {
-            continue;
+    for k in 0..n {
+        if pv_is_bound(frame, i + w * k, bound) {
+            count += 1;
         }
-        count += 1;
     }
     count
 }
@@ -47,16 +43,12 @@ pub fn put_lookups(frame: &[u8], bound: &[bool], out: &mut [u8], from: usize) ->
     let n = items_of(frame);
     let size = item_width(0x40);
     let mut at = from;
-    let mut k: usize = 0;
-    while k < n {
+    for k in 0..n {
         let j = i + w * k;
-        let position = k as u8;
-        k += 1;
-        if !pv_is_bound(frame, j, bound) {
-            continue;
+        if pv_is_bound(frame, j, bound) {
+            let lookup = lookup_at(frame, j, kind == 1, k as u8);
+            at = put_first(out, at, &lookup, size);
         }
-        let lookup = lookup_at(frame, j, kind == 1, position);
-        at = put_first(out, at, &lookup, size);
     }
     at
 }

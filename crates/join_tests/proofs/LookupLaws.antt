@@ -1,65 +1,16 @@
 -- The lookups of a Join's frame, one after another. Proved by the lookup's tag, and by induction on how many.
 use Prim.Native.Nat.{ℕ, suc, ◌+◌, ◌-◌, ◌*◌, ◌<◌, ◌≤◌}
 use mathlib.Core.Path.{◌≡◌, refl, sym, ◌∙◌, ap}
-use mathlib.Core.Bool.{Bool, true, false, ◌&&◌, not, or-true, or-false}
 use mathlib.Core.List.{List, [], ◌∷◌}
 use native.Mathlib.Omega.{arith}
 use lib.ListN.{get_or}
-use borrow.Author.Tests.{eq-eqb, ne_eqb, lt-ltb, le-ltb, not-true, not-false}
 use Rattle.records.specs.Atoms.{Operand, local, global, wild, Lookup, ByOp, ByChildPos, ByRepr, ByContains}
-use Rattle.records.specs.Bound.{Bound, has}
+use Rattle.records.specs.Bound.{Bound}
 use Rattle.records.specs.Items.{items_at}
-use Rattle.records.specs.Lookups.{operand_at, lookup_at}
-use Rattle.join_tests.specs.Arrays.{given, reach_fits}
+use Rattle.records.specs.Lookups.{lookup_at}
 use Rattle.records.specs.Lookups.{lookups_of}
-use Rattle.join_tests.specs.Lookups.{op_seen, repr_seen, operand_seen, position_seen, lookup_seen, none_seen, seen_from, seen_in, seen_fault, join_tested}
+use Rattle.join_tests.specs.Lookups.{operand_seen, lookup_seen, none_seen, seen_from, seen_in}
 use Rattle.join_tests.specs.declared.seen.Seen.{Seen}
-use Rattle.join_tests.specs.declared.joins.Tested.{Tested}
-
--- ---- one lookup more
-
-pub op_first : (s : Seen) (o : ℕ) → s.ops ≡ 0 → ◌≡◌ {A = Seen} (record { ops = s.ops + 1; op = o; read = s.read; given = s.given; free = s.free; reach = s.reach }) (op_seen s o)
-op_first s o h = rw (eq-eqb s.ops 0 h)
-
-pub op_later : (s : Seen) (o : ℕ) → (s.ops ≡ 0 → ⊥) → ◌≡◌ {A = Seen} (record { ops = s.ops + 1; op = s.op; read = s.read; given = s.given; free = s.free; reach = s.reach }) (op_seen s o)
-op_later s o h = rw (ne_eqb s.ops 0 h)
-
-module _ (B : Bound) (v : ℕ) (s : Seen) (u : ℕ) (b : Bool) (e : b ≡ has B u) where
-  pub repr_target : u ≡ v → ◌≡◌ {A = Seen} (record { ops = s.ops; op = s.op; read = s.read && b; given = s.given; free = true; reach = s.reach }) (repr_seen B v s u)
-  repr_target h = rw (e, eq-eqb u v h, or-true s.free)
-
-  pub repr_other : (u ≡ v → ⊥) → ◌≡◌ {A = Seen} (record { ops = s.ops; op = s.op; read = s.read && b; given = s.given; free = s.free; reach = s.reach }) (repr_seen B v s u)
-  repr_other h = rw (e, ne_eqb u v h, or-false s.free)
-
-module _ (B : Bound) (G : List ℕ) (s : Seen) (f : List ℕ) (i t u : ℕ) (is : t ≡ get_or f i 0) (eu : u ≡ get_or f (i + 1) 0) (b : Bool) where
-  pub operand_local : t ≡ 0 → b ≡ has B u → ◌≡◌ {A = Seen} (record { ops = s.ops; op = s.op; read = s.read && b; given = s.given; free = s.free; reach = s.reach }) (operand_seen B G s (operand_at f i))
-  operand_local h e = rw (← is, h, ← eu, e)
-
-  pub operand_global : (t ≡ 0 → ⊥) → b ≡ given G u → ◌≡◌ {A = Seen} (record { ops = s.ops; op = s.op; read = s.read; given = s.given && b; free = s.free; reach = s.reach }) (operand_seen B G s (operand_at f i))
-  operand_global h e = rw (← is, ne_eqb t 0 h, ← eu, e)
-
-module _ (s : Seen) (i w : ℕ) (e : w ≡ i) where
-  pub reaches : s.reach < w + 3 → ◌≡◌ {A = Seen} (record { ops = s.ops; op = s.op; read = s.read; given = s.given; free = s.free; reach = w + 3 }) (position_seen s i)
-  reaches h = rw (← e, lt-ltb s.reach (w + 3) h)
-
-  pub reached : w + 3 ≤ s.reach → s ≡ position_seen s i
-  reached h = rw (← e, le-ltb s.reach (w + 3) h)
-
--- ---- the lookup at byte i, by its tag
-
-module _ (B : Bound) (G f : List ℕ) (i v t : ℕ) (s : Seen) (is : t ≡ get_or f i 0) where
-  pub by_op : (o : ℕ) (x : Seen) → t ≡ 0 → o ≡ get_or f (i + 1) 0 → x ≡ op_seen s o → x ≡ lookup_seen B G v s (lookup_at f i)
-  by_op o x h e g = g ∙ rw (← is, h, e)
-
-  pub by_repr_lem : (u : ℕ) (x : Seen) → t ≡ 2 → u ≡ get_or f (i + 1) 0 → x ≡ repr_seen B v s u → x ≡ lookup_seen B G v s (lookup_at f i)
-  by_repr_lem u x h e g = g ∙ rw (← is, h, e)
-
-  module _ (y : Seen) (g : y ≡ operand_seen B G s (operand_at f (i + 1))) where
-    pub by_child : (p : ℕ) (x : Seen) → t ≡ 1 → p ≡ get_or f (i + 3) 0 → x ≡ position_seen y p → x ≡ lookup_seen B G v s (lookup_at f i)
-    by_child p x h e q = q ∙ rw (← is, h, g, e)
-
-    pub by_contains_lem : (t ≡ 0 → ⊥) → (t ≡ 2 → ⊥) → (t ≡ 1 → ⊥) → y ≡ lookup_seen B G v s (lookup_at f i)
-    by_contains_lem z h k = g ∙ rw (← is, ne_eqb t 0 z, ne_eqb t 2 h, ne_eqb t 1 k)
 
 -- ---- n lookups
 
@@ -116,34 +67,3 @@ module _ (B : Bound) (G f : List ℕ) (v n k : ℕ) (s : Seen) (y : Seeing B G f
   pub seeing_all : n ≤ k → s ≡ seen_in B G (get_or f 1 0) (lookups_of f)
   unfolding seen_from
   seeing_all h = sym (y.is ∙ rw (lookups_none f n k h))
-
--- ---- the tests
-
-module _ (F : List ℕ) (s : Seen) where
-  pub fault_10 : (s.ops ≡ 1 → ⊥) → 10 ≡ seen_fault F s
-  fault_10 h = rw (ne_eqb s.ops 1 h)
-
-  module _ (h : s.ops ≡ 1) where
-    pub fault_9 : not s.read ≡ true → 9 ≡ seen_fault F s
-    fault_9 g = rw (h, not-true s.read g)
-
-    module _ (g : not s.read ≡ false) where
-      pub fault_9_target : not s.free ≡ true → 9 ≡ seen_fault F s
-      fault_9_target k = rw (h, not-false s.read g, not-true s.free k)
-
-      module _ (k : not s.free ≡ false) (o : ℕ) (d : o ≡ s.op) (u : Bool) (p : u ≡ reach_fits F o s.reach) where
-        pub fault_11 : not u ≡ true → 11 ≡ seen_fault F s
-        fault_11 q = rw (h, not-false s.read g, not-false s.free k, ← d, ← p, not-true u q)
-
-        module _ (q : not u ≡ false) where
-          pub fault_5 : not s.given ≡ true → 5 ≡ seen_fault F s
-          fault_5 x = rw (h, not-false s.read g, not-false s.free k, ← d, ← p, not-false u q, not-true s.given x)
-
-          pub fault_0 : not s.given ≡ false → 0 ≡ seen_fault F s
-          fault_0 x = rw (h, not-false s.read g, not-false s.free k, ← d, ← p, not-false u q, not-false s.given x)
-
-pub tested : (F : List ℕ) (B : Bound) (G f : List ℕ) (s : Seen) (k : ℕ) → s ≡ seen_in B G (get_or f 1 0) (lookups_of f) → k ≡ seen_fault F s → ◌≡◌ {A = Tested} (record { fault = k; op = s.op }) (join_tested F B G f)
-tested F B G f s k e h = rw (h, e)
-
-pub none_seen_lem : (B : Bound) (v : ℕ) (b : Bool) → b ≡ has B v → ◌≡◌ {A = Seen} (record { ops = 0; op = 0; read = true; given = true; free = not b; reach = 0 }) (none_seen B v)
-none_seen_lem B v b e = rw e

@@ -5,7 +5,6 @@ ghost use Rattle.join_tests.specs.Lookups.{seen_fault, join_tested};
 
 use super::arrays::reach_fits;
 use super::seen::{Seen, lookups_seen};
-use fields::field::wide;
 
 // A fault's number, or 0; and the operator of a Join's ByOp.
 #[derive(Clone, Copy)]
@@ -27,7 +26,7 @@ fn seen_fault(s: Seen, shapes: &[usize]) -> u8
     if !s.free {
         return 9;
     }
-    if !reach_fits(shapes, wide(s.op), s.reach) {
+    if !reach_fits(shapes, usize::from(s.op), s.reach) {
         return 11;
     }
     if !s.given {

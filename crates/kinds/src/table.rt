@@ -5,8 +5,6 @@ ghost use Rattle.fields.specs.Fields.{width as width_of};
 ghost use Rattle.kinds.specs.Kinds.{kind_at, fixed_length};
 ghost use Rattle.kinds.specs.Rows.{length_words, lengths_of, tests_of, codes_of, row_of};
 
-use fields::field::wide;
-
 // "Each kind's fixed length and item width stand in one table": a byte a kind, eight to a word, the lowest kind in the lowest byte. Of a byte the
 // high four binary places are the item width, 0 where there are no items, and the low four the fixed length; a byte that is no kind has length 1.
 // The array is laid on the stack at each look-up, so it is words: ten stores, not eighty.
@@ -44,7 +42,7 @@ pub fn lengths(kind: u8) -> u8
     if KINDS_END <= kind {
         return 1;
     }
-    let k = wide(kind);
+    let k = usize::from(kind);
     let word = word_at(k / 8);
     low_byte(word >> (8 * (k % 8)))
 }
@@ -52,14 +50,14 @@ pub fn lengths(kind: u8) -> u8
 pub fn fixed_length(kind: u8) -> usize
     ensures { (result ≡ fixed_length (kind_at kind)) × (result < 16) }
 {
-    wide(lengths(kind) % 16)
+    usize::from(lengths(kind) % 16)
 }
 
 // The width of an item, and 0 where there are none.
 pub fn item_width(kind: u8) -> usize
     ensures { (result ≡ width_of (kind_at kind).item) × (result < 16) }
 {
-    wide(lengths(kind) / 16)
+    usize::from(lengths(kind) / 16)
 }
 
 // The rest of a kind's row as one number. Its lowest byte: the kind's text, and the tests that look at a field or an item of it (4 for test 4, 8 for
@@ -131,9 +129,10 @@ pub fn row(kind: u8) -> u64
     ensures { result ≡ row_of (kind_at kind) }
 {
     if kind < 0x25 {
-        return query_row(kind);
+        query_row(kind)
+    } else {
+        later_row(kind)
     }
-    later_row(kind)
 }
 
 pub fn tests_of(kind: u8) -> u8

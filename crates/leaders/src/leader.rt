@@ -12,10 +12,11 @@ use records::shorts::{high_of, low_of};
 fn leader_from(frame: &[u8], class: u16) -> u16
     ensures { result ≡ leader_from frame.now class }
 {
-    if frame.len() == 0 {
-        return class;
+    if frame.is_empty() {
+        class
+    } else {
+        short_at(frame, 3)
     }
-    short_at(frame, 3)
 }
 
 // The leader of a class, by the index of the table's sheet.
@@ -25,7 +26,8 @@ pub fn leader(sheet: &[u8], index: &[u16], class: u16) -> u16
 {
     let key = [0x34, high_of(class), low_of(class)];
     if is_absent(index, &key) {
-        return class;
+        class
+    } else {
+        leader_from(find_by(sheet, index, &key), class)
     }
-    leader_from(find_by(sheet, index, &key), class)
 }

@@ -8,14 +8,16 @@ use lib.ListN.{take}
 use Rattle.reading.specs.Sheet.{frames_in}
 use Rattle.first_reading.specs.First.{frames_of, Sheet}
 use Rattle.first_reading.specs.Text.TheVariants.{Table}
-use Rattle.first_reading.specs.declared.first.Reading.{Reading}
-use Rattle.first_reading.specs.declared.first.Reading.TheVariants.{Accepted, Refused}
+use Rattle.first_reading.specs.Reading.{Reading}
+use Rattle.first_reading.specs.Reading.{Accepted, Refused}
 use Rattle.reading.specs.Second.{reading, query_reading}
 use Rattle.given.specs.Asks.{asks_table}
 use Rattle.given.specs.Sampled.{sampled_from}
 use Rattle.fitting.specs.Planner.{Plan, Result, plan_with, plan_of, fitted, refused_with, plan}
 use Rattle.fitting.specs.Entry.{plan_on, planned_result}
-use Rattle.fitting.specs.declared.fit.Planned.TheVariants.{Refused as Refuses}
+use Rattle.std.specs.Prelude.{Err}
+use Rattle.first_reading.specs.declared.first.Refusal.{Refusal}
+use Rattle.first_reading.specs.Text.TheVariants.{Query}
 use Rattle.fitting.proofs.FitLaws.{plan_on_lem}
 use Rattle.fitting.proofs.ReadingsLaws.{query_refused, read_alone, table_refused, read_both}
 use Rattle.fitting.specs.Handed.{handed_if}
@@ -35,9 +37,9 @@ module _ (x o : List ℕ) where
 -- ---- no table is asked for
 
 module _ (x t o : List ℕ) (h : Bool) (v : Reading) (is : v ≡ query_reading h x) where
-  pub planned_back : (k l : ℕ) → v ≡ Refused k l → planned_result (Refuses k 0 l) o ≡ plan x (handed_if h t) o
+  pub planned_back : (f : Refusal) → f.text ≡ Query → v ≡ Refused f.number f.line → planned_result (Err f) o ≡ plan x (handed_if h t) o
   unfolding plan
-  planned_back k l e = query_refused (refused_with o) x t h v is k l e (fitted (plan_of x (handed_if h t)) o)
+  planned_back f q e = rw q (query_refused (refused_with o) x t h v is f.number f.line e (fitted (plan_of x (handed_if h t)) o))
 
   module _ (n c : ℕ) (e : v ≡ Accepted n c) (s : List ℕ) (g : Sheet x s) (b : Bool) (q : b ≡ asks_table (frames_in s)) where
     pub planned_whole : b ≡ false → (r : Result) → r ≡ fitted (plan_on s) o → r ≡ plan x (handed_if h t) o
@@ -50,9 +52,9 @@ module _ (x t o : List ℕ) (h : Bool) (v : Reading) (is : v ≡ query_reading h
 -- ---- by a table
 
 module _ (x t o : List ℕ) (a : Asks x) (q : asks_table (frames_of x) ≡ true) where
-  pub table_back : (k l : ℕ) → reading Table t ≡ Refused k l → planned_result (Refuses k 2 l) o ≡ plan x (some t) o
+  pub table_back : (f : Refusal) → f.text ≡ Table → reading Table t ≡ Refused f.number f.line → planned_result (Err f) o ≡ plan x (some t) o
   unfolding plan
-  table_back k l e = table_refused (refused_with o) x t a q k l e (fitted (plan_of x (some t)) o)
+  table_back f z e = rw z (table_refused (refused_with o) x t a q f.number f.line e (fitted (plan_of x (some t)) o))
 
   pub sampled_whole : (s i : List ℕ) (e : ℕ) → Both x t s i e → (r : Result) → r ≡ fitted (plan_on (take e s)) o → r ≡ plan x (some t) o
   unfolding plan

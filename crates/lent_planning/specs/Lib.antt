@@ -3,6 +3,7 @@ pub use Rattle.buckets.specs.Cheapest
 pub use Rattle.buckets.specs.Lowering
 pub use Rattle.buckets.specs.Scheduling
 pub use Rattle.buckets.specs.Tabulate
+pub use Rattle.buckets.specs.RowIndex
 pub use Rattle.fitting.specs.Ascii
 pub use Rattle.fitting.specs.Choice
 pub use Rattle.fitting.specs.Entry
@@ -14,7 +15,6 @@ pub use Rattle.fitting.specs.QueryAtoms
 pub use Rattle.fitting.specs.StepFrames
 pub use Rattle.placing.specs.Costs
 pub use Rattle.placing.specs.Emitters
-pub use Rattle.placing.specs.FanOut
 pub use Rattle.placing.specs.Selectivity
 pub use Rattle.placing.specs.Sqrt
 pub use Rattle.placing.specs.Statistics

@@ -1,3 +1,3 @@
 // What crates above take from those below this one.
-pub use fitting::below::{Beside, is_handed};
-pub use fitting::fit::Planned;
+pub use first_reading::first::Refusal;
+pub use fitting::fit::Written;

@@ -36,11 +36,9 @@ fn ended_at(s: Stand, next: usize, k: u8) -> Stand
 {
     Stand {
         at: next,
-        to: s.to,
-        n: s.n,
-        c: s.c,
         end: next,
         fault: k,
+        ..s
     }
 }
 
@@ -58,8 +56,8 @@ fn after_frame(t: Text, frame: &[u8], s: Stand, next: usize) -> Stand
         to: s.to + frame.len(),
         n: s.n + 1,
         c: counted(t, s.c, byte_at(frame, 0)),
-        end: s.end,
         fault: 0,
+        ..s
     }
 }
 
@@ -68,11 +66,9 @@ pub fn after_line(t: Text, sheet: &[u8], s: Stand, next: usize) -> Stand
     requires { LineRoom s sheet.now next }
     ensures { result ≡ after_line t sheet.now s next }
 {
-    let at = s.at;
-    if next == at {
+    if next == s.at {
         return ended_at(s, next, 1);
     }
-    let to = s.to;
-    let end = to + (next - at) / 2;
-    after_frame(t, &sheet[to..end], s, next)
+    let end = s.to + (next - s.at) / 2;
+    after_frame(t, &sheet[s.to..end], s, next)
 }

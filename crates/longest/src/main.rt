@@ -6,7 +6,6 @@ ghost use Rattle.std.specs.Prelude.{◌≤◌, length};
 
 use entries::run::run;
 use hexadecimal::hex_digit;
-use modes::mode::DeltaAtom;
 use printing::print_run;
 
 // Joins by operator alone, which bind a variable each and are the shortest, and those that name a bound one by ByRepr.
@@ -21,17 +20,9 @@ fn put(text: &mut [u8], at: usize, line: &[u8]) -> usize
     requires { at ≤ length text.old }
     ensures { result ≤ length text.new }
 {
-    let mut i = at;
-    let mut j: usize = 0;
-    while j < line.len() {
-        if text.len() <= i {
-            return i;
-        }
-        text[i] = line[j];
-        i += 1;
-        j += 1;
-    }
-    i
+    let n = line.len().min(text.len() - at);
+    text[at..at + n].copy_from_slice(&line[..n]);
+    at + n
 }
 
 fn put_binding(plan: &mut [u8], from: usize) -> usize
@@ -39,13 +30,11 @@ fn put_binding(plan: &mut [u8], from: usize) -> usize
     ensures { result ≤ length plan.new }
 {
     let mut at = from;
-    let mut v: u8 = 0;
-    while v < BINDING {
+    for v in 0..BINDING {
         let digits = [hex_digit(v / 16), hex_digit(v)];
         at = put(plan, at, b"40");
         at = put(plan, at, &digits);
         at = put(plan, at, b"000100010000\n");
-        v += 1;
     }
     at
 }
@@ -55,10 +44,8 @@ fn put_plan(plan: &mut [u8]) -> usize
 {
     let header = put(plan, 0, b"3f4000000a5100000000\n");
     let mut at = put_binding(plan, header);
-    let mut i: usize = 0;
-    while i < NAMING {
+    for _ in 0..NAMING {
         at = put(plan, at, b"400000020001000002000000\n");
-        i += 1;
     }
     at
 }
@@ -67,12 +54,6 @@ fn main() {
     let mut plan = [0u8; PLAN];
     let n = put_plan(&mut plan);
     let mut out = [0u8; 259];
-    let answer = run(
-        &plan[..n],
-        b"3000050100\n",
-        1_000_000,
-        DeltaAtom::None,
-        &mut out,
-    );
+    let answer = run(&plan[..n], b"3000050100\n", 1_000_000, None, &mut out);
     print_run(answer, &out);
 }

@@ -1,12 +1,11 @@
 // An entry of the memo: where a key stands, and the value that is remembered there.
+ghost use Rattle.std.specs.Prelude.{None};
 ghost use Rattle.std.specs.Prelude.{◌≡◌, ◌*◌, ◌<◌, ◌≤◌, length, get_or};
 ghost use Rattle.measure.specs.Selectivity.{zero64};
-ghost use Rattle.measure.specs.declared.FanOut.TheVariants.{Unmeasured};
 ghost use Rattle.plan_facts.specs.Memo.{has_value};
 ghost use Rattle.plan_facts.specs.Costs.{or_measured};
 ghost use Rattle.memo_entries.specs.Remembered.{memo_value, Placed, measured_fan, entry_of, fan_value};
 
-use measure::FanOut;
 use plan_facts::below::Measurement;
 
 // The most keys: 64 atoms of 16 items.
@@ -17,9 +16,7 @@ pub fn place_of(keys: &[u64], m: usize, key: u64) -> usize
     requires { m ≤ length keys.now }
     ensures { Placed keys.now m key result }
 {
-    let mut i = m;
-    while 0 < i {
-        i -= 1;
+    for i in (0..m).rev() {
         if keys[i] / 2 == key {
             return i;
         }
@@ -28,44 +25,44 @@ pub fn place_of(keys: &[u64], m: usize, key: u64) -> usize
 }
 
 // The value remembered at place i.
-pub fn fan_at(keys: &[u64], values: &[f64], i: usize) -> FanOut
+pub fn fan_at(keys: &[u64], values: &[f64], i: usize) -> Option<f64>
     requires i_in_bounds { i < length keys.now }
     requires i_in_bounds_2 { i < length values.now }
-    ensures { result ≡ or_measured (memo_value (has_value (get_or keys.now i 0)) (get_or values.now i zero64)) Unmeasured }
+    ensures { result ≡ or_measured (memo_value (has_value (get_or keys.now i 0)) (get_or values.now i zero64)) None }
 {
     if keys[i] % 2 == 1 {
-        return FanOut::Measured(values[i]);
+        return Some(values[i]);
     }
-    FanOut::Unmeasured
+    None
 }
 
 // A rejected sample has no value.
-pub fn measured_fan(m: Measurement) -> FanOut
+pub fn measured_fan(m: Measurement) -> Option<f64>
     ensures { result ≡ measured_fan m }
 {
     match m {
-        Measurement::NoDraws => FanOut::Unmeasured,
-        Measurement::Accepted(x) => FanOut::Measured(x),
-        Measurement::Rejected => FanOut::Unmeasured,
+        Measurement::NoDraws => None,
+        Measurement::Accepted(x) => Some(x),
+        Measurement::Rejected => None,
     }
 }
 
 // The entry of a key with that fan-out.
-pub fn entry_of(key: u64, f: FanOut) -> u64
+pub fn entry_of(key: u64, f: Option<f64>) -> u64
     requires { key < 0x1_0000_0000_0000 }
     ensures { result ≡ entry_of key f }
 {
     match f {
-        FanOut::Measured(_) => key * 2 + 1,
-        FanOut::Unmeasured => key * 2,
+        Some(_) => key * 2 + 1,
+        None => key * 2,
     }
 }
 
-pub fn fan_value(f: FanOut) -> f64
+pub fn fan_value(f: Option<f64>) -> f64
     ensures { result ≡ fan_value f }
 {
     match f {
-        FanOut::Measured(x) => x,
-        FanOut::Unmeasured => 0.0,
+        Some(x) => x,
+        None => 0.0,
     }
 }

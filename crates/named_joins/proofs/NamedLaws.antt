@@ -1,14 +1,15 @@
 -- The Joins of a plan, frame by frame, and the tests in turn. Proved from the walk over the plan's sheet.
-use Prim.Native.Nat.{ℕ, ◌+◌, ◌<◌, ◌≤◌}
+use Prim.Native.Nat.{ℕ, ◌-◌, ◌≤◌}
 use mathlib.Core.Path.{◌≡◌, refl, sym, ◌∙◌, ap}
 use mathlib.Core.Bool.{Bool, true, false, ◌||◌}
-use mathlib.Core.List.{List, map}
-use mathlib.Core.Option.{some}
+use mathlib.Core.List.{List, [], ◌∷◌, map}
 use native.Mathlib.Omega.{arith}
 use lib.Dec.{eqb}
-use lib.ListN.{length, get_or, drop}
+use lib.ListN.{length, get_or, take, drop}
+use lib.Seq.{take-nil}
+use Rattle.frames.specs.Frames.{frame_length}
 use Rattle.frames.specs.Sheet.{frame_at, frames_in}
-use Rattle.frames.proofs.SheetLaws.{frames_end, frame_within, frames_step}
+use Rattle.frames.proofs.SheetLaws.{no_frames, frame_within, first_taken}
 use Rattle.modes.specs.Atoms.{Step, Join, ExtractChild, CheckChildEq, CheckEq, CheckEqGlobal, BindGlobal, CopyBinding, Expand, ExtractLitVal, CheckLit, CheckPred, is_join}
 use Rattle.modes.specs.Refusing.{is_join_of, has_join}
 use Rattle.modes.specs.Running.{Mode}
@@ -16,12 +17,11 @@ use Rattle.modes.proofs.Bools.{true_false}
 use Rattle.table_tests.specs.StepFrames.{step_of}
 use Rattle.table_tests.proofs.StepsRead.{no_join}
 use Rattle.table_tests.specs.Tables.{steps_in}
-use Rattle.table_tests.specs.Validation.{Passed, Invalid, and_then, named_joins}
-use Rattle.table_tests.specs.declared.shapes.Verdict.{Verdict as Answer}
-use Rattle.table_tests.specs.declared.shapes.Verdict.TheVariants.{Passed as NoFault, Invalid as Fault}
+use Rattle.table_tests.specs.Validation.{named_joins}
+use Rattle.std.specs.Prelude.{Result, Ok, Err}
+use Rattle.table_tests.specs.Refusal.{Refusal}
 use Rattle.table_tests.specs.Shapes.{verdict}
-use Rattle.validation.specs.Plans.{PlanSheet, Validated}
-use Rattle.validation.proofs.PlanLaws.{behind, header_within}
+use Rattle.validation.specs.Plans.{Validated}
 use Rattle.named_joins.specs.NamedJoins.{ValidatedWith}
 
 -- ---- a frame
@@ -47,44 +47,41 @@ module _ (f : List ℕ) (a b : ℕ) (is : b ≡ get_or f 0 0) where
   unfolding step_of
   joins_same h k q = let z : get_or f 0 0 ≡ 0x40 = sym is ∙ h in rw (z, q)
 
--- ---- the frames in turn: those before `at` are no Join of the atom a
+-- ---- the frames in turn: r is the sheet x behind its first frame l, where it has one
 
-pub record Seeking (x : List ℕ) (a at : ℕ) : Type 0 where
-  pub within : at ≤ length x
-  pub is : has_join a (steps_in (frames_in x)) ≡ has_join a (map step_of (frames_in (drop at x)))
+no_first : (l : List ℕ) → l ≡ frame_at [] 0 → l ≡ []
+no_first l q = q ∙ take-nil (frame_length [])
 
-pub seeking_first : (x : List ℕ) → PlanSheet x → (a : ℕ) (l : List ℕ) → l ≡ frame_at x 0 → Seeking x a (length l)
+pub first_within : (x l : List ℕ) → l ≡ frame_at x 0 → length l ≤ length x
+first_within [] l q = omega (arith, ap length (no_first l q))
+first_within (b ∷ x) l q = omega (arith, frame_within (b ∷ x) 0 (omega arith) l q)
+
+pub seeking_first : (x l : List ℕ) → l ≡ frame_at x 0 → (a : ℕ) (r : List ℕ) → r ≡ take (length x - length l) (drop (length l) x) → has_join a (steps_in (frames_in x)) ≡ has_join a (map step_of (frames_in r))
 unfolding steps_in
-seeking_first x s a l q = record { within = header_within x s l q; is = rw (behind x s l q) }
+seeking_first [] l q a r e = let z = no_first l q in let n : r ≡ [] = rw z at e in rw (n, no_frames [] refl)
+seeking_first (b ∷ x) l q a r e = rw (e, first_taken (b ∷ x) l (omega arith) q)
 
-module _ (x : List ℕ) (a at : ℕ) (s : Seeking x a at) where
-  pub seeking_end : length x ≤ at → false ≡ has_join a (steps_in (frames_in x))
+-- those before fs are no Join of the atom a
+module _ (a : ℕ) (all : List Step) (fs : List (List ℕ)) (is : has_join a all ≡ has_join a (map step_of fs)) where
+  pub seeking_end : fs ≡ [] → false ≡ has_join a all
   unfolding has_join
-  seeking_end h = sym (s.is ∙ rw (frames_end x at h))
+  seeking_end e = sym (is ∙ rw e)
 
-  module _ (h : at < length x) (f : List ℕ) (q : f ≡ frame_at x at) (b : Bool) (e : b ≡ is_join_of a (step_of f)) where
-    here : has_join a (steps_in (frames_in x)) ≡ (is_join_of a (step_of f) || has_join a (map step_of (frames_in (drop (at + length f) x))))
+  module _ (f : List ℕ) (gs : List (List ℕ)) (step : fs ≡ f ∷ gs) (b : Bool) (e : b ≡ is_join_of a (step_of f)) where
+    here : has_join a all ≡ (b || has_join a (map step_of gs))
     unfolding has_join
-    here = s.is ∙ ap (λ (l : List (List ℕ)). has_join a (map step_of l)) (frames_step x at h f q)
+    here = is ∙ rw (step, e)
 
-    pub seeking_found : b ≡ true → true ≡ has_join a (steps_in (frames_in x))
-    seeking_found t = let z : is_join_of a (step_of f) ≡ true = sym e ∙ t in sym (here ∙ rw z)
+    pub seeking_found : b ≡ true → true ≡ has_join a all
+    seeking_found t = sym (here ∙ rw t)
 
-    pub seeking_next : b ≡ false → Seeking x a (at + length f)
-    seeking_next t = let z : is_join_of a (step_of f) ≡ false = sym e ∙ t in record { within = frame_within x at h f q; is = here ∙ rw z }
+    pub seeking_next : b ≡ false → has_join a all ≡ has_join a (map step_of gs)
+    seeking_next t = here ∙ rw t
 
 -- ---- the tests
 
-pub named_joined : (x : List ℕ) (a : ℕ) (b : Bool) → b ≡ has_join a (steps_in (frames_in x)) → b ≡ true → Passed ≡ named_joins (some a) (steps_in (frames_in x))
-named_joined x a b e t = let z : has_join a (steps_in (frames_in x)) ≡ true = sym e ∙ t in rw z
+pub all_passed : (x y : List ℕ) (md : Mode) (r : Result (Unit {0}) Refusal) (G : List ℕ) → Validated x y (Ok tt) G → verdict r ≡ named_joins md (steps_in (frames_in x)) → ValidatedWith x y md r G
+all_passed x y md r G p n = record { is = rw (← p.is, n); globals = λ e. p.globals refl }
 
-pub named_unjoined : (x : List ℕ) (a : ℕ) (b : Bool) → b ≡ has_join a (steps_in (frames_in x)) → b ≡ false → Invalid 12 1 0 ≡ named_joins (some a) (steps_in (frames_in x))
-named_unjoined x a b e t = let z : has_join a (steps_in (frames_in x)) ≡ false = sym e ∙ t in rw z
-
--- a verdict that passes is one of tests that do
-both_passed : (v w r : Answer) → verdict r ≡ and_then (verdict v) (verdict w) → r ≡ NoFault → v ≡ NoFault
-both_passed NoFault w r h e = refl
-both_passed (Fault k t l) w r h e = let y : Passed ≡ Invalid k t l = sym (ap verdict e) ∙ h in let z : ◌≡◌ {A = ℕ} 0 1 = cc in absurd (omega arith)
-
-pub all_tested : (x y : List ℕ) (md : Mode) (v w r : Answer) (G : List ℕ) → Validated x y v G → verdict w ≡ named_joins md (steps_in (frames_in x)) → verdict r ≡ and_then (verdict v) (verdict w) → ValidatedWith x y md r G
-all_tested x y md v w r G p n h = record { is = h ∙ rw (p.is, n); globals = λ e. p.globals (both_passed v w r h e) }
+pub all_refused : (x y : List ℕ) (md : Mode) (f : Refusal) (G : List ℕ) → Validated x y (Err f) G → ValidatedWith x y md (Err f) G
+all_refused x y md f G p = record { is = rw (← p.is); globals = λ e. let z : ◌≡◌ {A = ℕ} 0 1 = cc in absurd (omega arith) }

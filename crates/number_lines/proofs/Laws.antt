@@ -1,40 +1,33 @@
 -- The numbers of a text, line by line. Assumes nothing.
+use Rattle.std.specs.Prelude.{Some}
+use Rattle.std.specs.Prelude.{Option as OptionOf}
 use Prim.Native.Nat.{ℕ, zero, suc, ◌+◌, ◌-◌, ◌*◌, ◌<◌, ◌≤◌}
-use mathlib.Core.Path.{◌≡◌, refl, sym, ◌∙◌, ap}
+use mathlib.Core.Path.{◌≡◌, sym, ◌∙◌, ap}
 use mathlib.Core.List.{List, [], ◌∷◌, ◌++◌, append_assoc, append-nil}
 use native.Mathlib.Omega.{arith}
 use native.Mathlib.Numerals.{add-one, unary_clauses}
 use lib.ListN.{length, take, drop, set, length-set, length-drop}
 use lib.Seq.{take-suc-set, take_all, drop-drop}
 use lib.Dec.{ltb}
-use borrow.Author.Tests.{lt-ltb, le-ltb, ne_eqb}
+use borrow.Author.Tests.{lt-ltb, le-ltb}
 use Rattle.hexadecimal.specs.Choose.{pick}
-use Rattle.hex_lines.specs.declared.decode.Found.{Found}
-use Rattle.hex_lines.specs.declared.decode.Found.TheVariants.{At, Nothing}
 use Rattle.hexadecimal.specs.Digits.{bytes_of, long_at}
 use Rattle.hex_lines.specs.Lines.{hex_line_of}
 use Rattle.hex_lines.specs.Decoding.{Decodes}
 use Rattle.hexadecimal.proofs.Bytes.{bytes_length, bytes_take}
 use Rattle.number_lines.specs.Numbers.{number_of, before, numbers_of}
-use Rattle.number_lines.specs.declared.Line.{Line}
-use Rattle.number_lines.specs.declared.Line.TheVariants.{Number, Other}
+use Rattle.std.specs.Prelude.{Option, Some, None}
 
 -- ---- one line: 17 bytes l, decoded onto s, which is s' then
 
-module _ (l s s' : List ℕ) (f : Found) (d : Decodes l 0 s 0 s' f) where
-  pub no_line : f ≡ Nothing → Other ≡ number_of l
-  no_line h = let p : hex_line_of 0 l ≡ Nothing = sym d.is ∙ h in rw p
-
-  module _ (e : ℕ) (h : f ≡ At e) where
-    found : hex_line_of 0 l ≡ At e
+module _ (l s s' : List ℕ) (f : OptionOf ℕ) (d : Decodes l 0 s 0 s' f) where
+  module _ (e : ℕ) (h : f ≡ Some e) where
+    found : hex_line_of 0 l ≡ Some e
     found = sym d.is ∙ h
 
-    pub other_end : (e ≡ 16 → ⊥) → Other ≡ number_of l
-    other_end n = rw (found, ne_eqb e 16 n)
-
-    pub number_read : e ≡ 16 → length l ≡ 17 → length s ≡ 8 → (v : ℕ) → v ≡ long_at s' 0 → Number v ≡ number_of l
+    pub number_read : e ≡ 16 → length l ≡ 17 → length s ≡ 8 → (v : ℕ) → v ≡ long_at s' 0 → Some v ≡ number_of l
     number_read n a b v q =
-        let p : hex_line_of 0 l ≡ At 16 = rw n at found in
+        let p : hex_line_of 0 l ≡ Some 16 = rw n at found in
         let y : take 8 s' ≡ bytes_of (take 16 l) = d.laid 16 (rw n at h) in
         let u : take 8 s' ≡ s' = take_all 8 s' (omega (arith, d.same)) in
         let w : take 8 (bytes_of l) ≡ bytes_of l = take_all 8 (bytes_of l) (omega (arith, bytes_length l)) in
@@ -50,37 +43,34 @@ pub record Walks (x o p : List ℕ) (n : ℕ) : Type 0 where
   pub fits : 17 * n ≤ length x
   pub is : take n p ++ numbers_of (length o - n) (drop (17 * n) x) ≡ numbers_of (length o) x
 
-pub walks_none : (x o : List ℕ) → Walks x o o 0
-walks_none x o = record { size = refl; few = omega arith; fits = omega arith; is = simp unary_clauses }
-
 one_line : (m : ℕ) (x : List ℕ) → 0 < m → numbers_of m x ≡ pick (ltb (length x) 17) [] (before (number_of (take 17 x)) (numbers_of (m - 1) (drop 17 x)))
 unfolding numbers_of
 one_line zero x h = absurd (omega arith)
 one_line (suc m) x h = simp unary_clauses
 
 module _ (x o p : List ℕ) (n : ℕ) (w : Walks x o p n) where
-  ended : numbers_of (length o - n) (drop (17 * n) x) ≡ [] → (n ≤ length p) × (take n p ≡ numbers_of (length o) x)
-  ended e = (omega (arith, w.size, w.few), sym (append-nil (take n p)) ∙ ap (λ (l : List ℕ). take n p ++ l) (sym e) ∙ w.is)
+  ended : numbers_of (length o - n) (drop (17 * n) x) ≡ [] → take n p ≡ numbers_of (length o) x
+  ended e = sym (append-nil (take n p)) ∙ ap (λ (l : List ℕ). take n p ++ l) (sym e) ∙ w.is
 
-  pub array_full : length p ≤ n → (n ≤ length p) × (take n p ≡ numbers_of (length o) x)
+  pub array_full : length o ≤ n → take (length p) p ≡ numbers_of (length o) x
   unfolding numbers_of
-  array_full h = let e : length o - n ≡ 0 = omega (arith, w.size) in ended (rw e)
+  array_full h = let e : length o - n ≡ 0 = omega arith in let z : length p ≡ n = omega (arith, w.size, w.few) in rw z (ended (rw e))
 
-  module _ (h : n < length p) where
+  module _ (h : n < length o) where
     more : 0 < length o - n
-    more = omega (arith, w.size)
+    more = omega arith
 
-    pub text_ends : length x - 17 * n < 17 → (n ≤ length p) × (take n p ≡ numbers_of (length o) x)
+    pub text_ends : length x - 17 * n < 17 → take n p ≡ numbers_of (length o) x
     text_ends l = ended (one_line _ _ more ∙ rw (length-drop (17 * n) x, lt-ltb _ _ l))
 
-    module _ (l : 17 ≤ length x - 17 * n) (v : Line) (is : v ≡ number_of (take (17 * n + 17 - 17 * n) (drop (17 * n) x))) where
+    module _ (l : 17 ≤ length x - 17 * n) (v : Option ℕ) (is : v ≡ number_of (take (17 * n + 17 - 17 * n) (drop (17 * n) x))) where
       line_is : number_of (take 17 (drop (17 * n) x)) ≡ v
       line_is = let e : 17 * n + 17 - 17 * n ≡ 17 = omega arith in sym (rw e at is)
 
-      pub other_line : v ≡ Other → (n ≤ length p) × (take n p ≡ numbers_of (length o) x)
+      pub other_line : v ≡ None → take n p ≡ numbers_of (length o) x
       other_line e = ended (one_line _ _ more ∙ rw (length-drop (17 * n) x, le-ltb _ _ l, line_is, e))
 
-      pub line_read : (k : ℕ) → v ≡ Number k → Walks x o (set p n k) (n + 1)
+      pub line_read : (k : ℕ) → v ≡ Some k → Walks x o (set p n k) (n + 1)
       line_read k e =
           let a : length o - n - 1 ≡ length o - (n + 1) = omega arith in
           let b : 17 * n + 17 ≡ 17 * (n + 1) = omega arith in
@@ -89,5 +79,5 @@ module _ (x o p : List ℕ) (n : ℕ) (w : Walks x o p n) where
             size = length-set p n k ∙ w.size;
             few = omega (arith, w.size);
             fits = omega arith;
-            is = rw (add-one n, take-suc-set p n k h, append_assoc, ← add-one n, ← s) w.is;
+            is = rw (add-one n, take-suc-set p n k (omega (arith, w.size)), append_assoc, ← add-one n, ← s) w.is;
           }

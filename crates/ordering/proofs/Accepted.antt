@@ -1,5 +1,6 @@
 -- What the reading gives of an accepted query, as the code of the planner asks for it: its atoms' frames, their items, and the settings.
 -- Proved from the tests that each frame passed.
+use Rattle.std.specs.Prelude.{Some}
 use Prim.Native.Nat.{ℕ, zero, suc, ◌*◌, ◌<◌, ◌≤◌}
 use mathlib.Core.Path.{◌≡◌, refl, sym, ◌∙◌}
 use mathlib.Core.Bool.{Bool, true, false}
@@ -21,7 +22,7 @@ use Rattle.query.specs.Counts.{Counts}
 use Rattle.query.specs.Field.{Field}
 use Rattle.query.specs.Test.TheVariants.{Limits}
 use Rattle.query.specs.Text.TheVariants.{Query}
-use Rattle.query.specs.Reading.TheVariants.{Accepted}
+use Rattle.query.specs.Reading.{Accepted}
 use Rattle.query.specs.Keys.{begins, find, is_found}
 use Rattle.query.specs.Second.{counts_of, reading}
 use Rattle.memo_entries.proofs.Passes.{frame_field}
@@ -29,7 +30,6 @@ use Rattle.memo_entries.proofs.Whole.{accepted, query_within}
 use Rattle.memo_entries.proofs.Lookups.{find_some}
 use Rattle.query.specs.SamplerConfig.{SamplerConfig}
 use Rattle.query.specs.Statistics.{sampled_of, settings}
-use Rattle.query.specs.declared.statistics.Sampled.TheVariants.{On}
 use Rattle.query.specs.Atoms.{Atom, Plain, Lit, LitBind, Eq, EqGlobal, Pred, Variadic}
 use Rattle.query.specs.Bound.{blank}
 use Rattle.query.specs.Scheduling.{unlowered, numbers}
@@ -96,7 +96,7 @@ pub record Small (cfg : SamplerConfig) : Type 0 where
   pub draws : cfg.k ≤ k_most
   pub rounds : cfg.bootstrap ≤ bootstrap_most
 
-settings_small : (f : List ℕ) (cfg : SamplerConfig) → sampled_of f ≡ On cfg → begins (0x20 ∷ []) f ≡ true → frame_passes (field_passes Limits no_counts) f ≡ true → Small cfg
+settings_small : (f : List ℕ) (cfg : SamplerConfig) → sampled_of f ≡ Some cfg → begins (0x20 ∷ []) f ≡ true → frame_passes (field_passes Limits no_counts) f ≡ true → Small cfg
 unfolding begins kinds kind_at field_passes field_fits
 settings_small [] cfg e b p = let z : ◌≡◌ {A = ℕ} 0 1 = cc in absurd (omega arith)
 settings_small (t ∷ f) cfg e b p =
@@ -106,7 +106,7 @@ settings_small (t ∷ f) cfg e b p =
     let m : short_at f 1 ≡ cfg.bootstrap = cc in
     record { draws = rw (← k) (leb-true _ _ (frame_field (field_passes Limits no_counts) (0x20 ∷ f) q 0 (omega arith))); rounds = rw (← m) (leb-true _ _ (frame_field (field_passes Limits no_counts) (0x20 ∷ f) q 1 (omega arith))) }
 
-found : (f : List ℕ) (cfg : SamplerConfig) → sampled_of f ≡ On cfg → is_found f ≡ true
+found : (f : List ℕ) (cfg : SamplerConfig) → sampled_of f ≡ Some cfg → is_found f ≡ true
 found [] cfg e = let z : ◌≡◌ {A = ℕ} 0 1 = cc in absurd (omega arith)
 found (t ∷ f) cfg e = refl
 
@@ -142,7 +142,7 @@ module _ (x : List ℕ) (n c : ℕ) (ok : reading Query x ≡ Accepted n c) wher
   unfolding remembered
   few_keys fs = rounds_keys fs (suc (unlowered blank (numbers (atoms_of x))))
 
-  pub small_settings : (cfg : SamplerConfig) → settings (frames_of x) ≡ On cfg → Small cfg
+  pub small_settings : (cfg : SamplerConfig) → settings (frames_of x) ≡ Some cfg → Small cfg
   unfolding settings
   small_settings cfg e =
       let p = find_some (0x20 ∷ []) (frames_of x) (found (find (0x20 ∷ []) (frames_of x)) cfg e) in

@@ -1,4 +1,5 @@
 -- What an accepted query gives the order: its atoms' frames and places, few items and few keys, small settings. Proved from the reading.
+use Rattle.std.specs.Prelude.{Some, None}
 use Prim.Native.Nat.{ℕ, ◌*◌, ◌<◌, ◌≤◌}
 use mathlib.Core.Path.{◌≡◌, refl, sym, ◌∙◌, ap}
 use mathlib.Core.List.{List, [], ◌∷◌, append-nil}
@@ -8,14 +9,13 @@ use Rattle.query.specs.Sheet.{frames_in}
 use Rattle.query.specs.First.{frames_of, Sheet}
 use Rattle.query.specs.Text.TheVariants.{Query}
 use Rattle.query.specs.Reading.{Reading}
-use Rattle.query.specs.Reading.TheVariants.{Accepted}
+use Rattle.query.specs.Reading.{Accepted}
 use Rattle.query.specs.Limits.{items_most}
 use Rattle.query.specs.Kinds.{kind_at, items_of}
 use Rattle.query.specs.Frames.{kind_of}
 use Rattle.query.specs.Second.{reading}
 use Rattle.query.specs.SamplerConfig.{SamplerConfig}
 use Rattle.query.specs.Statistics.{sampled_of, settings}
-use Rattle.query.specs.declared.statistics.Sampled.TheVariants.{On, Off}
 use Rattle.query.specs.Bound.{bound_most}
 use Rattle.memo_entries.specs.QueryAtoms.{atom_frames}
 use Rattle.memo_entries.specs.Choice.{rounds, remembered}
@@ -83,18 +83,18 @@ module _ (s : List ℕ) (a : Accepts s) where
   unfolding settings kind_at
   same_settings = rw a.frames (ap sampled_of (find_behind (0x20 ∷ []) (frames_of a.text) a.behind (proper _ _ refl refl refl) a.of_table))
 
-  pub sheet_settings : (cfg : SamplerConfig) → settings (frames_in s) ≡ On cfg → Small cfg
+  pub sheet_settings : (cfg : SamplerConfig) → settings (frames_in s) ≡ Some cfg → Small cfg
   sheet_settings = rw same_settings (small_settings a.text a.lines a.atoms a.is)
 
 -- ---- the order
 
-pub samples_nothing : (fs : List (List ℕ)) → settings fs ≡ Off → Samples fs Off
+pub samples_nothing : (fs : List (List ℕ)) → settings fs ≡ None → Samples fs None
 samples_nothing fs e = record { set = sym e; nodes = λ cfg h. never cfg h; resamples = λ cfg h. never cfg h }
 
-pub remembers_nothing : (x : List ℕ) (f : ℕ) → settings (frames_in x) ≡ Off → length (rounds (frames_in x) (sheet_atoms x) f).memory.tally.memo ≤ 1
+pub remembers_nothing : (x : List ℕ) (f : ℕ) → settings (frames_in x) ≡ None → length (rounds (frames_in x) (sheet_atoms x) f).memory.tally.memo ≤ 1
 remembers_nothing x f e = rw (nothing_sampled (frames_in x) (sheet_atoms x) f e) (omega arith)
 
-pub samples_some : (x : List ℕ) (cfg : SamplerConfig) → Accepts x → settings (frames_in x) ≡ On cfg → Samples (frames_in x) (On cfg)
+pub samples_some : (x : List ℕ) (cfg : SamplerConfig) → Accepts x → settings (frames_in x) ≡ Some cfg → Samples (frames_in x) (Some cfg)
 samples_some x cfg a e = record {
   set = sym e;
   nodes = λ c h. (sheet_settings x a c (e ∙ h)).draws;
@@ -121,7 +121,3 @@ items_fit x from n a p = record { few = λ k h. rw (p.is k h) (let i = sheet_ite
 -- "atoms 64": as many rows
 pub rows_fit : (x from : List ℕ) (n : ℕ) → Accepts x → Places x from n → row_size * n ≤ table_size
 rows_fit x from n a p = omega (arith, (places_located x from n a p).few)
-
--- a table for m atoms
-pub few_rows : (n m : ℕ) → n ≤ m → row_size * n ≤ row_size * m
-few_rows n m h = omega arith

@@ -5,7 +5,7 @@ use Rattle.query.specs.Kinds.{table}
 use Rattle.query.specs.Sheet.{frame_at, frames_in}
 use Rattle.query.specs.First.{frames_of, first_line}
 use Rattle.query.specs.Text.TheVariants.{Query}
-use Rattle.query.specs.Reading.TheVariants.{Accepted}
+use Rattle.query.specs.Reading.{Accepted}
 use Rattle.query.specs.Second.{reading}
 use Rattle.behind.specs.Behind.{FramesOf}
 

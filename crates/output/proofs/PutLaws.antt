@@ -6,7 +6,8 @@ use native.Mathlib.Omega.{arith}
 use native.Mathlib.Nat.{add-zero}
 use native.Mathlib.Numerals.{add-one}
 use lib.ListN.{length, get_or, set, take, length-append, length-set}
-use lib.Seq.{set_out, length-sets, length-take-le, take-suc}
+use lib.Seq.{set_out, length-sets, length-take-le, take-suc, take_all}
+use Rattle.std.specs.Int.{w16, w32, to_be_bytes}
 use Rattle.hexadecimal.specs.Digits.{hex_digit, digits_of}
 use Rattle.hexadecimal.proofs.Bytes.{digits_length}
 use Rattle.kinds.specs.Kinds.{kind_at, fixed_length}
@@ -67,47 +68,52 @@ pub bytes_none : (o : List ℕ) (at : ℕ) → PutsBytes o at [] o at
 unfolding written
 bytes_none o at = record { is = refl; next = omega arith }
 
--- ---- the first n of the bytes x
+-- ---- the bytes x, one after the other
 
 -- i of them are put
-pub record Putting (x : List ℕ) (n : ℕ) (o₀ : List ℕ) (from : ℕ) (o : List ℕ) (at i : ℕ) : Type 0 where
-  pub few : i ≤ n
+pub record Putting (x o₀ : List ℕ) (from : ℕ) (o : List ℕ) (at i : ℕ) : Type 0 where
+  pub few : i ≤ length x
   pub place : at ≡ from + 2 * i
   pub size : length o ≡ length o₀
   pub puts : PutsBytes o₀ from (take i x) o at
 
-pub putting_none : (x : List ℕ) (n : ℕ) (o : List ℕ) (at : ℕ) → Putting x n o at o at 0
-putting_none x n o at = record { few = omega arith; place = omega arith; size = refl; puts = bytes_none o at }
+pub putting_none : (x o : List ℕ) (at : ℕ) → Putting x o at o at 0
+putting_none x o at = record { few = omega arith; place = omega arith; size = refl; puts = bytes_none o at }
 
-module _ (x : List ℕ) (n : ℕ) (o₀ : List ℕ) (from : ℕ) (o : List ℕ) (at i : ℕ) (m : Putting x n o₀ from o at i) where
-  pub putting_again : (b : ℕ) (q : List ℕ) (r : ℕ) → n ≤ length x → i < n → b ≡ get_or x i 0 → PutsBytes o at (b ∷ []) q r → Putting x n o₀ from q r (i + 1)
-  putting_again b q r l h e u = record {
+module _ (x o₀ : List ℕ) (from : ℕ) (o : List ℕ) (at i : ℕ) (m : Putting x o₀ from o at i) where
+  pub putting_again : (q : List ℕ) (r : ℕ) → i < length x → PutsBytes o at (get_or x i 0 ∷ []) q r → Putting x o₀ from q r (i + 1)
+  putting_again q r h u = record {
     few = omega arith;
     place = omega (arith, m.place, u.next);
-    size = ap length u.is ∙ written_size o at (digits_of (b ∷ [])) ∙ m.size;
-    puts = subst (λ (y : List ℕ). PutsBytes o₀ from y q r) (sym more) (bytes_then (take i x) (b ∷ []) m.puts u);
+    size = ap length u.is ∙ written_size o at (digits_of (get_or x i 0 ∷ [])) ∙ m.size;
+    puts = subst (λ (y : List ℕ). PutsBytes o₀ from y q r) (sym more) (bytes_then (take i x) (get_or x i 0 ∷ []) m.puts u);
   }
     where
-      more : take (i + 1) x ≡ take i x ++ b ∷ []
-      more = let g : i < length x = omega arith in rw (add-one i, take-suc x i 0 g, e)
+      more : take (i + 1) x ≡ take i x ++ get_or x i 0 ∷ []
+      more = rw (add-one i, take-suc x i 0 h)
 
-  pub storing_again : (d e : ℕ) → n ≤ length x → i < n → get_or x i 0 < 256 → d ≡ hex_digit (get_or x i 0 / 16 % 16) → e ≡ hex_digit (get_or x i 0 % 16) → Putting x n o₀ from (set (set o at d) (at + 1) e) (at + 2) (i + 1)
-  storing_again d e l h byte high low = putting_again (get_or x i 0) (set (set o at d) (at + 1) e) (at + 2) l h refl (byte_both o at (get_or x i 0) d byte high e low)
+  pub storing_again : (d e : ℕ) → i < length x → get_or x i 0 < 256 → d ≡ hex_digit (get_or x i 0 / 16 % 16) → e ≡ hex_digit (get_or x i 0 % 16) → Putting x o₀ from (set (set o at d) (at + 1) e) (at + 2) (i + 1)
+  storing_again d e h byte high low = putting_again (set (set o at d) (at + 1) e) (at + 2) h (byte_both o at (get_or x i 0) d byte high e low)
 
-  pub putting_all : n ≤ i → PutsBytes o₀ from (take n x) o at
-  putting_all h = let e : n ≡ i = omega (arith, m.few) in rw e m.puts
+  module _ (h : length x ≤ i) where
+    whole : take i x ≡ x
+    whole = take_all i x h
 
-  pub stored_all : n ≤ i → PutsBytes o₀ from (take n x) o (from + 2 * n)
-  stored_all h = let e : from + 2 * n ≡ at = omega (arith, m.few, m.place) in rw e (putting_all h)
+    pub putting_all : PutsBytes o₀ from x o at
+    putting_all = rw whole at m.puts
+
+    pub stored_all : PutsBytes o₀ from x o (from + 2 * length x)
+    stored_all = let e : from + 2 * length x ≡ at = omega (arith, m.few, m.place) in rw e putting_all
 
 pub none_put : (x : List ℕ) (n : ℕ) (o : List ℕ) (at : ℕ) → n ≤ length x → length o ≤ at → PutsBytes o at (take n x) o (at + 2 * n)
 none_put x n o at l h = record { is = sym (written_past (digits_of (take n x)) o at h); next = omega (arith, length-take-le n x l) }
 
-pub short_put : (o p q : List ℕ) (at i r x a b : ℕ) → a ≡ x / 0x100 → b ≡ x % 0x100 → PutsBytes o at (a ∷ []) p i → PutsBytes p i (b ∷ []) q r → PutsBytes o at (x / 0x100 ∷ x % 0x100 ∷ []) q r
-short_put o p q at i r x a b h k u v = rw (← h, ← k) (bytes_then (a ∷ []) (b ∷ []) u v)
+-- the bytes of a number, the highest first
+pub short_put : (o q x : List ℕ) (at r n : ℕ) → n < 0x1_0000 → x ≡ to_be_bytes w16 n → PutsBytes o at (take 2 x) q r → PutsBytes o at (n / 0x100 ∷ n % 0x100 ∷ []) q r
+short_put o q x at r n l e u = let m : n / 0x100 ≡ n / 0x100 % 0x100 = omega arith in rw m (rw e at u)
 
-pub word_put : (o q : List ℕ) (at r x a b c d : ℕ) → x < 0x1_0000_0000 → a ≡ x / 0x100_0000 % 0x100 → b ≡ x / 0x1_0000 % 0x100 → c ≡ x / 0x100 % 0x100 → d ≡ x % 0x100 → PutsBytes o at (a ∷ b ∷ c ∷ d ∷ []) q r → PutsBytes o at (word_bytes x) q r
-word_put o q at r x a b c d l h i j k u = let m : x / 0x100_0000 ≡ a = omega arith in rw (m, ← i, ← j, ← k) u
+pub word_put : (o q x : List ℕ) (at r n : ℕ) → n < 0x1_0000_0000 → x ≡ to_be_bytes w32 n → PutsBytes o at (take 4 x) q r → PutsBytes o at (word_bytes n) q r
+word_put o q x at r n l e u = let m : n / 0x100_0000 ≡ n / 0x100_0000 % 0x100 = omega arith in rw m (rw e at u)
 
 -- ---- lines
 

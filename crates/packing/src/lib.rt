@@ -9,7 +9,7 @@ pub fn refusal(number: u8, text: u8, line: usize) -> u64
     ensures { result ≡ packed_refusal number text line }
 {
     let l = (line % 0x1_0000) as u64;
-    0x8000_0000_0000_0000 + (number as u64) * 0x100_0000 + (text as u64) * 0x1_0000 + l
+    0x8000_0000_0000_0000 + u64::from(number) * 0x100_0000 + u64::from(text) * 0x1_0000 + l
 }
 
 // A plan: the bytes written, its steps and its tallies.
@@ -28,15 +28,12 @@ pub fn written(status: u8, bytes: usize) -> u64
     ensures { result ≡ packed_written status bytes }
 {
     let w = (bytes % 0x1_0000_0000) as u64;
-    (status as u64) * 0x1_0000_0000 + w
+    u64::from(status) * 0x1_0000_0000 + w
 }
 
 // A round: the atom chosen, where one was found.
 pub fn choice(found: bool, atom: u8) -> u64
     ensures { result ≡ packed_choice found atom }
 {
-    if found {
-        return atom as u64;
-    }
-    0x100
+    if found { u64::from(atom) } else { 0x100 }
 }

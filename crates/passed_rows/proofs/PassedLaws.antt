@@ -7,7 +7,7 @@ use lib.ListN.{length, take}
 use Rattle.reading.specs.Text.TheVariants.{Table}
 use Rattle.reading.specs.First.{sheet_size}
 use Rattle.reading.specs.Reading.{Reading}
-use Rattle.reading.specs.Reading.TheVariants.{Accepted}
+use Rattle.reading.specs.Reading.{Accepted}
 use Rattle.reading.specs.Index.{Indexed}
 use Rattle.reading.specs.Second.{reading}
 use Rattle.reading.specs.IndexedReading.{ReadIndexed}

@@ -7,7 +7,6 @@ pub use Rattle.lowering.specs.Buckets
 pub use Rattle.lowering.specs.Choice
 pub use Rattle.lowering.specs.Costs
 pub use Rattle.lowering.specs.Emitters
-pub use Rattle.lowering.specs.FanOut
 pub use Rattle.lowering.specs.Faults
 pub use Rattle.lowering.specs.Given
 pub use Rattle.lowering.specs.ItemOperands

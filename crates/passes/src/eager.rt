@@ -5,7 +5,6 @@ ghost use Rattle.lowering.specs.Bound.{has, bound_most};
 ghost use Rattle.lowering.specs.AtomLines.{AtomLine};
 ghost use Rattle.passes.specs.Eager.{Tries, Lined, Located, Ready, Passed, LoweredEager};
 
-use fields::field::{narrow, wide_short};
 use lowering::atom::{is_free, lower_bound};
 use lowering::below::{is_set, set_bound};
 
@@ -24,13 +23,7 @@ fn try_at(
     requires c_in_bounds { has used.old i ≡ false → c < length order.old }
     ensures { Tries frame.now i used.old bound.old order.old c used.new bound.new order.new result }
 {
-    if is_set(used, i) {
-        return c;
-    }
-    if !is_free(frame, used, bound) {
-        return c;
-    }
-    if !lower_bound(frame, bound) {
+    if is_set(used, i) || !is_free(frame, used, bound) || !lower_bound(frame, bound) {
         return c;
     }
     set_bound(used, i);
@@ -44,8 +37,8 @@ pub fn atom_line<'a, 'b>(sheet: &'a [u8], from: &'b [u16], k: usize) -> &'a [u8]
     requires lined { Lined sheet.now from.now k }
     ensures { result.now ≡ frame_at sheet.now (get_or from.now k 0) }
 {
-    let at = wide_short(from[k]);
-    let end = wide_short(from[k + 64]);
+    let at = usize::from(from[k]);
+    let end = usize::from(from[k + 64]);
     &sheet[at..end]
 }
 
@@ -64,11 +57,9 @@ pub fn eager_pass(
     ensures { Passed sheet.now used.old bound.old order.old count used.new bound.new order.new result }
 {
     let mut c = count;
-    let mut i: usize = 0;
-    while i < n {
+    for i in 0..n {
         let frame = atom_line(sheet, from, i);
-        c = try_at(frame, narrow(i), used, bound, order, c);
-        i += 1;
+        c = try_at(frame, i as u8, used, bound, order, c);
     }
     c
 }

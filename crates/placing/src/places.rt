@@ -16,10 +16,7 @@ fn note_place(frame: &[u8], at: usize, end: usize, from: &mut [u16], n: usize) -
     ensures { Noted frame.now at end from.old n from.new result }
 {
     let kind = byte_at(frame, 0);
-    if kind == 0 {
-        return n;
-    }
-    if 14 < kind {
+    if kind == 0 || 14 < kind {
         return n;
     }
     from[n] = at as u16;
@@ -36,6 +33,7 @@ pub fn atom_places(sheet: &[u8], from: &mut [u16]) -> usize
 {
     let mut at: usize = 0;
     let mut n: usize = 0;
+    // kept: a frame is entered by its place, which an iterator over frames does not give.
     while at < sheet.len() {
         let frame = frame_at(sheet, at);
         let e = at + frame.len();

@@ -2,18 +2,14 @@
 // refused query or table the line ff number line(2).
 #![tactic(auto)]
 
-use gathering::beside::beside_if;
 use planner::entry::plan;
 use printing::below::PLAN_MOST;
 use printing::{TEXT_ROOM, print_planned};
 use table_file::read_table;
 
-fn plan_beside(text: &[u8], found: bool, table: &[u8], n: usize) {
-    if table.len() < n {
-        return;
-    }
+fn plan_beside(text: &[u8], table: Option<&[u8]>) {
     let mut out = [0u8; PLAN_MOST];
-    let answer = plan(text, beside_if(found), &table[..n], &mut out);
+    let answer = plan(text, table, &mut out);
     print_planned(answer, &out);
 }
 
@@ -21,6 +17,8 @@ fn main(rt: HostRuntime) {
     let mut text = [0u8; TEXT_ROOM];
     let n = io::read_full(0, &mut text);
     let mut table = [0u8; TEXT_ROOM];
-    let file = read_table(&rt, &mut table);
-    plan_beside(&text[..n], file.found, &table, file.size);
+    match read_table(&rt, &mut table) {
+        Some(size) => plan_beside(&text[..n], Some(&table[..size])),
+        None => plan_beside(&text[..n], None),
+    }
 }

@@ -15,7 +15,7 @@ use Rattle.reading_facts.specs.Faults.{is_atom}
 use Rattle.reading_facts.specs.First.{frames_of}
 use Rattle.reading_facts.specs.Counts.{Counts}
 use Rattle.reading_facts.specs.Text.TheVariants.{Query}
-use Rattle.reading_facts.specs.Reading.TheVariants.{Accepted}
+use Rattle.reading_facts.specs.Reading.{Accepted}
 use Rattle.reading_facts.specs.Second.{counts_of, reading}
 use Rattle.reading_facts.proofs.Whole.{count_from, accepted, query_within, frame_bytes}
 use Rattle.plans.specs.Atoms.{Atom}

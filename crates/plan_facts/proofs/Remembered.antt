@@ -1,5 +1,8 @@
 -- What the rounds of the scheduler remember. Each law is by induction over the code's definition, for any property of the tally that a
 -- measured key keeps: the memo only grows, the tallies stay within it, and it has at most 1,024 keys.
+use Rattle.std.specs.Prelude.{Some, None}
+use Rattle.std.specs.Prelude.{Option as OptionOf, Float}
+use Rattle.cost.specs.Settings.{Sampled}
 use Prim.Native.Nat.{ℕ, zero, suc, ◌*◌, ◌≤◌}
 use mathlib.Core.Path.{◌≡◌, refl, sym, ◌∙◌}
 use mathlib.Core.Logic.{◌⊎◌, inl, inr, ◌≢◌}
@@ -15,11 +18,7 @@ use Rattle.reading_facts.specs.Choose.{pick}
 use Rattle.reading_facts.proofs.ChooseLaws.{pick_elim}
 use Rattle.reading_facts.specs.Limits.{items_most, atoms_most}
 use Rattle.cost.specs.SamplerConfig.{SamplerConfig}
-use Rattle.cost.specs.Estimate.{Estimate}
-use Rattle.cost.specs.Estimate.TheVariants.{Accepted, Rejected}
 use Rattle.cost.specs.Statistics.{settings}
-use Rattle.cost.specs.Sampled.{Sampled}
-use Rattle.cost.specs.Sampled.TheVariants.{On, Off}
 use Rattle.plans.specs.Atoms.{Operand, local, global, wild, Atom, Plain, Lit, LitBind, Eq, EqGlobal, Pred, Variadic}
 use Rattle.cost.proofs.Bools.{both, true_false}
 use Rattle.plans.specs.Lists.{Pairs}
@@ -85,10 +84,10 @@ operands_of (Variadic n o cs f) = cs
 abbrev pub All : (Key → Type 0) → List Key → Type 0
 All A l = (k : Key) → Memᴰ k l → A k
 
-module _ (fs : List (List ℕ)) (A : Key → Type 0) (P : Tally → Type 0) (step : (cfg : SamplerConfig) (k : Key) (t : Tally) → settings fs ≡ On cfg → A k → P t → P (after_estimate fs cfg k t)) where
+module _ (fs : List (List ℕ)) (A : Key → Type 0) (P : Tally → Type 0) (step : (cfg : SamplerConfig) (k : Key) (t : Tally) → settings fs ≡ Some cfg → A k → P t → P (after_estimate fs cfg k t)) where
   estimate_keeps : (g : Sampled) (k : Key) (t : Tally) → settings fs ≡ g → A k → P t → P (estimate fs g k t).tally
-  estimate_keeps Off k t e a p = p
-  estimate_keeps (On cfg) k t e a p = step cfg k t e a p
+  estimate_keeps None k t e a p = p
+  estimate_keeps (Some cfg) k t e a p = step cfg k t e a p
 
   by_keeps : (e : Option Emitter) (o path place : ℕ) (t : Tally) → All A (key_by e o path place) → P t → P (sampled_by fs e o path place t).tally
   by_keeps none o path place t a p = p
@@ -168,13 +167,13 @@ pub record Grows (t u : Tally) : Type 0 where
 pub grows_self : (t : Tally) → Grows t t
 grows_self t = record { more = omega arith; tame = λ h. h }
 
-grows_tally : (r : Option Estimate) (k : Key) (t u : Tally) → Grows t u → Grows t (tally_of r k u)
+grows_tally : (r : Option (OptionOf Float)) (k : Key) (t u : Tally) → Grows t u → Grows t (tally_of r k u)
 grows_tally none k t u g = record { more = omega (arith, g.more); tame = λ h. let w = g.tame h in record { tallied_few = omega arith; rejected_few = omega arith } }
-grows_tally (some (Accepted m)) k t u g = record { more = omega (arith, g.more); tame = λ h. let w = g.tame h in record { tallied_few = omega arith; rejected_few = omega arith } }
-grows_tally (some Rejected) k t u g = record { more = omega (arith, g.more); tame = λ h. let w = g.tame h in record { tallied_few = omega arith; rejected_few = omega arith } }
+grows_tally (some (Some m)) k t u g = record { more = omega (arith, g.more); tame = λ h. let w = g.tame h in record { tallied_few = omega arith; rejected_few = omega arith } }
+grows_tally (some None) k t u g = record { more = omega (arith, g.more); tame = λ h. let w = g.tame h in record { tallied_few = omega arith; rejected_few = omega arith } }
 
 -- sampling is not off where it is on
-pub never : {A : Type 0} (cfg : SamplerConfig) → Off ≡ On cfg → A
+pub never : {A : Type 0} (cfg : SamplerConfig) → None ≡ Some cfg → A
 never cfg e = let z : ◌≡◌ {A = ℕ} 0 1 = cc in absurd (omega arith)
 
 module _ (fs : List (List ℕ)) where
@@ -211,7 +210,7 @@ module _ (fs : List (List ℕ)) where
     rounds_tame f = (loop_grows f fresh unplanned).tame (record { tallied_few = omega arith; rejected_few = omega arith })
 
     -- where sampling is off nothing is remembered
-    pub nothing_sampled : (f : ℕ) → settings fs ≡ Off → (rounds fs qs f).memory.tally.memo ≡ []
+    pub nothing_sampled : (f : ℕ) → settings fs ≡ None → (rounds fs qs f).memory.tally.memo ≡ []
     nothing_sampled f off = loop_keeps fs qs (λ m. m.tally.memo ≡ []) (λ m s h. h) (λ m s i h. cost_keeps fs any (λ t. t.memo ≡ []) (λ cfg k t on _ _. never cfg (sym off ∙ on)) m.emitters s.bound i (atom_of qs i) m.tally (λ _ _. tt) h) same f fresh unplanned refl
       where
         same : (o : Option ℕ) (s : State) (m : Memory) → m.tally.memo ≡ [] → (emitted_by fs qs o s m).tally.memo ≡ []
@@ -329,7 +328,7 @@ unknown (x ∷ l) k h y i = by (same_key k x) refl h (Memᴰ.cases_cons i) (λ g
     by false e g (inl q) r = λ p. true_false (same_self k) (rw (← (p ∙ q)) at e)
     by false e g (inr j) r = r g j
 
-asked_tally : (K : List Key) (r : Option Estimate) (k : Key) (t : Tally) → Memᴰ k K → is_known t.memo k ≡ false → Asked K t → Asked K (tally_of r k t)
+asked_tally : (K : List Key) (r : Option (OptionOf Float)) (k : Key) (t : Tally) → Memᴰ k K → is_known t.memo k ≡ false → Asked K t → Asked K (tally_of r k t)
 asked_tally K r k t m h a = by r
   where
     among : All (λ y. Memᴰ y K) (k ∷ t.memo)
@@ -339,10 +338,10 @@ asked_tally K r k t m h a = by r
         at (inl e) = rw e m
         at (inr j) = a.among y j
 
-    by : (r : Option Estimate) → Asked K (tally_of r k t)
+    by : (r : Option (OptionOf Float)) → Asked K (tally_of r k t)
     by none = record { apart = (unknown t.memo k h, a.apart); among = among }
-    by (some (Accepted v)) = record { apart = (unknown t.memo k h, a.apart); among = among }
-    by (some Rejected) = record { apart = (unknown t.memo k h, a.apart); among = among }
+    by (some (Some v)) = record { apart = (unknown t.memo k h, a.apart); among = among }
+    by (some None) = record { apart = (unknown t.memo k h, a.apart); among = among }
 
 pub record FewKeys (t : Tally) : Type 0 where
   pub memo_few : length t.memo ≤ keys_most

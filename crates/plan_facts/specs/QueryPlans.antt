@@ -3,7 +3,7 @@ use Rattle.std.specs.Prelude.{ℕ, ◌+◌, ◌≤◌, ◌≡◌, List, map, len
 use Rattle.reading_facts.specs.Digits.{bytes_of}
 use Rattle.reading_facts.specs.First.{frames_of, first_line}
 use Rattle.reading_facts.specs.Text.TheVariants.{Plan}
-use Rattle.reading_facts.specs.Reading.TheVariants.{Accepted}
+use Rattle.reading_facts.specs.Reading.{Accepted}
 use Rattle.reading_facts.specs.Second.{reading}
 use Rattle.plans.specs.Atoms.{Atom, Step}
 use Rattle.cost.specs.QueryAtoms.{atoms_in}

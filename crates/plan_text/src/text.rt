@@ -12,15 +12,8 @@ ghost use Rattle.writing.specs.Written.{PutsFrames};
 
 use frame_tests::tests::Text;
 use second_reading::lines::counts_of;
-use writing::lines::header;
+use writing::lines::{Head, header};
 use writing::steps::write_steps;
-
-fn narrow(x: usize) -> u16
-    requires { x < 65536 }
-    ensures { result ≡ x }
-{
-    x as u16
-}
 
 // The length of the plan of the first `count` atoms of the order.
 pub fn plan_size(sheet: &[u8], from: &[u16], n: usize, order: &[u8], count: usize) -> usize
@@ -53,16 +46,15 @@ pub fn write_plan(
     ensures { PutsFrames out.old 0 (header_of (counts_in Query sheet.now 0).variables (counts_in Query sheet.now 0).globals (counts_in Query sheet.now 0).literals steps tallied rejected ∷ map frame_of (steps_along (atom_of (sheet_atoms sheet.now)) blank (take count order.now))) out.new result }
 {
     let counts = counts_of(true, Text::Query, sheet, 0);
-    let at = header(
-        out,
-        0,
-        counts.variables,
-        counts.globals,
-        counts.literals,
-        narrow(steps),
-        narrow(tallied),
-        narrow(rejected),
-    );
+    let told = Head {
+        variables: counts.variables,
+        globals: counts.globals,
+        literals: counts.literals,
+        steps: steps as u16,
+        tallied: tallied as u16,
+        rejected: rejected as u16,
+    };
+    let at = header(told, out, 0);
     let mut bound = [false; 64];
     write_steps(sheet, from, n, order, count, &mut bound, out, at)
 }

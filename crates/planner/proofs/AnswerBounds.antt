@@ -10,7 +10,7 @@ use lib.Dec.{ltb}
 use Rattle.reading.proofs.ChooseLaws.{pick_elim}
 use Rattle.reading.specs.Kinds.{query}
 use Rattle.reading.specs.Text.TheVariants.{Query}
-use Rattle.reading.specs.Reading.TheVariants.{Accepted}
+use Rattle.reading.specs.Reading.{Accepted}
 use Rattle.reading.specs.Second.{reading}
 use Rattle.lent_planning.specs.Planner.{Answer, Result, given, plan, plan_of, steps_of, written, fitted, refused_with}
 use Rattle.lent_planning.proofs.Accepted.{few_keys}

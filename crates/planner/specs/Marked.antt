@@ -1,6 +1,7 @@
 -- The marked examples that concern the planner, together in a single statement over a table: the refusal table's, the worked plan, the empty
 -- query with outputs of 20 and 21 bytes, a tie of two equal Plains, each from text to text; the three selectivities and the roots of 0 and
 -- 2.25, by their bits.
+use Rattle.std.specs.Prelude.{Some}
 use Rattle.std.specs.Prelude.{ℕ, ◌≡◌, refl, replicate}
 use Rattle.std.proofs.Math.Option.{none}
 use mathlib.Core.List.{List, [], ◌∷◌, map, ◌++◌, flat_map}
@@ -9,7 +10,6 @@ use Rattle.std.specs.Float.{binary64}
 use Rattle.std.specs.Float.Ieee.{of_int, of_bits, to_bits, lt, mul, div}
 use Rattle.lent_planning.specs.Sqrt.{whole_root, sqrt}
 use Rattle.lent_planning.specs.Selectivity.{path_selectivity}
-use Rattle.lent_planning.specs.FanOut.TheVariants.{Measured}
 use Rattle.reading.specs.Lines.{split}
 use Rattle.reading.specs.Fields.{field_passes}
 use Rattle.reading.specs.Kinds.{kind_at, query as query_text}
@@ -85,7 +85,7 @@ pub record Mark : Type 0 where
   pub is : ℕ
 
 abbrev selectivity : ℕ → ℕ → ℕ
-selectivity fanout denom = to_bits binary64 (path_selectivity (Measured (of_bits binary64 fanout)) denom)
+selectivity fanout denom = to_bits binary64 (path_selectivity (Some (of_bits binary64 fanout)) denom)
 
 unfoldable pub numbers : List Mark
 unfolding to_bits of_bits div lt of_int

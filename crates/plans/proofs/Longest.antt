@@ -12,7 +12,7 @@ use Rattle.records.specs.Choose.{pick}
 use Rattle.records.specs.First.{frames_of}
 use Rattle.records.specs.Counts.{Counts}
 use Rattle.records.specs.Text.TheVariants.{Plan}
-use Rattle.records.specs.FirstReadingReading.TheVariants.{Accepted}
+use Rattle.records.specs.FirstReadingReading.{Accepted}
 use Rattle.records.specs.Second.{reading}
 use Rattle.records.proofs.TabulateLaws.{tabulate_length}
 use Rattle.records.specs.Atoms.{Operand, local, global, wild, Atom, Plain, Lit, LitBind, Eq, EqGlobal, Pred, Variadic, Lookup, Expansion, ExpandA, DecomposeAC, DecomposeACI, Step, Join, Expand}

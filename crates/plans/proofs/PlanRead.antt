@@ -20,7 +20,7 @@ use Rattle.records.specs.First.{frames_of, line_fault, first_lines, first_from, 
 use Rattle.records.specs.Counts.{Counts}
 use Rattle.records.specs.Text.TheVariants.{Plan}
 use Rattle.records.specs.FirstReadingReading.{Reading}
-use Rattle.records.specs.FirstReadingReading.TheVariants.{Accepted}
+use Rattle.records.specs.FirstReadingReading.{Accepted}
 use Rattle.records.specs.Keys.{key_given}
 use Rattle.records.specs.FromTable.{takes_table}
 use Rattle.records.specs.Leading.{leads}

@@ -1,4 +1,2 @@
 // The plan as text: definitions in specs/, theorems in proofs/.
 #![tactic(auto)]
-
-pub mod below;

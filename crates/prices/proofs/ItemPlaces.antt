@@ -18,5 +18,5 @@ use Rattle.prices.specs.declared.items.Item.{Item}
 pub items_are : (f : List ℕ) (k i w n o : ℕ) → k ≡ get_or f 0 0 → (i ≡ fixed_length (kind_at k)) × (i < 16) → (w ≡ width (kind_at k).item) × (w < 16) → (n ≡ items_of (kind_of f) f) × (n < 256) → o ≡ get_or f 2 0 → ItemsOf f (record { first = i; width = w; count = n; op = o; elements = ltb 6 k })
 items_are f k i w n o is hi hw hn ho = record { first = hi.0 ∙ rw is; width = hw.0 ∙ rw is; count = hn.0; op = ho; elements = rw is; early = hi.1; narrow = hw.1; few = hn.1 }
 
-pub item_is : (f : List ℕ) (g : Items) (k : ℕ) (B : Bound) (p : ℕ) (b : Bool) → p ≡ k → b ≡ pv_is_bound B (operand_at f (g.first + g.width * k)) → ◌≡◌ {A = Item} (record { at = g.first + g.width * k; position = p; op = g.op; element = g.elements; bound = b }) (item_at f g k B)
-item_is f g k B p b hp hb = rw (hp, hb)
+pub item_is : (f : List ℕ) (g : Items) (k : ℕ) (B : Bound) (b : Bool) → b ≡ pv_is_bound B (operand_at f (g.first + g.width * k)) → ◌≡◌ {A = Item} (record { at = g.first + g.width * k; position = k; op = g.op; element = g.elements; bound = b }) (item_at f g k B)
+item_is f g k B b hb = rw hb

@@ -1,4 +1,6 @@
 -- The rows of the table of prices: what is read of them, and how they are filled. Proved by the places that each store leaves alone.
+use Rattle.std.specs.Prelude.{Some, None}
+use Rattle.std.specs.Prelude.{Option as OptionOf}
 use Prim.Native.Nat.{ℕ, ◌+◌, ◌-◌, ◌*◌, ◌<◌, ◌≤◌}
 use mathlib.Core.Path.{◌≡◌, refl, sym, ◌∙◌, ap}
 use mathlib.Core.Bool.{Bool, true, false}
@@ -13,8 +15,6 @@ use Rattle.frames.specs.Sheet.{frame_at, frames_in}
 use Rattle.kinds.specs.Kinds.{items_of}
 use Rattle.frames.specs.Frames.{kind_of}
 use Rattle.measure.specs.Selectivity.{zero64, path_selectivity}
-use Rattle.measure.specs.declared.FanOut.{FanOut}
-use Rattle.measure.specs.declared.FanOut.TheVariants.{Measured, Unmeasured}
 use Rattle.passes.specs.Statistics.{base_card, denominator, by_child_pos, by_contains, by_repr, nodes}
 use Rattle.passes.specs.Bound.{Bound}
 use Rattle.prices.specs.Items.{item_fan, or_fan, ItemsOf, item_at, repr_selectivity, repr_cost}
@@ -38,11 +38,11 @@ item_priced fs f g k B x ps z w e h =
     let l : k < items_of (kind_of f) f = rw z.count at h in
     rw e record { room = omega (arith, w.room); is = rw (z.op, z.elements) (w.is k l) }
 
-module _ (fs : List (List ℕ)) (x : Item) (v : FanOut) where
-  pub by_sample : (y : Float) (d : ℕ) (r : Float) → v ≡ Measured y → d ≡ denominator fs x.op → r ≡ path_selectivity v d → r ≡ path_selectivity (or_fan v (item_fan fs x.op x.element x.position)) (denominator fs x.op)
+module _ (fs : List (List ℕ)) (x : Item) (v : OptionOf Float) where
+  pub by_sample : (y : Float) (d : ℕ) (r : Float) → v ≡ Some y → d ≡ denominator fs x.op → r ≡ path_selectivity v d → r ≡ path_selectivity (or_fan v (item_fan fs x.op x.element x.position)) (denominator fs x.op)
   by_sample y d r e hd h = h ∙ rw (hd, e)
 
-  pub by_row : (ps : List Float) (p : ℕ) (d : Float) → v ≡ Unmeasured → ItemPriced fs x ps → p ≡ x.position → get_or ps (p + 2) d ≡ path_selectivity (or_fan v (item_fan fs x.op x.element x.position)) (denominator fs x.op)
+  pub by_row : (ps : List Float) (p : ℕ) (d : Float) → v ≡ None → ItemPriced fs x ps → p ≡ x.position → get_or ps (p + 2) d ≡ path_selectivity (or_fan v (item_fan fs x.op x.element x.position)) (denominator fs x.op)
   by_row ps p d e w h = rw (e, h) (any_default ps (x.position + 2) d zero64 w.room ∙ w.is)
 
 -- the row of atom number k, as a part of the table
@@ -57,7 +57,7 @@ module _ (x from : List ℕ) (n : ℕ) (ps : List Float) (w : Priced x from n ps
 
 -- ---- how a row is filled
 
-module _ (fs : List (List ℕ)) (o p : ℕ) (t : Bool) (f : FanOut) where
+module _ (fs : List (List ℕ)) (o p : ℕ) (t : Bool) (f : OptionOf Float) where
   pub element_fan : t ≡ true → f ≡ by_contains fs o → f ≡ item_fan fs o t p
   element_fan h e = rw h e
 
@@ -76,7 +76,7 @@ module _ (fs : List (List ℕ)) (g : Items) (ps : List Float) where
       pub item_slot : j + 2 < length qs
       item_slot = omega (arith, m.size)
 
-      pub items_again : (d p : ℕ) (v : FanOut) (e : Float) → d ≡ denominator fs g.op → p ≡ j → v ≡ item_fan fs g.op g.elements p → e ≡ path_selectivity v d → ItemsPriced fs g (j + 1) ps (set qs (j + 2) e)
+      pub items_again : (d p : ℕ) (v : OptionOf Float) (e : Float) → d ≡ denominator fs g.op → p ≡ j → v ≡ item_fan fs g.op g.elements p → e ≡ path_selectivity v d → ItemsPriced fs g (j + 1) ps (set qs (j + 2) e)
       items_again d p v e hd hp hv he = record {
         few = omega arith;
         size = length-set qs (j + 2) e ∙ m.size;
@@ -91,7 +91,7 @@ module _ (fs : List (List ℕ)) (g : Items) (ps : List Float) where
           at i k false t =
               let a : j ≤ i = ltb-false i j t in
               let z : i ≡ j = omega arith in
-              rw z (get_or-set_same qs (j + 2) e zero64 item_slot ∙ rw (he, hv, hp, hd))
+              rw z (get_or-set_same qs (j + 2) e zero64 item_slot ∙ rw (he, hv, hd, hp))
 
 -- as many numbers with the first two set
 module _ (ps : List Float) (b e : Float) where
@@ -120,7 +120,7 @@ row_filled fs f k g ps qs b r l z hb hr m = record {
 
 -- ---- the table
 
-pub repr_is : (fs : List (List ℕ)) (n : ℕ) (r s : Float) → r ≡ by_repr fs → n ≡ nodes fs → s ≡ path_selectivity (Measured r) n → s ≡ repr_selectivity fs
+pub repr_is : (fs : List (List ℕ)) (n : ℕ) (r s : Float) → r ≡ by_repr fs → n ≡ nodes fs → s ≡ path_selectivity (Some r) n → s ≡ repr_selectivity fs
 repr_is fs n r s hr hn hs = hs ∙ rw (hr, hn)
 
 -- k of n rows are filled in ps, which is ps₀ before
@@ -156,7 +156,7 @@ module _ (x from : List ℕ) (n : ℕ) (ps₀ : List Float) where
         pub row_room : FewItems x from n → items_of (kind_of l) l + 2 ≤ length (take (row_size * k + row_size - row_size * k) (drop (row_size * k) ps))
         row_room z = rw (row_length, hl) (z.few k h)
 
-        module _ (r : List Float) (i : ℕ) (s : length r ≡ length (take (row_size * k + row_size - row_size * k) (drop (row_size * k) ps))) (hi : i ≡ k) (w : AtomPrices (frames_in x) l i r) where
+        module _ (r : List Float) (s : length r ≡ length (take (row_size * k + row_size - row_size * k) (drop (row_size * k) ps))) (w : AtomPrices (frames_in x) l k r) where
           abbrev behind : List Float
           behind = drop (row_size * k + row_size - row_size * k) (drop (row_size * k) ps)
 
@@ -188,4 +188,4 @@ module _ (x from : List ℕ) (n : ℕ) (ps₀ : List Float) where
               at j t false b =
                   let a : k ≤ j = ltb-false j k b in
                   let z : j ≡ k = omega arith in
-                  rw (z, this_row, ← hl) (rw hi at w)
+                  rw (z, this_row, ← hl) w

@@ -2,7 +2,6 @@
 ghost use Rattle.std.specs.Prelude.{◌≡◌, ◌+◌, ◌*◌, ◌<◌};
 ghost use Rattle.prices.specs.Items.{ItemsOf, item_at};
 
-use fields::field::narrow;
 use frames::frame::items_of;
 use hexadecimal::byte_at;
 use kinds::table::{fixed_length, item_width};
@@ -51,7 +50,7 @@ pub fn item_at(frame: &[u8], g: Items, k: usize, bound: &[bool]) -> Item
     let at = g.first + g.width * k;
     Item {
         at,
-        position: narrow(k),
+        position: k as u8,
         op: g.op,
         element: g.elements,
         bound: pv_is_bound(frame, at, bound),

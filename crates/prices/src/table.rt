@@ -9,8 +9,7 @@ ghost use Rattle.prices.specs.Items.{item_fan, repr_selectivity};
 ghost use Rattle.prices.specs.Prices.{row_size, ItemsPriced, AtomPrices, FewItems, Priced};
 
 use super::items::{Items, items_at};
-use fields::field::narrow;
-use measure::{FanOut, path_selectivity};
+use measure::path_selectivity;
 use passes::below::{base_card, by_child_pos, by_contains, by_repr, denominator, nodes};
 use passes::eager::atom_line;
 
@@ -30,7 +29,7 @@ pub fn row_of(prices: &[f64], k: usize) -> &[f64]
 }
 
 // The measured fan-out of an item at a position.
-fn item_fan(sheet: &[u8], index: &[u16], g: Items, position: u8) -> FanOut
+fn item_fan(sheet: &[u8], index: &[u16], g: Items, position: u8) -> Option<f64>
     requires { Given sheet.now index.now }
     ensures { result ≡ item_fan (frames_in sheet.now) g.op g.elements position }
 {
@@ -48,12 +47,9 @@ fn fill_items(sheet: &[u8], index: &[u16], g: Items, row: &mut [f64])
     ensures { ItemsPriced (frames_in sheet.now) g g.count row.old row.new }
 {
     let denom = denominator(sheet, index, g.op);
-    let n = g.count;
-    let mut j: usize = 0;
-    while j < n {
-        let fan = item_fan(sheet, index, g, narrow(j));
+    for j in 0..g.count {
+        let fan = item_fan(sheet, index, g, j as u8);
         row[j + 2] = path_selectivity(fan, denom);
-        j += 1;
     }
 }
 
@@ -79,13 +75,11 @@ pub fn fill_prices(sheet: &[u8], index: &[u16], from: &[u16], n: usize, prices: 
     requires given { Given sheet.now index.now }
     ensures { Priced sheet.now from.now n prices.new }
 {
-    let repr = path_selectivity(FanOut::Measured(by_repr(sheet, index)), nodes(sheet, index));
-    let mut k: usize = 0;
-    while k < n {
+    let repr = path_selectivity(Some(by_repr(sheet, index)), nodes(sheet, index));
+    for k in 0..n {
         let frame = atom_line(sheet, from, k);
         let at = ROW_SIZE * k;
         let end = at + ROW_SIZE;
-        fill_row(sheet, index, frame, narrow(k), repr, &mut prices[at..end]);
-        k += 1;
+        fill_row(sheet, index, frame, k as u8, repr, &mut prices[at..end]);
     }
 }

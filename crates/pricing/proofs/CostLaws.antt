@@ -1,4 +1,5 @@
 -- What an atom's kind says of its cost. Proved kind by kind.
+use Rattle.cost.specs.Settings.{Sampled}
 use Prim.Native.Nat.{ℕ, ◌≤◌}
 use mathlib.Core.Path.{◌≡◌, refl, sym, subst, ◌∙◌}
 use mathlib.Core.Bool.{Bool, true, false, not}
@@ -12,7 +13,6 @@ use Rattle.cost.specs.Faults.{is_atom}
 use Rattle.cost.specs.Kinds.{kinds, kind_at}
 use Rattle.cost.specs.Selectivity.{zero64}
 use Rattle.cost.specs.Statistics.{base_card}
-use Rattle.cost.specs.Sampled.{Sampled}
 use Rattle.cost.specs.Atoms.{Atom, Plain, Lit, LitBind, Eq, EqGlobal, Pred, Variadic}
 use Rattle.cost.specs.Bound.{Bound, has}
 use Rattle.cost.specs.Scheduling.{scans}

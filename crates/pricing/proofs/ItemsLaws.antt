@@ -1,4 +1,5 @@
 -- The cost of the items of an atom, one behind the other. Proved by induction on how many.
+use Rattle.cost.specs.Settings.{Sampled}
 use Prim.Native.Nat.{ℕ, suc, ◌+◌, ◌-◌, ◌*◌, ◌<◌, ◌≤◌}
 use mathlib.Core.Path.{◌≡◌, refl, sym, ◌∙◌, subst}
 use mathlib.Core.Bool.{Bool, true, false}
@@ -7,7 +8,6 @@ use native.Mathlib.Omega.{arith}
 use native.Mathlib.Numerals.{add-one}
 use lib.Ieee.{Float}
 use lib.ListN.{length}
-use Rattle.cost.specs.Sampled.{Sampled}
 use Rattle.cost.specs.Atoms.{Operand}
 use Rattle.cost.specs.Bound.{Bound}
 use Rattle.cost.specs.Emitters.{Emitters}

@@ -23,10 +23,7 @@ use lowering::atom::scans;
 fn is_literal(kind: u8) -> bool
     ensures { result ≡ literal_kind kind }
 {
-    if kind == 2 {
-        return true;
-    }
-    kind == 3
+    kind == 2 || kind == 3
 }
 
 // The cost of atom number k, by its frame.
@@ -50,20 +47,20 @@ pub fn estimate_cost(
     requires atom_prices { AtomPrices (frames_in sheet.now) frame.now k row.now }
     ensures { Stands (frames_in sheet.now) s.how keys.new values.new result (estimate_cost (frames_in sheet.now) (map decode em.now) bound.now k (atom_of_frame frame.now) (tally_at keys.old s)) }
 {
+    let mut c = Costed {
+        cost: 0.0,
+        tallies: s,
+    };
     if !scans(frame) {
-        return Costed {
-            cost: 0.0,
-            tallies: s,
-        };
+        return c;
     }
-    let cost = row[0];
+    c.cost = row[0];
     if is_literal(byte_at(frame, 0)) {
-        return Costed { cost, tallies: s };
+        return c;
     }
     if is_set(bound, byte_at(frame, 1)) {
-        let cost = row[1];
-        return Costed { cost, tallies: s };
+        c.cost = row[1];
+        return c;
     }
-    let c = Costed { cost, tallies: s };
     item_costs(sheet, index, frame, row, bound, em, keys, values, c)
 }

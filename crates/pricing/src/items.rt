@@ -30,13 +30,10 @@ pub fn item_costs(
     ensures { Stands (frames_in sheet.now) start.tallies.how keys.new values.new result (frame_costs (frames_in sheet.now) (map decode em.now) bound.now frame.now (cost_at keys.old start)) }
 {
     let g = items_at(frame);
-    let n = g.count;
     let mut c = start;
-    let mut k: usize = 0;
-    while k < n {
+    for k in 0..g.count {
         let x = item_at(frame, g, k, bound);
         c = item_cost(sheet, index, frame, row, x, em, keys, values, c);
-        k += 1;
     }
     c
 }

@@ -1,2 +1,3 @@
 // What crates above take from those below this one.
-pub use fitting::fit::{PLAN_MOST, Planned};
+pub use fitting::below::Refusal;
+pub use fitting::fit::{PLAN_MOST, Written};

@@ -4,11 +4,14 @@
 pub mod below;
 
 use answer_lines::{end_line, refusal_line, run_refusal_line};
-use entries::run::{Outcome, status_number};
-use fitting::fit::Planned;
+use entries::run::{Ran, status_number};
+use fitting::below::Refusal;
+use fitting::fit::Written;
 
 // Room for a text: one byte more than it may have, so that a longer text is seen to be too long.
 pub const TEXT_ROOM: usize = 65537;
+
+// kept: an output is bytes and no text, so that std's printing would hand the runtime to each of these functions and say no more.
 
 // A refused query, or table beside it: the line ff number line(2).
 pub fn print_refusal(number: u8, line: usize) {
@@ -23,10 +26,10 @@ pub fn print_written(out: &[u8], n: usize) {
     }
 }
 
-pub fn print_planned(answer: Planned, out: &[u8]) {
+pub fn print_planned(answer: Result<Written, Refusal>, out: &[u8]) {
     match answer {
-        Planned::Written(size, _, _, _) => print_written(out, size),
-        Planned::Refused(number, _, line) => print_refusal(number, line),
+        Ok(written) => print_written(out, written.bytes),
+        Err(f) => print_refusal(f.number, f.line),
     }
 }
 
@@ -48,15 +51,15 @@ fn print_ran(out: &[u8], status: u8, tries: u64, matches: u64, written: usize) {
     print_end(status, tries, matches);
 }
 
-pub fn print_run(answer: Outcome, out: &[u8]) {
+pub fn print_run(answer: Result<Ran, Refusal>, out: &[u8]) {
     match answer {
-        Outcome::Refused(number, text, line) => print_run_refusal(number, text, line),
-        Outcome::Ran(status, tries, matches, written) => print_ran(
+        Ok(ran) => print_ran(
             out,
-            status_number(status),
-            tries,
-            matches,
-            written,
+            status_number(ran.status),
+            ran.tries,
+            ran.matches,
+            ran.written,
         ),
+        Err(f) => print_run_refusal(f.number, f.text_number(), f.line),
     }
 }

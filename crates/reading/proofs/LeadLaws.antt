@@ -19,7 +19,7 @@ use Rattle.second_reading.specs.Faults.{belongs}
 use Rattle.second_reading.specs.Text.{Text}
 use Rattle.second_reading.specs.Text.TheVariants.{Query, Plan, Table}
 use Rattle.second_reading.specs.First.{frames_of, first_reading, Sheet}
-use Rattle.second_reading.specs.Reading.TheVariants.{Accepted}
+use Rattle.second_reading.specs.Reading.{Accepted}
 use Rattle.second_reading.specs.Leading.{has_leaders}
 use Rattle.second_reading.specs.Rereading.{LeadersFor}
 use Rattle.reading.specs.IndexedReading.{TablesLead}

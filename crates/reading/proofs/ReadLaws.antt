@@ -6,7 +6,7 @@ use lib.ListN.{length, take}
 use lib.Seq.{length-take-le}
 use Rattle.second_reading.specs.First.{sheet_size, Sheet}
 use Rattle.second_reading.specs.Reading.{Reading}
-use Rattle.second_reading.specs.Reading.TheVariants.{Accepted}
+use Rattle.second_reading.specs.Reading.{Accepted}
 use Rattle.second_reading.specs.Index.{Indexed}
 use Rattle.reading.specs.IndexedReading.{ReadIndexed}
 

@@ -1,5 +1,4 @@
 // What crates above take from those below this one.
 pub use second_reading::below::{
-    byte_at, find_where, fixed_length, frame_at, is_atom, item_width, items_of, short_at, wide,
-    wide_short,
+    byte_at, find_where, fixed_length, frame_at, is_atom, item_width, items_of, short_at,
 };

@@ -23,7 +23,7 @@ use Rattle.reading.specs.Test.TheVariants.{Limits, Range, Reals}
 use Rattle.reading.specs.Text.{Text}
 use Rattle.reading.specs.Text.TheVariants.{Query, Plan, Table}
 use Rattle.reading.specs.Reading.{Reading}
-use Rattle.reading.specs.Reading.TheVariants.{Accepted, Refused}
+use Rattle.reading.specs.Reading.{Accepted, Refused}
 use Rattle.reading.specs.Keys.{key_given}
 use Rattle.reading.specs.FromTable.{takes_table, table_for}
 use Rattle.reading.specs.Leading.{leads, has_leaders, leader_led, is_leader}

@@ -20,7 +20,7 @@ use Rattle.reading.specs.Counts.{Counts}
 use Rattle.reading.specs.Text.{Text}
 use Rattle.reading.specs.Text.TheVariants.{Query, Plan, Table}
 use Rattle.reading.specs.Reading.{Reading}
-use Rattle.reading.specs.Reading.TheVariants.{Accepted}
+use Rattle.reading.specs.Reading.{Accepted}
 use Rattle.reading.specs.Keys.{begins, find, is_found, key_of, key_given}
 use Rattle.reading.specs.FromTable.{takes_table}
 use Rattle.reading.specs.Leading.{chained}

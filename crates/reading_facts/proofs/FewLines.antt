@@ -17,7 +17,7 @@ use Rattle.reading.specs.Counts.{Counts}
 use Rattle.reading.specs.Text.{Text}
 use Rattle.reading.specs.Text.TheVariants.{Query, Plan, Table}
 use Rattle.reading.specs.Reading.{Reading}
-use Rattle.reading.specs.Reading.TheVariants.{Accepted, Refused}
+use Rattle.reading.specs.Reading.{Accepted, Refused}
 use Rattle.reading.specs.FromTable.{table_for}
 use Rattle.reading.specs.Second.{counts_by, second_fault, second_from, second, reading_by, reading, query_reading}
 use Rattle.reading_facts.proofs.AnswersLaws.{too_long, empty_query, empty_plan, empty_table}

@@ -13,7 +13,7 @@ use Rattle.reading.specs.First.{frames_of, line_fault, first_lines, first_from, 
 use Rattle.reading.specs.Text.{Text}
 use Rattle.reading.specs.Text.TheVariants.{Query, Plan, Table}
 use Rattle.reading.specs.Reading.{Reading}
-use Rattle.reading.specs.Reading.TheVariants.{Accepted, Refused}
+use Rattle.reading.specs.Reading.{Accepted, Refused}
 use Rattle.reading.specs.FromTable.{table_for}
 use Rattle.reading.specs.Second.{counts_by, second, reading_by, reading, query_reading}
 

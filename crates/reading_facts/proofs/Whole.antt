@@ -28,7 +28,7 @@ use Rattle.reading.specs.Test.TheVariants.{Limits, Range, Reals}
 use Rattle.reading.specs.Text.{Text}
 use Rattle.reading.specs.Text.TheVariants.{Query, Plan, Table}
 use Rattle.reading.specs.Reading.{Reading}
-use Rattle.reading.specs.Reading.TheVariants.{Accepted, Refused}
+use Rattle.reading.specs.Reading.{Accepted, Refused}
 use Rattle.reading.specs.Keys.{begins, find, is_found, key_of, key_given}
 pub use Rattle.reading.proofs.Formed.{Formed, count_from}
 use Rattle.reading.proofs.ReadingLaws.{or_passes}

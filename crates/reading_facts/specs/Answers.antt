@@ -2,7 +2,7 @@
 use Rattle.std.specs.Prelude.{ℕ}
 use Rattle.reading.specs.Text.{Text}
 use Rattle.reading.specs.Reading.{Reading}
-use Rattle.reading.specs.Reading.TheVariants.{Accepted, Refused}
+use Rattle.reading.specs.Reading.{Accepted, Refused}
 
 -- ---- number, text and line of an answer about the text t; an accepted text has number 0
 

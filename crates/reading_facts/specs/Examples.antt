@@ -9,7 +9,7 @@ use Rattle.reading.specs.Frames.{pass_all}
 use Rattle.reading.specs.Text.{Text}
 use Rattle.reading.specs.Text.TheVariants.{Query, Plan, Table}
 use Rattle.reading.specs.Reading.{Reading}
-use Rattle.reading.specs.Reading.TheVariants.{Accepted, Refused}
+use Rattle.reading.specs.Reading.{Accepted, Refused}
 use Rattle.reading.specs.Leading.{is_leader}
 use Rattle.reading.specs.Second.{reading, query_reading}
 use Rattle.reading_facts.specs.Answers.{number_of}

@@ -1,13 +1,14 @@
 -- Atoms recorded by their numbers: those whose use has changed, from the lowest on, give what `record_emitters` gives. Proved by induction on the atoms left.
-use Prim.Native.Nat.{ℕ, zero, suc, ◌+◌, ◌-◌, ◌<◌, ◌≤◌}
-use mathlib.Core.Path.{◌≡◌, refl, sym, ◌∙◌}
+use Prim.Native.Nat.{ℕ, zero, suc, ◌+◌, ◌-◌, ◌<◌, ◌≤◌, min}
+use mathlib.Core.Path.{◌≡◌, refl, sym, ◌∙◌, ap}
 use mathlib.Core.Bool.{Bool, true, false, beq}
 use mathlib.Core.List.{List, [], ◌∷◌, ◌++◌, map, append_assoc, append-nil}
 use native.Mathlib.Omega.{arith}
 use native.Mathlib.Numerals.{add-one}
-use lib.ListN.{length, get_or, take, drop, set, length-set, length-take, drop_of_length-le}
-use lib.Seq.{drop-cons, take-suc-set, get_or-take}
-use borrow.Author.Tests.{lt-ltb, le-ltb}
+use lib.ListN.{length, get_or, take, drop, set, length-set, drop_of_length-le}
+use lib.Seq.{drop-cons, take-suc-set, take_all}
+use lib.Dec.{leb}
+use borrow.Author.Tests.{lt-ltb, le-ltb, leb-true, leb-false}
 use Rattle.hexadecimal.specs.Choose.{pick}
 use Rattle.frames.specs.Sheet.{frame_at}
 use Rattle.binding.specs.Atoms.{Atom, Eq}
@@ -72,40 +73,42 @@ module _ (B U : Bound) (qs : List Atom) where
 -- ---- an atom by its number, and the numbers of a list in turn
 
 module _ (x from : List ℕ) (n : ℕ) (z : Located x from n) where
-  pub number_none : (em : Emitters) (k i : ℕ) → (i ≡ k) × (i < 256) → n ≤ i → em ≡ record_number (sheet_atoms x) em k
-  number_none em k i e h = rw (le-ltb k (length (sheet_atoms x)) (omega (arith, z.count, e.0)))
+  pub number_none : (em : Emitters) (k i : ℕ) → i ≡ k → n ≤ i → em ≡ record_number (sheet_atoms x) em k
+  number_none em k i e h = rw (le-ltb k (length (sheet_atoms x)) (omega (arith, z.count, e)))
 
-  pub number_some : (em o : Emitters) (k i : ℕ) (f : List ℕ) → (i ≡ k) × (i < 256) → i < n → f ≡ frame_at x (get_or from i 0) → o ≡ record_atom em k (atom_of_frame f) → o ≡ record_number (sheet_atoms x) em k
+  pub number_some : (em o : Emitters) (k i : ℕ) (f : List ℕ) → i ≡ k → i < n → f ≡ frame_at x (get_or from i 0) → o ≡ record_atom em k (atom_of_frame f) → o ≡ record_number (sheet_atoms x) em k
   number_some em o k i f e h line is =
-      let a : atom_of (sheet_atoms x) k ≡ atom_of_frame f = rw (← e.0, line) (z.is i h) in
-      rw (lt-ltb k (length (sheet_atoms x)) (omega (arith, z.count, e.0)), a) is
+      let a : atom_of (sheet_atoms x) k ≡ atom_of_frame f = rw (← e, line) (z.is i h) in
+      rw (lt-ltb k (length (sheet_atoms x)) (omega (arith, z.count, e)), a) is
 
--- j of the first m numbers are recorded, and those left give the rest
-pub record Numbered (x : List ℕ) (l : List ℕ) (m : ℕ) (em₀ em : List ℕ) (j : ℕ) : Type 0 where
+-- j of the numbers are recorded, and those left give the rest
+pub record Numbered (x ns em₀ em : List ℕ) (j : ℕ) : Type 0 where
   pub size : length em ≡ length em₀
-  pub is : record_numbers (sheet_atoms x) (drop j (take m l)) (map decode em) ≡ record_numbers (sheet_atoms x) (take m l) (map decode em₀)
+  pub is : record_numbers (sheet_atoms x) (drop j ns) (map decode em) ≡ record_numbers (sheet_atoms x) ns (map decode em₀)
 
-module _ (x l : List ℕ) (m : ℕ) (em₀ : List ℕ) where
-  pub numbered_none : Numbered x l m em₀ em₀ 0
+module _ (x ns em₀ : List ℕ) where
+  pub numbered_none : Numbered x ns em₀ em₀ 0
   numbered_none = record { size = refl; is = refl }
 
-  module _ (em : List ℕ) (j : ℕ) (r : Numbered x l m em₀ em j) where
+  module _ (em : List ℕ) (j : ℕ) (r : Numbered x ns em₀ em j) where
     pub numbered_sized : length em₀ ≡ bound_most → length em ≡ bound_most
     numbered_sized s = r.size ∙ s
 
-    pub numbered_more : (o : List ℕ) (d : ℕ) → j < m → j < length l → length o ≡ length em → map decode o ≡ record_number (sheet_atoms x) (map decode em) (get_or l j d) → Numbered x l m em₀ o (j + 1)
+    pub numbered_more : (o : List ℕ) (d : ℕ) → j < length ns → length o ≡ length em → map decode o ≡ record_number (sheet_atoms x) (map decode em) (get_or ns j d) → Numbered x ns em₀ o (j + 1)
     unfolding record_numbers
-    numbered_more o d h g s is = record {
-      size = s ∙ r.size;
-      is = rw (add-one j, is, ← get_or-take m l j d h) (rw (drop-cons (take m l) j d (omega (arith, length-take m l))) at r.is);
-    }
+    numbered_more o d h s is = record { size = s ∙ r.size; is = rw (add-one j, is) (rw (drop-cons ns j d h) at r.is) }
 
-    numbered_end : length (take m l) ≤ j → map decode em ≡ record_numbers (sheet_atoms x) (take m l) (map decode em₀)
+    numbered_end : length ns ≤ j → map decode em ≡ record_numbers (sheet_atoms x) ns (map decode em₀)
     unfolding record_numbers
-    numbered_end h = rw (drop_of_length-le (take m l) h) at r.is
+    numbered_end h = rw (drop_of_length-le ns h) at r.is
 
-    pub numbered_all : m ≤ j → map decode em ≡ record_numbers (sheet_atoms x) (take m l) (map decode em₀)
-    numbered_all h = numbered_end (omega (arith, length-take m l))
-
-    pub numbered_whole : length l ≤ j → map decode em ≡ record_numbers (sheet_atoms x) (take m l) (map decode em₀)
-    numbered_whole h = numbered_end (omega (arith, length-take m l))
+-- all of the first m, or of as many as there are
+pub numbered_all : (x l em₀ em : List ℕ) (m e j : ℕ) → Numbered x (take e l) em₀ em j → e ≡ min m (length l) → length (take e l) ≤ j → map decode em ≡ record_numbers (sheet_atoms x) (take m l) (map decode em₀)
+numbered_all x l em₀ em m e j r s h = rw whole (numbered_end x (take e l) em₀ em j r h)
+  where
+    whole : take m l ≡ take e l
+    whole = by (leb m (length l)) refl
+      where
+        by : (t : Bool) → leb m (length l) ≡ t → take m l ≡ take e l
+        by true q = let z : m ≡ e = omega (arith, s, leb-true m (length l) q) in ap (λ (n : ℕ). take n l) z
+        by false q = let g : length l < m = leb-false m (length l) q in take_all m l (omega arith) ∙ sym (take_all e l (omega (arith, s)))

@@ -1,9 +1,11 @@
 -- What an atom's kind says of the emitters it gives. Proved kind by kind.
-use Prim.Native.Nat.{ℕ}
+use Prim.Native.Nat.{ℕ, ◌<◌, ◌≤◌}
 use mathlib.Core.Path.{◌≡◌, refl, sym, subst, ◌∙◌}
-use mathlib.Core.Bool.{Bool, true}
+use mathlib.Core.Bool.{Bool, true, false}
 use mathlib.Core.List.{List, ◌∷◌}
-use lib.Dec.{T, ltb}
+use lib.Dec.{T, eqb, ltb}
+use native.Mathlib.Omega.{arith}
+use borrow.Author.Tests.{eqb-true, eqb-false}
 use lib.ListN.{length, get_or}
 use Rattle.binding.specs.Faults.{is_atom}
 use Rattle.kinds.specs.Kinds.{kinds, kind_at}
@@ -44,6 +46,14 @@ module _ (f : List ℕ) (k : ℕ) (is : k ≡ get_or f 0 0) where
   pub record_global : (em : Emitters) (i : ℕ) → k ≡ 5 → em ≡ record_atom em i (atom_of_frame f)
   unfolding atom_of_frame record_atom
   record_global em i h = rw (← is, h)
+
+  -- neither gives one
+  pub record_none : (em : Emitters) (i : ℕ) → 5 ≤ k → k < 7 → em ≡ record_atom em i (atom_of_frame f)
+  record_none em i l h = by (eqb k 5) refl
+    where
+      by : (t : Bool) → eqb k 5 ≡ t → em ≡ record_atom em i (atom_of_frame f)
+      by true e = record_global em i (eqb-true k 5 e)
+      by false e = record_pred em i (omega (arith, eqb-false k 5 e))
 
   pub record_eq : (em o : Emitters) (i a b : ℕ) → k ≡ 4 → a ≡ get_or f 1 0 → b ≡ get_or f 2 0 → o ≡ copy_emitter (emitter_of em a) (emitter_of em b) em a b → o ≡ record_atom em i (atom_of_frame f)
   unfolding atom_of_frame record_atom

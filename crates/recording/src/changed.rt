@@ -4,7 +4,6 @@ ghost use Rattle.binding.specs.Bound.{bound_most};
 ghost use Rattle.recording.specs.Changed.{changed_from};
 
 use binding::sets::is_set;
-use fields::field::narrow;
 
 // The numbers of those of the first n atoms whose use has changed, from the lowest on. How many they are.
 pub fn changed(before: &[bool], used: &[bool], n: usize, list: &mut [u8]) -> usize
@@ -12,11 +11,9 @@ pub fn changed(before: &[bool], used: &[bool], n: usize, list: &mut [u8]) -> usi
     requires n_in_bounds { n ≤ length list.old }
     ensures { take result list.new ≡ changed_from before.now used.now 0 n }
 {
-    let mut i: usize = 0;
     let mut c: usize = 0;
-    while i < n {
-        let k = narrow(i);
-        i += 1;
+    for i in 0..n {
+        let k = i as u8;
         if is_set(used, k) == is_set(before, k) {
             continue;
         }

@@ -13,7 +13,6 @@ ghost use Rattle.recording.specs.Items.{item_emitter, set_items};
 ghost use Rattle.recording.specs.Changed.{record_number, record_numbers};
 
 use emitters::numbers::{copy_emitter, packed, set_emitter, set_operand};
-use fields::field::{narrow, wide};
 use frames::frame::items_of;
 use hexadecimal::byte_at;
 use kinds::table::{fixed_length, item_width};
@@ -37,11 +36,9 @@ fn set_items(em: &mut [u32], frame: &[u8], i: usize, w: usize, n: usize, atom: u
     requires n_value { numbers_below (length em.old) (flat_map local_of (operands_from frame.now i w n)) ≡ true }
     ensures { map decode em.new ≡ set_items (map decode em.old) atom elements 0 (operands_from frame.now i w n) }
 {
-    let mut k: usize = 0;
-    while k < n {
-        let e = item_emitter(atom, elements, narrow(k));
+    for k in 0..n {
+        let e = item_emitter(atom, elements, k as u8);
         set_operand(em, frame, i + w * k, e);
-        k += 1;
     }
 }
 
@@ -73,19 +70,12 @@ pub fn record_atom(em: &mut [u32], frame: &[u8], k: u8)
     requires em_len { length em.old ≡ bound_most }
     ensures { map decode em.new ≡ record_atom (map decode em.old) k (atom_of_frame frame.now) }
 {
-    let kind = byte_at(frame, 0);
-    if kind == 6 {
-        return;
-    }
     let a = byte_at(frame, 1);
-    if kind == 4 {
-        copy_emitter(em, a, byte_at(frame, 2));
-        return;
+    match byte_at(frame, 0) {
+        4 => copy_emitter(em, a, byte_at(frame, 2)),
+        5 | 6 => {}
+        _ => record_scan(em, frame, a, k),
     }
-    if kind == 5 {
-        return;
-    }
-    record_scan(em, frame, a, k);
 }
 
 // Atom number k, where there is one.
@@ -94,11 +84,10 @@ fn record_number(em: &mut [u32], sheet: &[u8], from: &[u16], n: usize, k: u8)
     requires em_len { length em.old ≡ bound_most }
     ensures { map decode em.new ≡ record_number (sheet_atoms sheet.now) (map decode em.old) k }
 {
-    let i = wide(k);
-    if n <= i {
-        return;
+    let i = usize::from(k);
+    if i < n {
+        record_atom(em, atom_line(sheet, from, i), k);
     }
-    record_atom(em, atom_line(sheet, from, i), k);
 }
 
 // The atoms with the first m numbers of a list, in its order.
@@ -107,12 +96,8 @@ pub fn record_numbers(em: &mut [u32], sheet: &[u8], from: &[u16], n: usize, list
     requires em_len { length em.old ≡ bound_most }
     ensures { map decode em.new ≡ record_numbers (sheet_atoms sheet.now) (take m list.now) (map decode em.old) }
 {
-    let mut j: usize = 0;
-    while j < list.len() {
-        if m <= j {
-            return;
-        }
-        record_number(em, sheet, from, n, list[j]);
-        j += 1;
+    let end = m.min(list.len());
+    for &k in &list[..end] {
+        record_number(em, sheet, from, n, k);
     }
 }

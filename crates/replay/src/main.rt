@@ -12,14 +12,14 @@ ghost use Rattle.hexadecimal.specs.Digits.{bytes_of};
 use entries::run::run;
 use exports::below::plan;
 use exports::some::rimdovek_some_match;
-use first_reading::first::Reading;
+use first_reading::first::{Fault, Lines};
 use frame_tests::tests::Text;
-use gathering::beside::Beside;
 use printing::below::PLAN_MOST;
 use printing::{print_planned, print_run};
 use reading::second::read_text;
 use run_answers::atoms::{NO_ATOM, delta_atom};
 
+// kept: std's printing would hand the runtime through thirteen functions that do nothing else with it.
 fn print_two(word: &[u8], a: usize, b: usize) {
     io::write_all(1, word);
     io::print_decimal(1, a as u64);
@@ -28,10 +28,10 @@ fn print_two(word: &[u8], a: usize, b: usize) {
     io::write_all(1, b"\n");
 }
 
-fn print_answer(answer: Reading) {
+fn print_answer(answer: Result<Lines, Fault>) {
     match answer {
-        Reading::Accepted(lines, counted) => print_two(b"accepted ", lines, counted),
-        Reading::Refused(number, line) => print_two(b"refused ", number as usize, line),
+        Ok(lines) => print_two(b"accepted ", lines.count, lines.counted),
+        Err(fault) => print_two(b"refused ", usize::from(fault.number), fault.line),
     }
 }
 
@@ -48,20 +48,16 @@ fn decode(line: &[u8], text: &mut [u8]) -> usize
     ensures upper_bound { result ≤ length text.new }
     ensures text_after { take result text.new ≡ take result (bytes_of line.now) }
 {
-    let mut i: usize = 0;
-    while i < text.len() {
-        if line.len() / 2 <= i {
-            return i;
-        }
+    let n = text.len().min(line.len() / 2);
+    for i in 0..n {
         text[i] = hexadecimal::line::byte_at(line, i);
-        i += 1;
     }
-    i
+    n
 }
 
-fn plan_case(text: &[u8], beside: Beside, table: &[u8]) {
+fn plan_case(text: &[u8], table: Option<&[u8]>) {
     let mut out = [0u8; PLAN_MOST];
-    let answer = plan(text, beside, table, &mut out);
+    let answer = plan(text, table, &mut out);
     print_planned(answer, &out);
 }
 
@@ -70,34 +66,17 @@ fn plan_beside(case: &[u8], text: &mut [u8], other: &mut [u8]) {
     let mut number = [0u8; 4];
     let _ = decode(case, &mut number);
     let cut = 8 + 2 * (hexadecimal::word_at(&number, 0) as usize);
-    if case.len() < cut {
-        return;
-    }
-    if cut < 8 {
+    if case.len() < cut || cut < 8 {
         return;
     }
     let n = decode(&case[8..cut], text);
     let m = decode(&case[cut..], other);
-    plan_case(&text[..n], Beside::Table, &other[..m]);
-}
-
-// Room that no line writes: each byte is aa.
-fn marked_room() -> [u8; 65536]
-    ensures { 65536 ≡ length result }
-{
-    [0xaa; 65536]
+    plan_case(&text[..n], Some(&other[..m]));
 }
 
 // How many bytes at the end of an output are as they were.
 fn kept(out: &[u8]) -> usize {
-    let mut i = out.len();
-    while 0 < i {
-        if out[i - 1] != 0xaa {
-            return out.len() - i;
-        }
-        i -= 1;
-    }
-    out.len()
+    out.iter().rev().take_while(|b| **b == 0xaa).count()
 }
 
 fn run_into(plan: &[u8], table: &[u8], allowance: u64, atom: u64, out: &mut [u8]) {
@@ -107,15 +86,9 @@ fn run_into(plan: &[u8], table: &[u8], allowance: u64, atom: u64, out: &mut [u8]
     io::write_all(1, b"\n");
 }
 
-// A match's line has at most 419 bytes.
-fn match_room() -> [u8; 419]
-    ensures { 419 ≡ length result }
-{
-    [0; 419]
-}
-
 fn some_case(plan: &[u8], table: &[u8], allowance: u64, atom: u64) {
-    let mut out = match_room();
+    // A match's line has at most 419 bytes.
+    let mut out = [0u8; 419];
     let answer = rimdovek_some_match(plan, table, allowance, atom, &mut out);
     io::print_decimal(1, answer);
     io::write_all(1, b"\n");
@@ -126,7 +99,8 @@ fn some_case(plan: &[u8], table: &[u8], allowance: u64, atom: u64) {
 }
 
 fn run_texts(plan: &[u8], table: &[u8], allowance: u64, atom: u64, room: usize) {
-    let mut out = marked_room();
+    // Room that no line writes: each byte is aa.
+    let mut out = [0xaau8; 65536];
     if room <= 65536 {
         run_into(plan, table, allowance, atom, &mut out[..room]);
         some_case(plan, table, allowance, atom);
@@ -163,17 +137,17 @@ fn run_numbers(kind: u8, case: &[u8], text: &mut [u8], other: &mut [u8]) {
     let rest = &case[16..];
     if kind == 4 {
         run_rest(rest, allowance, NO_ATOM, text, other);
-        return;
+    } else {
+        run_rest(&case[32..], allowance, long_of(rest), text, other);
     }
-    run_rest(&case[32..], allowance, long_of(rest), text, other);
 }
 
 fn two_texts(kind: u8, case: &[u8], text: &mut [u8], other: &mut [u8]) {
     if kind == 6 {
         plan_beside(case, text, other);
-        return;
+    } else {
+        run_numbers(kind, case, text, other);
     }
-    run_numbers(kind, case, text, other);
 }
 
 fn run_case(line: &[u8], text: &mut [u8]) {
@@ -182,16 +156,16 @@ fn run_case(line: &[u8], text: &mut [u8]) {
     }
     let kind = hexadecimal::line::byte_at(line, 0);
     if 4 <= kind {
-        let mut other = text_room();
+        let mut other = [0u8; 70000];
         two_texts(kind, &line[2..], text, &mut other);
         return;
     }
     let n = decode(&line[2..], text);
     if kind == 3 {
-        plan_case(&text[..n], Beside::Nothing, b"");
-        return;
+        plan_case(&text[..n], None);
+    } else {
+        print_answer(read_text(text_of(kind), &text[..n]));
     }
-    print_answer(read_text(text_of(kind), &text[..n]));
 }
 
 // One byte more of standard input: it is kept in `line`, of which n are there, or ends the case.
@@ -199,15 +173,15 @@ fn take_byte(b: u8, line: &mut [u8], text: &mut [u8], n: usize) -> usize
     requires { n ≤ length line.old }
     ensures { result ≤ length line.new }
 {
-    if b == 10 {
+    if b == b'\n' {
         run_case(&line[..n], text);
-        return 0;
-    }
-    if n < line.len() {
+        0
+    } else if n < line.len() {
         line[n] = b;
-        return n + 1;
+        n + 1
+    } else {
+        n
     }
-    n
 }
 
 fn take_piece(piece: &[u8], line: &mut [u8], text: &mut [u8], n: usize) -> usize
@@ -215,60 +189,36 @@ fn take_piece(piece: &[u8], line: &mut [u8], text: &mut [u8], n: usize) -> usize
     ensures { result ≤ length line.new }
 {
     let mut kept = n;
-    let mut i: usize = 0;
-    while i < piece.len() {
-        kept = take_byte(piece[i], line, text, kept);
-        i += 1;
+    for &b in piece {
+        kept = take_byte(b, line, text, kept);
     }
     kept
 }
 
-#[derive(Drop)]
-enum Input {
-    Kept(usize),
-    Ended,
-}
-
-fn read_piece(line: &mut [u8], text: &mut [u8], n: usize) -> Input {
+// A piece more of standard input, and how many bytes of a line are kept behind it; none where the input has ended.
+fn read_piece(line: &mut [u8], text: &mut [u8], n: usize) -> Option<usize> {
     let mut piece = io::buffer();
     let got = io::read_full(0, &mut piece);
-    if got == 0 {
-        return Input::Ended;
+    if got == 0 || line.len() < n {
+        return None;
     }
-    if n <= line.len() {
-        return Input::Kept(take_piece(&piece[..got], line, text, n));
-    }
-    Input::Ended
+    Some(take_piece(&piece[..got], line, text, n))
 }
 
-// A proved loop has to end, and nothing says that the input does: the loop counts its turns down.
+// A proved loop has to end, and nothing says that the input does: the loop counts its turns.
 fn run_all(line: &mut [u8], text: &mut [u8]) {
     let mut kept: usize = 0;
-    let mut turns = u64::MAX;
-    while turns > 0 {
-        let Input::Kept(n) = read_piece(line, text, kept) else {
+    for _ in 0..u64::MAX {
+        let Some(n) = read_piece(line, text, kept) else {
             return;
         };
         kept = n;
-        turns -= 1;
     }
 }
 
-// Room for the digits of a case, and for its bytes.
-fn line_room() -> [u8; 140000]
-    ensures { 140000 ≡ length result }
-{
-    [0; 140000]
-}
-
-fn text_room() -> [u8; 70000]
-    ensures { 70000 ≡ length result }
-{
-    [0; 70000]
-}
-
 fn main() {
-    let mut line = line_room();
-    let mut text = text_room();
+    // Room for the digits of a case, and for its bytes.
+    let mut line = [0u8; 140000];
+    let mut text = [0u8; 70000];
     run_all(&mut line, &mut text);
 }

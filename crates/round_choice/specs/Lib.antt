@@ -1,6 +1,7 @@
 pub mod RoundChoice
 pub use Rattle.choosing.specs.Advancing
 pub use Rattle.choosing.specs.Bidding
+pub use Rattle.choosing.specs.Choice
 pub use Rattle.choosing.specs.Choosing
 pub use Rattle.choosing.specs.CostBits
 pub use Rattle.choosing.specs.Eager

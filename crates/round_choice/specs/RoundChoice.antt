@@ -1,11 +1,11 @@
 -- A round over arrays: the eager round, the choice behind it, and the room that the choice asks of the memo.
+use Rattle.cost.specs.Settings.{Sampled}
 use Rattle.std.specs.Prelude.{ℕ, ◌≤◌, List, length, Float}
 use Rattle.std.proofs.Math.Option.{none}
 use Rattle.cost.specs.Sheet.{frames_in}
 use Rattle.cost.specs.Atoms.{Step}
 use Rattle.cost.specs.Bound.{Bound}
 use Rattle.cost.specs.Scheduling.{State, lower_eager, atom_of, numbers}
-use Rattle.cost.specs.Sampled.{Sampled}
 use Rattle.cost.specs.Emitters.{Emitters, record_emitters}
 use Rattle.cost.specs.Sampling.{Tally}
 use Rattle.cost.specs.Memo.{tally_at}

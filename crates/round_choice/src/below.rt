@@ -1,2 +1,2 @@
 // What crates above take from those below this one.
-pub use choosing::below::{Best, Scheduler, take_next};
+pub use choosing::below::{Scheduler, take_next};

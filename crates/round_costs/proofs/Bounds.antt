@@ -8,7 +8,7 @@ use lib.ListN.{length}
 use lib.Ieee.{Float}
 use Rattle.first_reading.specs.First.{frames_of}
 use Rattle.first_reading.specs.Text.TheVariants.{Query}
-use Rattle.first_reading.specs.declared.first.Reading.TheVariants.{Accepted}
+use Rattle.first_reading.specs.Reading.{Accepted}
 use Rattle.reading.specs.Second.{reading}
 use Rattle.fitting.proofs.Whole.{query_within}
 use Rattle.buckets.specs.Atoms.{Atom}

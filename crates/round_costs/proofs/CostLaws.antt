@@ -1,18 +1,17 @@
 -- The bits of the costs of a round, and the round that is asked for. Proved place by place, and from what the rounds leave.
 use Prim.Native.Nat.{ℕ, ◌≤◌}
-use mathlib.Core.Path.{◌≡◌, ◌∙◌, ap}
-use mathlib.Core.Bool.{Bool, true, false, not}
+use mathlib.Core.Path.{◌≡◌, refl, ◌∙◌, ap}
+use mathlib.Core.Bool.{Bool, true, false}
 use mathlib.Core.Option.{some}
 use mathlib.Core.List.{List, ◌++◌, map}
 use native.Mathlib.Omega.{arith}
 use lib.ListN.{length, take}
-use borrow.Author.Tests.{not-true, not-false}
 use Rattle.reading.specs.Choose.{pick}
 use Rattle.reading.specs.Sheet.{frames_in}
 use Rattle.first_reading.specs.First.{frames_of, Sheet}
 use Rattle.first_reading.specs.Text.TheVariants.{Table}
-use Rattle.first_reading.specs.declared.first.Reading.{Reading}
-use Rattle.first_reading.specs.declared.first.Reading.TheVariants.{Accepted, Refused}
+use Rattle.first_reading.specs.Reading.{Reading}
+use Rattle.first_reading.specs.Reading.{Accepted, Refused}
 use Rattle.reading.specs.Second.{reading, query_reading}
 use Rattle.buckets.specs.Atoms.{Atom}
 use Rattle.fitting.specs.QueryAtoms.{atoms_in}
@@ -29,19 +28,24 @@ use Rattle.fitting.specs.Handed.{handed_if}
 use Rattle.fitting.specs.Gathered.{Asks, Both}
 use Rattle.round_costs.specs.Costs.{round_of, told, Result, round_result, refused_with, round_costs}
 use Rattle.cost_bits.specs.ToldBits.{bits_in}
-use Rattle.round_costs.specs.declared.rounds.RoundCosts.TheVariants.{Chosen, Ended, Refused as Refuses}
+use Rattle.std.specs.Prelude.{Some, None, Ok, Err, is_some}
+use Rattle.std.specs.Prelude.{Option as OptionOf}
+use Rattle.first_reading.specs.declared.first.Refusal.{Refusal}
+use Rattle.first_reading.specs.Text.TheVariants.{Query}
 
 -- ---- the round, by what the rounds leave
 
 module _ (x : List ℕ) (round : ℕ) (costs : List ℕ) (s : Scheduled) (h : Rounded x round costs s) (out o : List ℕ) where
-  -- none was found
-  pub told_ended : (n : ℕ) → not s.found ≡ true → o ≡ bits_in (take (pick s.found n 0) costs) (length out) → round_result Ended o ≡ told (round_of (frames_in x) (sheet_atoms x) round) out
-  told_ended n l e = rw (e, h.order.chosen, not-true s.found l)
+  -- the costs, where an atom was chosen
+  pub told_round : (n : ℕ) → n ≡ length (sheet_atoms x) → n ≤ length costs → (b : Bool) → b ≡ is_some s.chosen → o ≡ bits_in (take (pick b n 0) costs) (length out) → round_result (Ok s.chosen) o ≡ told (round_of (frames_in x) (sheet_atoms x) round) out
+  told_round n c r b d e = by s.chosen refl
+    where
+      q : take n costs ≡ map cost_bits (round_of (frames_in x) (sheet_atoms x) round).costs
+      q = ap (λ (k : ℕ). take k costs) c ∙ h.costs_are (omega arith)
 
-  pub told_chosen : (n : ℕ) → n ≡ length (sheet_atoms x) → n ≤ length costs → not s.found ≡ false → o ≡ bits_in (take (pick s.found n 0) costs) (length out) → round_result (Chosen s.who) o ≡ told (round_of (frames_in x) (sheet_atoms x) round) out
-  told_chosen n c r l e =
-      let q : take n costs ≡ map cost_bits (round_of (frames_in x) (sheet_atoms x) round).costs = ap (λ (k : ℕ). take k costs) c ∙ h.costs_are (omega arith) in
-      rw (e, h.order.chosen, not-false s.found l, q)
+      by : (w : OptionOf ℕ) → s.chosen ≡ w → round_result (Ok s.chosen) o ≡ told (round_of (frames_in x) (sheet_atoms x) round) out
+      by None f = rw (e, d, h.order.chosen, f)
+      by (Some i) f = rw (e, d, h.order.chosen, f, q)
 
 -- ---- the entry, by what the readings say
 
@@ -54,9 +58,9 @@ module _ (x : List ℕ) (round : ℕ) (o : List ℕ) where
   same_costs fs gs qs e h = rw (e, h)
 
 module _ (x t : List ℕ) (round : ℕ) (o : List ℕ) (h : Bool) (v : Reading) (is : v ≡ query_reading h x) where
-  pub costs_back : (k l : ℕ) → v ≡ Refused k l → round_result (Refuses k 0 l) o ≡ round_costs x (handed_if h t) round o
+  pub costs_back : (f : Refusal) → f.text ≡ Query → v ≡ Refused f.number f.line → round_result (Err f) o ≡ round_costs x (handed_if h t) round o
   unfolding round_costs
-  costs_back k l e = query_refused (refused_with o) x t h v is k l e (by_frames x round o (given x (handed_if h t)))
+  costs_back f q e = rw q (query_refused (refused_with o) x t h v is f.number f.line e (by_frames x round o (given x (handed_if h t))))
 
   module _ (n c : ℕ) (e : v ≡ Accepted n c) (s : List ℕ) (g : Sheet x s) (b : Bool) (q : b ≡ asks_table (frames_in s)) where
     pub costs_whole : b ≡ false → (r : Result) → r ≡ told (round_of (frames_in s) (sheet_atoms s) round) o → r ≡ round_costs x (handed_if h t) round o
@@ -69,9 +73,9 @@ module _ (x t : List ℕ) (round : ℕ) (o : List ℕ) (h : Bool) (v : Reading) 
     costs_beside z r f = f ∙ rw z
 
 module _ (x t : List ℕ) (round : ℕ) (o : List ℕ) (a : Asks x) (q : asks_table (frames_of x) ≡ true) where
-  pub table_back : (k l : ℕ) → reading Table t ≡ Refused k l → round_result (Refuses k 2 l) o ≡ round_costs x (some t) round o
+  pub table_back : (f : Refusal) → f.text ≡ Table → reading Table t ≡ Refused f.number f.line → round_result (Err f) o ≡ round_costs x (some t) round o
   unfolding round_costs
-  table_back k l e = table_refused (refused_with o) x t a q k l e (by_frames x round o (given x (some t)))
+  table_back f z e = rw z (table_refused (refused_with o) x t a q f.number f.line e (by_frames x round o (given x (some t))))
 
   pub costs_sampled : (s i : List ℕ) (e : ℕ) → Both x t s i e → (r : Result) → r ≡ told (round_of (frames_in (take e s)) (sheet_atoms (take e s)) round) o → r ≡ round_costs x (some t) round o
   unfolding round_costs

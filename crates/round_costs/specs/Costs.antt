@@ -1,5 +1,6 @@
 -- The costs of a round, for the caller: their bits in a lent array, and the atom chosen.
-use Rattle.std.specs.Prelude.{ℕ, suc, List, [], map, length, Float}
+use Rattle.std.specs.Prelude.{ℕ, suc, List, [], map, length, Float, Some, None, Ok, Err}
+use Rattle.std.specs.Prelude.{Option as OptionOf, Result as ResultOf}
 use Rattle.std.proofs.Math.Option.{Option, none, some}
 use Rattle.first_reading.specs.First.{frames_of}
 use Rattle.buckets.specs.Atoms.{Atom}
@@ -7,8 +8,8 @@ use Rattle.fitting.specs.QueryAtoms.{atoms_in}
 use Rattle.fitting.specs.Choice.{Memory, rounds}
 use Rattle.fitting.specs.Planner.{given, after_readings}
 use Rattle.cost_bits.specs.CostBits.{cost_bits}
-use Rattle.round_costs.specs.declared.rounds.RoundCosts.{RoundCosts}
-use Rattle.round_costs.specs.declared.rounds.RoundCosts.TheVariants.{Chosen as Chose, Ended as Over, Refused as Refuses}
+use Rattle.fitting.specs.Faults.{text_number}
+use Rattle.fitting.specs.Refusal.{Refusal}
 use Rattle.cost_bits.specs.ToldBits.{bits_in}
 
 pub data Answer : Type 0 where
@@ -24,13 +25,13 @@ pub record Result : Type 0 where
   pub output : List ℕ
 
 -- the atom chosen; no candidate; or number, text and line
-abbrev pub round_answer : RoundCosts → Answer
-round_answer (Chose i) = Chosen i
-round_answer Over = Ended
-round_answer (Refuses k t l) = Invalid k t l
+abbrev pub round_answer : ResultOf (OptionOf ℕ) Refusal → Answer
+round_answer (Ok (Some i)) = Chosen i
+round_answer (Ok None) = Ended
+round_answer (Err f) = Invalid f.number (text_number f.text) f.line
 
 -- "result and lent output follow from the inputs, refusals too"
-abbrev pub round_result : RoundCosts → List ℕ → Result
+abbrev pub round_result : ResultOf (OptionOf ℕ) Refusal → List ℕ → Result
 round_result r o = record { answer = round_answer r; output = o }
 
 -- what is remembered of round number r of the atoms qs by the frames fs, or of the last one where the rounds have ended before

@@ -2,7 +2,7 @@
 use Prim.Native.Nat.{ℕ, zero, suc, ◌+◌, ◌*◌, ◌-◌, ◌<◌, ◌≤◌}
 use mathlib.Core.Path.{◌≡◌, refl, sym, ◌∙◌, ap}
 use mathlib.Core.Bool.{Bool, true, false, ◌||◌}
-use mathlib.Core.List.{List, []}
+use mathlib.Core.List.{List}
 use native.Mathlib.Omega.{arith}
 use lib.ListN.{length, get_or, get_or-eq_default}
 use lib.Dec.{eqb}
@@ -64,9 +64,6 @@ module _ (f : List ℕ) (place n p : ℕ) (count : n ≡ count_of f) (at : p ≡
   pub child_there : p < n → (c : ℕ) → c ≡ short_at f (5 + 2 * p) → c ≡ child_at (row_of f) place
   child_there h c e = e ∙ rw (row_children f, ← count, ← at) (sym (items_at_lem short_at 2 f 5 n p unset h))
 
-pub at_unset : (f : List ℕ) (c p : ℕ) → c ≡ unset → false ≡ has_at c p (row_of f)
-at_unset f c p h = rw (eq-eqb _ _ h)
-
 pub at_place : (f : List ℕ) (c p d : ℕ) → (c ≡ unset → ⊥) → d ≡ child_at (row_of f) p → eqb d c ≡ has_at c p (row_of f)
 unfolding same_class
 at_place f c p d h e = rw (ne_eqb _ _ h, e)
@@ -100,15 +97,15 @@ module _ (f : List ℕ) (c n : ℕ) where
 -- ---- what is asked for
 
 module _ (f : List ℕ) (w : Want) where
-  pub wanted_op : w.path ≡ op_path → (b o c : ℕ) → b ≡ get_or f 3 0 → o ≡ b → c ≡ w.class → eqb o c ≡ wanted w (row_of f)
+  pub wanted_op : w.path ≡ op_path → (b o : ℕ) → b ≡ get_or f 3 0 → o ≡ b → eqb o w.class ≡ wanted w (row_of f)
   unfolding wanted
-  wanted_op h b o c p q r = rw (eq-eqb _ _ h, row_op f, ← p, ← q, r)
+  wanted_op h b o p q = rw (eq-eqb _ _ h, row_op f, ← p, ← q)
 
-  module _ (h : w.path ≡ op_path → ⊥) (r : Bool) where
+  module _ (r : Bool) where
     pub wanted_at : w.path ≡ child_path → r ≡ has_at w.class w.place (row_of f) → r ≡ wanted w (row_of f)
     unfolding wanted
-    wanted_at g e = rw (ne_eqb _ _ h, eq-eqb _ _ g) e
+    wanted_at g e = let h : w.path ≡ op_path → ⊥ = λ q. omega arith in rw (ne_eqb _ _ h, eq-eqb _ _ g) e
 
-    pub wanted_among : (w.path ≡ child_path → ⊥) → r ≡ among w.class (children (row_of f)) → r ≡ wanted w (row_of f)
+    pub wanted_among : (w.path ≡ op_path → ⊥) → (w.path ≡ child_path → ⊥) → r ≡ among w.class (children (row_of f)) → r ≡ wanted w (row_of f)
     unfolding wanted
-    wanted_among g e = rw (ne_eqb _ _ h, ne_eqb _ _ g) e
+    wanted_among h g e = rw (ne_eqb _ _ h, ne_eqb _ _ g) e

@@ -5,7 +5,7 @@ ghost use Rattle.records.specs.Running.{among};
 ghost use Rattle.records.specs.Rows.{row_of};
 ghost use Rattle.row_frames.specs.Wanted.{count_of, has_at, wanted};
 
-use records::below::{byte_at, short_at, wide, wide_short};
+use records::below::{byte_at, short_at};
 
 // What is asked of a row, by its path: an operator, a class at a place among the children, or a class anywhere among them.
 #[derive(Clone, Copy)]
@@ -29,14 +29,14 @@ pub fn child_count(frame: &[u8]) -> usize
     if byte_at(frame, 0) != 0x30 {
         return 0;
     }
-    wide(byte_at(frame, 4))
+    usize::from(byte_at(frame, 4))
 }
 
 // The class at a place among the children: unset where there is none.
 pub fn row_child(frame: &[u8], place: u8) -> u16
     ensures { result ≡ child_at (row_of frame.now) place }
 {
-    let p = wide(place);
+    let p = usize::from(place);
     if child_count(frame) <= p {
         return UNSET;
     }
@@ -48,12 +48,10 @@ pub fn row_has(frame: &[u8], class: u16) -> bool
     ensures { result ≡ among class (children (row_of frame.now)) }
 {
     let n = child_count(frame);
-    let mut j: usize = 0;
-    while j < n {
+    for j in 0..n {
         if short_at(frame, 5 + 2 * j) == class {
             return true;
         }
-        j += 1;
     }
     false
 }
@@ -62,21 +60,16 @@ pub fn row_has(frame: &[u8], class: u16) -> bool
 fn has_at(frame: &[u8], place: u8, class: u16) -> bool
     ensures { result ≡ has_at class place (row_of frame.now) }
 {
-    if class == UNSET {
-        return false;
-    }
-    row_child(frame, place) == class
+    class != UNSET && row_child(frame, place) == class
 }
 
 // Whether a row is one that is asked for.
 pub fn row_wanted(frame: &[u8], w: Want) -> bool
     ensures { result ≡ wanted w (row_of frame.now) }
 {
-    if w.path == OP_PATH {
-        return wide(byte_at(frame, 3)) == wide_short(w.class);
+    match w.path {
+        OP_PATH => u16::from(byte_at(frame, 3)) == w.class,
+        CHILD_PATH => has_at(frame, w.place, w.class),
+        _ => row_has(frame, w.class),
     }
-    if w.path == CHILD_PATH {
-        return has_at(frame, w.place, w.class);
-    }
-    row_has(frame, w.class)
 }

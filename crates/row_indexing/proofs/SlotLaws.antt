@@ -188,11 +188,11 @@ module _ (f I : List ℕ) (j m₀ : ℕ) (room : RowRoom f I j m₀) where
       by false false false d = refl
 
   module _ (J : List ℕ) (m n k : ℕ) (v : Entering f I j m₀ J m (slots_left f n k)) where
-    module _ (h : k < n) (x a : ℕ) (short : x ≡ short_at f (5 + 2 * k)) (wide : (a ≡ x) × (a < 65536)) where
+    module _ (h : k < n) (x a : ℕ) (short : x ≡ short_at f (5 + 2 * k)) (wide : a ≡ x) where
       child_first : Entering f I j m₀ J m ((a % 512) ∷ slots_left f n (k + 1))
       child_first =
           let y : 5 + 2 * (k + 1) ≡ 5 + 2 * k + 2 = omega arith in
-          let z : map class_slot (items_at short_at 2 f (5 + 2 * k) (n - k)) ≡ (a % 512) ∷ map class_slot (items_at short_at 2 f (5 + 2 * (k + 1)) (n - (k + 1))) = rw (items_more short_at 2 f (5 + 2 * k) k n h, y, wide.0, short) in
+          let z : map class_slot (items_at short_at 2 f (5 + 2 * k) (n - k)) ≡ (a % 512) ∷ map class_slot (items_at short_at 2 f (5 + 2 * (k + 1)) (n - (k + 1))) = rw (items_more short_at 2 f (5 + 2 * k) k n h, y, wide, short) in
           swap J m (op_slot (op_of (row_of f))) (a % 512) (map class_slot (items_at short_at 2 f (5 + 2 * (k + 1)) (n - (k + 1)))) (rw z at v)
 
       pub child_room : EntryRoom J (m + 1)
@@ -201,9 +201,9 @@ module _ (f I : List ℕ) (j m₀ : ℕ) (room : RowRoom f I j m₀) where
       pub entering_child : (K : List ℕ) (m' : ℕ) → (K ≡ entered_once J (a % 512) j m) × (m' ≡ entries_then J (a % 512) j m) → Entering f I j m₀ K m' (slots_left f n (k + 1))
       entering_child K m' e = entering_next f I j m₀ room J m (a % 512) (slots_left f n (k + 1)) child_first (omega arith) K m' e
 
-    module _ (h : n ≤ k) (b a : ℕ) (byte : b ≡ get_or f 3 0) (wide : (a ≡ b) × (a < 256)) where
+    module _ (h : n ≤ k) (b a : ℕ) (byte : b ≡ get_or f 3 0) (wide : a ≡ b) (small : b < 256) where
       op_slot_lem : 512 + a ≡ op_slot (op_of (row_of f))
-      op_slot_lem = rw (row_op f, ← byte) (omega (arith, wide.0, wide.1))
+      op_slot_lem = rw (row_op f, ← byte) (omega (arith, wide, small))
 
       op_last : Entering f I j m₀ J m ((512 + a) ∷ [])
       op_last = let z : slots_left f n k ≡ (512 + a) ∷ [] = rw (items_none short_at 2 f (5 + 2 * k) k n h, op_slot_lem) in rw z at v
@@ -212,4 +212,4 @@ module _ (f I : List ℕ) (j m₀ : ℕ) (room : RowRoom f I j m₀) where
       op_room = entry_room f I j m₀ room J m (512 + a) [] op_last
 
       pub entering_op : (K : List ℕ) (m' : ℕ) → (K ≡ entered_once J (512 + a) j m) × (m' ≡ entries_then J (512 + a) j m) → RowEntered f I j m₀ K m'
-      entering_op K m' e = entering_end f I j m₀ room K m' (entering_next f I j m₀ room J m (512 + a) [] op_last (omega (arith, wide.1)) K m' e)
+      entering_op K m' e = entering_end f I j m₀ room K m' (entering_next f I j m₀ room J m (512 + a) [] op_last (omega (arith, wide, small)) K m' e)

@@ -4,7 +4,6 @@ ghost use Rattle.buckets.specs.RowIndex.{rows_at, heads_at, row_slots, rows_on};
 ghost use Rattle.row_indexing.specs.Filling.{is_of, entered_once, entries_then, EntryRoom, RowRoom, RowEntered, rows_placed, FillRoom, Placed, TableIndexed, TableRoom};
 
 use buckets::index::{CLASS_SLOTS, ENTRIES_AT, HEADS_AT, ROWS_AT, entry_row};
-use fields::field::{wide, wide_short};
 use frame_tests::tests::is_row;
 use frames::frame::frame_at;
 use hexadecimal::{byte_at, short_at};
@@ -14,10 +13,7 @@ use row_frames::row::child_count;
 fn is_of(index: &[u16], e: u16, j: u16) -> bool
     ensures { result ≡ is_of index.now e j }
 {
-    if e == 0 {
-        return false;
-    }
-    entry_row(index, wide_short(e)) == j
+    e != 0 && entry_row(index, usize::from(e)) == j
 }
 
 // Row j is entered in the slot t, behind m entries, unless it is there. How many entries there are then.
@@ -44,17 +40,11 @@ fn enter_row(frame: &[u8], index: &mut [u16], j: u16, m: usize) -> usize
 {
     let n = child_count(frame);
     let mut last = m;
-    let mut k: usize = 0;
-    while k < n {
-        last = enter(
-            index,
-            wide_short(short_at(frame, 5 + 2 * k)) % CLASS_SLOTS,
-            j,
-            last,
-        );
-        k += 1;
+    for k in 0..n {
+        let class = usize::from(short_at(frame, 5 + 2 * k));
+        last = enter(index, class % CLASS_SLOTS, j, last);
     }
-    enter(index, CLASS_SLOTS + wide(byte_at(frame, 3)), j, last)
+    enter(index, CLASS_SLOTS + usize::from(byte_at(frame, 3)), j, last)
 }
 
 // The n rows whose places are put are entered, the last one first.
@@ -62,11 +52,9 @@ fn enter_rows(sheet: &[u8], index: &mut [u16], n: usize)
     requires { FillRoom (rows_placed sheet.now index.old n) heads_at index.old }
     ensures { TableIndexed (rows_placed sheet.now index.old n) sheet.now heads_at index.old index.new }
 {
-    let mut j = n;
     let mut m: usize = 0;
-    while j > 0 {
-        j -= 1;
-        let place = wide_short(index[ROWS_AT + j]);
+    for j in (0..n).rev() {
+        let place = usize::from(index[ROWS_AT + j]);
         m = enter_row(frame_at(sheet, place), index, j as u16, m);
     }
 }
@@ -78,6 +66,7 @@ fn place_rows(sheet: &[u8], from: usize, index: &mut [u16]) -> usize
 {
     let mut at = from;
     let mut n: usize = 0;
+    // kept: a frame is entered by its place, which an iterator over frames does not give.
     while at < sheet.len() {
         let place = at;
         let frame = frame_at(sheet, at);

@@ -17,7 +17,11 @@ use Rattle.match_lines.specs.MatchLines.{text_by}
 use Rattle.bindings.specs.declared.env.Env.{Env}
 use Rattle.entries.proofs.HaltLaws.{text_length_lem}
 use Rattle.entries.specs.Outcomes.{reply_of}
+use Rattle.entries.specs.Faults.{text_number}
+use Rattle.entries.specs.Refusal.{Refusal}
 use Rattle.entries.specs.declared.some.Reply.{Reply as ReplyAs}
+use Rattle.entries.specs.declared.some.Reply.TheVariants.{Match as IsMatch}
+use Rattle.std.specs.Prelude.{Result, Ok, Err}
 use Rattle.run_answers.specs.Replied.{placed, Tells, TellsSome}
 
 -- ---- the line
@@ -41,20 +45,11 @@ module _ (p h o : List ℕ) (n m need : ℕ) (env : Env) (a : h ≡ line_at p 0)
 
 -- ---- the reply
 
-module _ (p o : List ℕ) (r : ReplyAs) where
-  pub tells_few : (n : ℕ) → r.kind < 2 → n ≡ r.kind → Tells (reply_of p r) o o n
-  tells_few n h e = by r.kind refl h e
-    where
-      by : (k : ℕ) → r.kind ≡ k → k < 2 → n ≡ k → Tells (reply_of p r) o o n
-      by zero q h e = rw q (record { number = e; output = refl })
-      by (suc zero) q h e = rw q (record { number = e; output = refl })
-      by (suc (suc k)) q h e = absurd (omega arith)
+pub tells_match : (p o q : List ℕ) (e : Env) → q ≡ placed (line_text (match_line p (env_of [] [] e))) o → Tells (reply_of p (Ok (IsMatch e))) o q 2
+tells_match p o q e w = record { number = refl; output = w }
 
-  pub tells_match : (q : List ℕ) → r.kind ≡ 2 → q ≡ placed (line_text (match_line p (env_of [] [] r.env))) o → Tells (reply_of p r) o q 2
-  tells_match q e w = rw e (record { number = refl; output = w })
+pub tells_back : (p o : List ℕ) (f : Refusal) (k n : ℕ) → k ≡ text_number f.text → n ≡ packed_refusal f.number k f.line → Tells (reply_of p (Err f)) o o n
+tells_back p o f k n e h = record { number = rw e at h; output = refl }
 
-  pub tells_back : (n : ℕ) → 2 ≤ r.kind → (r.kind ≡ 2 → ⊥) → n ≡ packed_refusal r.number r.text r.line → Tells (reply_of p r) o o n
-  tells_back n g f h = rw (ne_eqb r.kind 0 (λ e. omega arith), ne_eqb r.kind 1 (λ e. omega arith), ne_eqb r.kind 2 f) (record { number = h; output = refl })
-
-pub tells_some : (p t o q : List ℕ) (md nd : Mode) (A n : ℕ) (r : ReplyAs) → nd ≡ md → Replies p t nd A (reply_of p r) → Tells (reply_of p r) o q n → TellsSome p t md A o q n
+pub tells_some : (p t o q : List ℕ) (md nd : Mode) (A n : ℕ) (r : Result ReplyAs Refusal) → nd ≡ md → Replies p t nd A (reply_of p r) → Tells (reply_of p r) o q n → TellsSome p t md A o q n
 tells_some p t o q md nd A n r e a b = record { reply = reply_of p r; replies = rw e at a; tells = b }

@@ -4,5 +4,6 @@ pub mod Atoms
 pub use Rattle.bindings.specs.Run
 pub use Rattle.entries.specs.Halts
 pub use Rattle.entries.specs.Outcomes
-pub use Rattle.entries.specs.declared.run.Outcome
+pub use Rattle.entries.specs.Refusal
+pub use Rattle.entries.specs.declared.run.Ran
 pub use Rattle.modes.specs.Running

@@ -4,33 +4,34 @@ ghost use Rattle.bindings.specs.Run.{tries_in, matches_in};
 ghost use Rattle.entries.specs.Outcomes.{outcome_of};
 ghost use Rattle.run_answers.specs.Runs.{packed_run};
 
-use entries::run::{Outcome, status_number};
+use entries::below::Refusal;
+use entries::run::{Ran, status_number};
 use packing::{refusal, written};
 
 // The answer as one number.
-pub fn packed(o: Outcome) -> u64
-    ensures { result ≡ packed_run (outcome_of o) }
+pub fn packed(r: Result<Ran, Refusal>) -> u64
+    ensures { result ≡ packed_run (outcome_of r) }
 {
-    match o {
-        Outcome::Refused(number, text, line) => refusal(number, text, line),
-        Outcome::Ran(status, _, _, bytes) => written(status_number(status), bytes),
+    match r {
+        Ok(ran) => written(status_number(ran.status), ran.written),
+        Err(f) => refusal(f.number, f.text_number(), f.line),
     }
 }
 
-pub fn tries_in(o: Outcome) -> u64
-    ensures { result ≡ tries_in (outcome_of o) }
+pub fn tries_in(r: Result<Ran, Refusal>) -> u64
+    ensures { result ≡ tries_in (outcome_of r) }
 {
-    match o {
-        Outcome::Refused(_, _, _) => 0,
-        Outcome::Ran(_, tries, _, _) => tries,
+    match r {
+        Ok(ran) => ran.tries,
+        Err(_) => 0,
     }
 }
 
-pub fn matches_in(o: Outcome) -> u64
-    ensures { result ≡ matches_in (outcome_of o) }
+pub fn matches_in(r: Result<Ran, Refusal>) -> u64
+    ensures { result ≡ matches_in (outcome_of r) }
 {
-    match o {
-        Outcome::Refused(_, _, _) => 0,
-        Outcome::Ran(_, _, matches, _) => matches,
+    match r {
+        Ok(ran) => ran.matches,
+        Err(_) => 0,
     }
 }

@@ -1,11 +1,12 @@
 // The reply of the second entry, and its match as a line.
-ghost use Rattle.std.specs.Prelude.{◌≡◌, []};
+ghost use Rattle.std.specs.Prelude.{◌≡◌, [], Ok};
 ghost use Rattle.bindings.specs.Envs.{env_of};
 ghost use Rattle.bindings.specs.Run.{match_line, line_text};
 ghost use Rattle.entries.specs.Outcomes.{reply_of};
 ghost use Rattle.run_answers.specs.Replied.{placed, Tells};
 
 use bindings::env::Env;
+use entries::below::Refusal;
 use entries::some::Reply;
 use hex_lines::reader::line_from;
 use hexadecimal::line::byte_at;
@@ -23,22 +24,29 @@ fn place_line(plan: &[u8], env: Env, out: &mut [u8])
     if out.len() < need {
         return;
     }
-    let classes = env.classes;
-    let literals = env.literals;
-    write_match(&classes, &literals, n, m, out);
+    write_match(&env.classes, &env.literals, n, m, out);
 }
 
-// The reply as one number; the line of a match is written where it has room.
-pub fn told(reply: Reply, plan: &[u8], out: &mut [u8]) -> u64
+// The reply of a run that is not refused as one number; the line of a match is written where it has room.
+fn told_reply(reply: Reply, plan: &[u8], out: &mut [u8]) -> u64
+    ensures { Tells (reply_of plan.now (Ok reply)) out.old out.new result }
+{
+    match reply {
+        Reply::None => 0,
+        Reply::Spent => 1,
+        Reply::Match(env) => {
+            place_line(plan, env, out);
+            2
+        }
+    }
+}
+
+// The reply as one number, or the refusal.
+pub fn told(reply: Result<Reply, Refusal>, plan: &[u8], out: &mut [u8]) -> u64
     ensures { Tells (reply_of plan.now reply) out.old out.new result }
 {
-    let kind = reply.kind;
-    if kind < 2 {
-        return kind as u64;
+    match reply {
+        Ok(reply) => told_reply(reply, plan, out),
+        Err(f) => refusal(f.number, f.text_number(), f.line),
     }
-    if kind == 2 {
-        place_line(plan, reply.env, out);
-        return 2;
-    }
-    refusal(reply.number, reply.text, reply.line)
 }

@@ -15,7 +15,7 @@ use Rattle.reading_facts.specs.Kinds.{kinds, kind_at}
 use Rattle.reading_facts.specs.Faults.{is_row}
 use Rattle.reading_facts.specs.First.{frames_of}
 use Rattle.reading_facts.specs.Text.TheVariants.{Table}
-use Rattle.reading_facts.specs.Reading.TheVariants.{Accepted}
+use Rattle.reading_facts.specs.Reading.{Accepted}
 use Rattle.reading_facts.specs.Keys.{key_of}
 use Rattle.reading_facts.specs.Second.{reading}
 use Rattle.reading_facts.proofs.Whole.{accepted, frame_bytes}

@@ -21,7 +21,7 @@ use Rattle.reading_facts.specs.Kinds.{kinds, kind_at}
 use Rattle.reading_facts.specs.Frames.{frame_passes}
 use Rattle.reading_facts.specs.First.{frames_of}
 use Rattle.reading_facts.specs.Text.TheVariants.{Table as TableText}
-use Rattle.reading_facts.specs.Reading.TheVariants.{Accepted}
+use Rattle.reading_facts.specs.Reading.{Accepted}
 use Rattle.reading_facts.specs.Keys.{begins, find, is_found}
 use Rattle.reading_facts.specs.Second.{reading}
 use Rattle.reading_facts.proofs.Passes.{frame_field, frame_item}

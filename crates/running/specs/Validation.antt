@@ -10,7 +10,7 @@ use Rattle.reading_facts.specs.Faults.{is_row}
 use Rattle.reading_facts.specs.First.{frames_of}
 use Rattle.reading_facts.specs.Text.TheVariants.{Plan, Table as TableText}
 use Rattle.reading_facts.specs.Reading.{Reading}
-use Rattle.reading_facts.specs.Reading.TheVariants.{Accepted, Refused}
+use Rattle.reading_facts.specs.Reading.{Accepted, Refused}
 use Rattle.reading_facts.specs.Second.{reading}
 use Rattle.plans.specs.Atoms.{Operand, local, global, wild, Lookup, ByOp, ByChildPos, ByRepr, ByContains, Step, Join, ExtractChild, CheckChildEq, CheckEq, CheckEqGlobal, BindGlobal, CopyBinding, Expand, ExtractLitVal, CheckLit, CheckPred, Row, Node, Literal, op_of, unset, Table, global_class}
 use Rattle.plans.specs.Bound.{Bound, blank}

@@ -28,31 +28,6 @@ use Rattle.behind.specs.Sampled.{sampled_from}
 use Rattle.behind.specs.Behind.{FramesOf}
 use Rattle.sampled_frames.specs.Laid.{CopyRoom, part_of, TableLaid, SampledSheet, SampledLaid}
 
--- ---- a copy
-
--- j of n bytes are copied
-pub record Copying (b : List ℕ) (n : ℕ) (s : List ℕ) (at : ℕ) (p : List ℕ) (j : ℕ) : Type 0 where
-  pub low : j ≤ n
-  pub laid : Lays s at (take j b) p (at + j)
-
-module _ (b : List ℕ) (n : ℕ) (s : List ℕ) (at : ℕ) (r : CopyRoom b n s at) where
-  pub copying_first : Copying b n s at s 0
-  copying_first = let e : at + 0 ≡ at = omega arith in record { low = omega arith; laid = rw e (record { is = sym (append-nil (take at s)); end = omega arith; size = refl }) }
-
-  module _ (p : List ℕ) (j : ℕ) (c : Copying b n s at p j) where
-    pub copying_end : n ≤ j → Lays s at (take n b) p (at + n)
-    copying_end h = let e : j ≡ n = omega (arith, c.low) in rw (← e) c.laid
-
-    pub copying_room : j < n → at + j < length p
-    copying_room h = omega (arith, c.laid.size, r.room)
-
-    pub copying_next : j < n → (x : ℕ) → x ≡ get_or b j 0 → Copying b n s at (set p (at + j) x) (j + 1)
-    copying_next h x e =
-        let a : at + (j + 1) ≡ at + j + 1 = omega arith in
-        let n : j < length b = omega (arith, r.enough) in
-        let d : take (j + 1) b ≡ take j b ++ x ∷ [] = rw (add-one j, e) (take-suc b j 0 n) in
-        record { low = omega arith; laid = rw (a, d) (lays_both c.laid (lays_byte p (at + j) x (copying_room h))) }
-
 -- ---- where the table has no frames 34
 
 module _ (s : List ℕ) (a b : ℕ) (k : List ℕ) (t : TableLaid s a b k) where

@@ -14,11 +14,7 @@ fn copy_bytes(bytes: &[u8], n: usize, sheet: &mut [u8], at: usize) -> usize
     requires { CopyRoom bytes.now n sheet.old at }
     ensures { Lays sheet.old at (take n bytes.now) sheet.new result }
 {
-    let mut j: usize = 0;
-    while j < n {
-        sheet[at + j] = bytes[j];
-        j += 1;
-    }
+    sheet[at..at + n].copy_from_slice(&bytes[..n]);
     at + n
 }
 

@@ -4,7 +4,7 @@ pub use Rattle.query.specs.Asks
 pub use Rattle.query.specs.Given
 pub use Rattle.query.specs.Sampled as GivenSampled
 pub use Rattle.query.specs.Statistics
-pub use Rattle.query.specs.declared.statistics.Sampled
+pub use Rattle.query.specs.Settings
 pub use Rattle.table_samples.specs.Atoms
 pub use Rattle.table_samples.specs.Bound
 pub use Rattle.table_samples.specs.Buckets

@@ -2,25 +2,12 @@
 ghost use Rattle.std.specs.Prelude.{◌≡◌, ◌≤◌, length};
 ghost use Rattle.table_samples.specs.Sheet.{frames_in};
 ghost use Rattle.query.specs.Given.{Given};
-ghost use Rattle.query.specs.Statistics.{high as high_of, low as low_of, driver_sample, key_classes, probe_len};
+ghost use Rattle.query.specs.Statistics.{driver_sample, key_classes, probe_len};
 ghost use Rattle.table_samples.specs.Listed.{Listed};
 
 use hexadecimal::{byte_at, word_at};
 use query::below::find_in;
-use table_samples::below::{copy_shorts, wide};
-use table_samples::tables::least;
-
-fn high(s: u16) -> u8
-    ensures { result ≡ high_of s }
-{
-    (s / 256) as u8
-}
-
-fn low(s: u16) -> u8
-    ensures { result ≡ low_of s }
-{
-    (s % 256) as u8
-}
+use table_samples::below::copy_shorts;
 
 // The first k nodes of an atom's sheet, and how many they are.
 pub fn sheet_drivers(sheet: &[u8], index: &[u16], atom: u8, k: usize, nodes: &mut [u16]) -> usize
@@ -30,7 +17,7 @@ pub fn sheet_drivers(sheet: &[u8], index: &[u16], atom: u8, k: usize, nodes: &mu
 {
     let key = [0x21, atom];
     let frame = find_in(sheet, index, &key);
-    let n = least(k, wide(byte_at(frame, 2)));
+    let n = k.min(usize::from(byte_at(frame, 2)));
     copy_shorts(frame, 3, n, nodes, 0);
     n
 }
@@ -48,9 +35,10 @@ pub fn sheet_classes(
     requires given { Given sheet.now index.now }
     ensures { Listed classes.new result 255 (key_classes (frames_in sheet.now) node site position) }
 {
-    let key = [0x22, high(node), low(node), site, position];
+    let [high, low] = node.to_be_bytes();
+    let key = [0x22, high, low, site, position];
     let frame = find_in(sheet, index, &key);
-    let n = wide(byte_at(frame, 5));
+    let n = usize::from(byte_at(frame, 5));
     copy_shorts(frame, 6, n, classes, 0);
     n
 }
@@ -60,6 +48,7 @@ pub fn sheet_probe(sheet: &[u8], index: &[u16], class: u16, path: u8, position: 
     requires { Given sheet.now index.now }
     ensures { result ≡ probe_len (frames_in sheet.now) class path position op }
 {
-    let key = [0x23, high(class), low(class), path, position, op];
+    let [high, low] = class.to_be_bytes();
+    let key = [0x23, high, low, path, position, op];
     word_at(find_in(sheet, index, &key), 6)
 }

@@ -1,4 +1,6 @@
 -- A key that is known, and one that is measured and put beside the others. Proved by what the measurement is.
+use Rattle.std.specs.Prelude.{Some, None}
+use Rattle.std.specs.Prelude.{Option as OptionOf}
 use Prim.Native.Nat.{ℕ, zero, suc, ◌+◌, ◌*◌, ◌/◌, ◌%◌, ◌<◌, ◌≤◌}
 use mathlib.Core.Path.{◌≡◌, refl, sym, ◌∙◌, ap}
 use mathlib.Core.Bool.{Bool, true, false}
@@ -13,12 +15,7 @@ use lib.Seq.{get_or-set_same, get_or-set_other}
 use borrow.Author.Tests.{lt-ltb, le-ltb, ltb-true, ltb-false}
 use Rattle.query.specs.Given.{Given}
 use Rattle.measure.specs.Selectivity.{zero64}
-use Rattle.measure.specs.declared.FanOut.{FanOut}
-use Rattle.measure.specs.declared.FanOut.TheVariants.{Measured, Unmeasured}
 use Rattle.measure.specs.declared.SamplerConfig.{SamplerConfig}
-use Rattle.measure.specs.declared.Estimate.{Estimate}
-use Rattle.measure.specs.declared.Estimate.TheVariants.{Accepted, Rejected}
-use Rattle.query.specs.declared.statistics.Sampled.TheVariants.{On}
 use Rattle.memo_entries.specs.Key.{Key}
 use Rattle.memo_entries.specs.Measurement.{Measurement}
 use Rattle.memo_entries.specs.Measurement.TheVariants.{NoDraws, Accepted as Taken, Rejected as Refused}
@@ -33,24 +30,24 @@ use Rattle.memo_entries.proofs.MemoLaws.{memo_more}
 
 -- ---- what a measurement gives, in the arrays and in the tallies
 
-fan_given : (z : Option Estimate) → measured_fan (measurement_of z) ≡ or_measured (value_of z) Unmeasured
+fan_given : (z : Option (OptionOf Float)) → measured_fan (measurement_of z) ≡ or_measured (value_of z) None
 fan_given none = refl
-fan_given (some (Accepted m)) = refl
-fan_given (some Rejected) = refl
+fan_given (some (Some m)) = refl
+fan_given (some None) = refl
 
 -- the entry of a key and its fan-out has both
-entry_key_lem : (key : ℕ) (f : FanOut) → entry_of key f / 2 ≡ key
-entry_key_lem key (Measured x) = omega arith
-entry_key_lem key Unmeasured = omega arith
+entry_key_lem : (key : ℕ) (f : OptionOf Float) → entry_of key f / 2 ≡ key
+entry_key_lem key (Some x) = omega arith
+entry_key_lem key None = omega arith
 
-entry_value : (key : ℕ) (f : FanOut) → memo_value (has_value (entry_of key f)) (fan_value f) ≡ memo_value (is_measured f) (fan_value f)
-entry_value key (Measured x) = let e : (key * 2 + 1) % 2 ≡ 1 = omega arith in rw e
-entry_value key Unmeasured = let e : key * 2 % 2 ≡ 0 = omega arith in rw e
+entry_value : (key : ℕ) (f : OptionOf Float) → memo_value (has_value (entry_of key f)) (fan_value f) ≡ memo_value (is_measured f) (fan_value f)
+entry_value key (Some x) = let e : (key * 2 + 1) % 2 ≡ 1 = omega arith in rw e
+entry_value key None = let e : key * 2 % 2 ≡ 0 = omega arith in rw e
 
-value_kept : (z : Option Estimate) → memo_value (is_measured (measured_fan (measurement_of z))) (fan_value (measured_fan (measurement_of z))) ≡ value_of z
+value_kept : (z : Option (OptionOf Float)) → memo_value (is_measured (measured_fan (measurement_of z))) (fan_value (measured_fan (measurement_of z))) ≡ value_of z
 value_kept none = refl
-value_kept (some (Accepted m)) = refl
-value_kept (some Rejected) = refl
+value_kept (some (Some m)) = refl
+value_kept (some None) = refl
 
 count_more : (o : Measurement) (s : Sampling) → (counted_by o s).count ≡ s.count + 1
 count_more NoDraws s = refl
@@ -77,27 +74,27 @@ unfolding memo_at
 memo_length ks zero = refl
 memo_length ks (suc m) = ap suc (memo_length ks m)
 
-tally_more : (z : Option Estimate) (x : Key) (t : Tally) → length (tally_of z x t).memo ≡ suc (length t.memo)
+tally_more : (z : Option (OptionOf Float)) (x : Key) (t : Tally) → length (tally_of z x t).memo ≡ suc (length t.memo)
 tally_more none x t = refl
-tally_more (some (Accepted m)) x t = refl
-tally_more (some Rejected) x t = refl
+tally_more (some (Some m)) x t = refl
+tally_more (some None) x t = refl
 
-same_settings : (a b : SamplerConfig) → On a ≡ On b → a ≡ b
+same_settings : (a b : SamplerConfig) → Some a ≡ Some b → a ≡ b
 same_settings a b h = cc
 
 -- ---- the memo, by where the key stands
 
-module _ (fs : List (List ℕ)) (cfg : SamplerConfig) (x : Key) (ks : List ℕ) (xs : List Float) (s : Sampling) (m : Remembers fs (On cfg) ks xs s) (key i : ℕ) (pb : (unpack_key key ≡ x) × (key < 0x1_0000_0000_0000)) (q : Placed ks s.count key i) where
+module _ (fs : List (List ℕ)) (cfg : SamplerConfig) (x : Key) (ks : List ℕ) (xs : List Float) (s : Sampling) (m : Remembers fs (Some cfg) ks xs s) (key i : ℕ) (pb : (unpack_key key ≡ x) × (key < 0x1_0000_0000_0000)) (q : Placed ks s.count key i) where
   p : unpack_key key ≡ x
   p = pb.0
 
   known_by : is_known (memo_at ks s.count) x ≡ ltb i s.count
   known_by = rw (← p) q.known
 
-  known_fan : i < s.count → or_measured (memo_value (has_value (get_or ks i 0)) (get_or xs i zero64)) Unmeasured ≡ or_measured (value_of (measure fs cfg x)) Unmeasured
+  known_fan : i < s.count → or_measured (memo_value (has_value (get_or ks i 0)) (get_or xs i zero64)) None ≡ or_measured (value_of (measure fs cfg x)) None
   known_fan l = rw (m.is cfg refl i l, q.is l, p)
 
-  pub known_gives : (f : FanOut) → i < s.count → f ≡ or_measured (memo_value (has_value (get_or ks i 0)) (get_or xs i zero64)) Unmeasured → Gives fs (On cfg) ks xs (record { fan = f; tallies = s }) (estimate fs (On cfg) x (tally_at ks s))
+  pub known_gives : (f : OptionOf Float) → i < s.count → f ≡ or_measured (memo_value (has_value (get_or ks i 0)) (get_or xs i zero64)) None → Gives fs (Some cfg) ks xs (record { fan = f; tallies = s }) (estimate fs (Some cfg) x (tally_at ks s))
   unfolding after_estimate
   known_gives f l e = record {
     fan = e ∙ known_fan l;
@@ -120,14 +117,14 @@ module _ (fs : List (List ℕ)) (cfg : SamplerConfig) (x : Key) (ks : List ℕ) 
       pub value_room : s.count < length xs
       value_room = omega (arith, key_room, m.places)
 
-      module _ (o : Measurement) (f : FanOut) (v : ℕ) (y : Float) (t : Sampling) (is : o ≡ measurement_of (measure fs cfg x)) (hf : f ≡ measured_fan o) (hv : v ≡ entry_of key f) (hy : y ≡ fan_value f) (ht : t ≡ counted_by o s) where
+      module _ (o : Measurement) (f : OptionOf Float) (v : ℕ) (y : Float) (t : Sampling) (is : o ≡ measurement_of (measure fs cfg x)) (hf : f ≡ measured_fan o) (hv : v ≡ entry_of key f) (hy : y ≡ fan_value f) (ht : t ≡ counted_by o s) where
         memo_now : memo_at (set ks s.count v) (s.count + 1) ≡ x ∷ memo_at ks s.count
         memo_now = memo_more ks s.count v key_room ∙ rw (hv, entry_key_lem key f, p)
 
-        tally_by : (z : Option Estimate) → tally_at (set ks s.count v) (counted_by (measurement_of z) s) ≡ tally_of z x (tally_at ks s)
+        tally_by : (z : Option (OptionOf Float)) → tally_at (set ks s.count v) (counted_by (measurement_of z) s) ≡ tally_of z x (tally_at ks s)
         tally_by none = rw memo_now
-        tally_by (some (Accepted a)) = rw (memo_now, add-one s.tallied)
-        tally_by (some Rejected) = rw (memo_now, add-one s.tallied, add-one s.rejected)
+        tally_by (some (Some a)) = rw (memo_now, add-one s.tallied)
+        tally_by (some None) = rw (memo_now, add-one s.tallied, add-one s.rejected)
 
         kept : memo_value (has_value v) y ≡ value_of (measure fs cfg (entry_key v))
         kept = rw (hv, hy, entry_key_lem key f, p) (entry_value key f ∙ rw (hf, is) (value_kept (measure fs cfg x)))
@@ -145,7 +142,7 @@ module _ (fs : List (List ℕ)) (cfg : SamplerConfig) (x : Key) (ks : List ℕ) 
                 let e : j ≡ s.count = omega arith in
                 rw (e, get_or-set_same xs s.count y zero64 value_room, get_or-set_same ks s.count v 0 key_room) kept
 
-        remembers_now : Remembers fs (On cfg) (set ks s.count v) (set xs s.count y) t
+        remembers_now : Remembers fs (Some cfg) (set ks s.count v) (set xs s.count y) t
         remembers_now = rw ht record {
           set = how_same o s ∙ m.set;
           fits = omega (arith, key_room, count_more o s, length-set ks s.count v);
@@ -156,7 +153,7 @@ module _ (fs : List (List ℕ)) (cfg : SamplerConfig) (x : Key) (ks : List ℕ) 
           is = λ c e j l. rw (← same_settings cfg c e) (value_at j (rw (count_more o s) at l));
         }
 
-        pub unknown_gives : Gives fs (On cfg) (set ks s.count v) (set xs s.count y) (record { fan = f; tallies = t }) (estimate fs (On cfg) x (tally_at ks s))
+        pub unknown_gives : Gives fs (Some cfg) (set ks s.count v) (set xs s.count y) (record { fan = f; tallies = t }) (estimate fs (Some cfg) x (tally_at ks s))
         unknown_gives = record {
           fan = rw (hf, is) (fan_given (measure fs cfg x));
           tally = rw (after, ht, is) (tally_by (measure fs cfg x));
@@ -165,5 +162,5 @@ module _ (fs : List (List ℕ)) (cfg : SamplerConfig) (x : Key) (ks : List ℕ) 
 
 -- ---- the settings
 
-pub measure_ready : (fs : List (List ℕ)) (cfg : SamplerConfig) (x i : List ℕ) → Samples fs (On cfg) → Given x i → (cfg.k ≤ 64) × ((cfg.bootstrap ≤ 256) × Given x i)
+pub measure_ready : (fs : List (List ℕ)) (cfg : SamplerConfig) (x i : List ℕ) → Samples fs (Some cfg) → Given x i → (cfg.k ≤ 64) × ((cfg.bootstrap ≤ 256) × Given x i)
 measure_ready fs cfg x i z h = (z.nodes cfg refl, (z.resamples cfg refl, h))

@@ -1,4 +1,3 @@
-pub mod KeyLaws
 pub mod EstimateLaws
 pub mod SampleLaws
 pub mod OwnLaws

@@ -1,9 +1,9 @@
 -- What is remembered, by the settings that it has itself.
+use Rattle.query.specs.Settings.{Sampled}
 use Prim.Native.Nat.{ℕ}
 use mathlib.Core.Path.{sym, subst}
 use mathlib.Core.List.{List}
 use lib.Ieee.{Float}
-use Rattle.query.specs.declared.statistics.Sampled.{Sampled}
 use Rattle.memo_entries.specs.Sampling.{Sampling}
 use Rattle.samples.specs.Remembering.{Samples, Remembers}
 

@@ -1,8 +1,8 @@
 // The sample of a probe, by the emitter of the operand that it goes by.
+ghost use Rattle.std.specs.Prelude.{None};
 ghost use Rattle.std.specs.Prelude.{◌≡◌, map, ◌<◌, ◌≤◌, length, get_or};
 ghost use Rattle.query.specs.Sheet.{frames_in};
 ghost use Rattle.query.specs.Given.{Given};
-ghost use Rattle.measure.specs.declared.FanOut.TheVariants.{Unmeasured};
 ghost use Rattle.memo_entries.specs.Costs.{sampled as sampled_of};
 ghost use Rattle.memo_entries.specs.Emitters.{decode};
 ghost use Rattle.memo_entries.specs.Memo.{tally_at};
@@ -10,11 +10,8 @@ ghost use Rattle.query.specs.Lookups.{operand_at};
 ghost use Rattle.samples.specs.Remembering.{number_key, Samples, Remembers, Gives};
 
 use super::memo::{Sample, estimate};
-use fields::field::wide;
 use hexadecimal::byte_at;
-use measure::FanOut;
 use memo_entries::below::{Key, Sampling};
-use query::statistics::Sampled;
 
 // A probe of a candidate atom: its operator, and the path and place of the key.
 #[derive(Clone, Copy)]
@@ -24,22 +21,11 @@ pub struct Probe {
     pub place: u8,
 }
 
-fn narrow_word(n: u32) -> u8
-    requires { n < 256 }
-    ensures { result ≡ n }
-{
-    n as u8
-}
-
 // The number of a variable's emitter, 0 where it has none.
 fn emitter_of(em: &[u32], v: u8) -> u32
     ensures { result ≡ get_or em.now v 0 }
 {
-    let i = wide(v);
-    if i < em.len() {
-        return em[i];
-    }
-    0
+    em.get(usize::from(v)).copied().unwrap_or(0)
 }
 
 // The key of a probe, for a variable with the emitter of number e.
@@ -49,9 +35,9 @@ fn key_of(e: u32, q: Probe) -> Key
 {
     let c = e - 1;
     Key {
-        emitter: narrow_word(c / 1024 % 256),
-        site: narrow_word(c / 256 % 4),
-        position: narrow_word(c % 256),
+        emitter: (c / 1024 % 256) as u8,
+        site: (c / 256 % 4) as u8,
+        position: (c % 256) as u8,
         op: q.op,
         path: q.path,
         place: q.place,
@@ -59,10 +45,10 @@ fn key_of(e: u32, q: Probe) -> Key
 }
 
 fn unsampled(s: Sampling) -> Sample
-    ensures { result ≡ record { fan = Unmeasured; tallies = s } }
+    ensures { result ≡ record { fan = None; tallies = s } }
 {
     Sample {
-        fan: FanOut::Unmeasured,
+        fan: None,
         tallies: s,
     }
 }
@@ -93,8 +79,7 @@ pub fn sampled(
     if e == 0 {
         return unsampled(s);
     }
-    let how = s.how;
-    let Sampled::On(cfg) = how else {
+    let Some(cfg) = s.how else {
         return unsampled(s);
     };
     let x = key_of(e, q);

@@ -1,15 +1,16 @@
 -- The greedy loop: what is left of it gives what the whole gives. Proved round by round; the memo's room from its growth.
+use Rattle.query.specs.Settings.{Sampled}
+use Rattle.std.specs.Prelude.{Some, None}
 use Prim.Native.Nat.{ℕ, suc, ◌-◌, ◌<◌, ◌≤◌}
 use mathlib.Core.Path.{◌≡◌, refl, sym, ◌∙◌, ap, subst}
 use mathlib.Core.Logic.{◌⊎◌, inl, inr}
-use mathlib.Core.Bool.{Bool, true, false, not}
+use mathlib.Core.Bool.{Bool, true, false}
 use mathlib.Core.Option.{Option, none, some}
 use mathlib.Core.List.Memᴰ
 use mathlib.Core.List.{List, [], ◌∷◌, ◌++◌, map, Memᴰ}
 use native.Mathlib.Omega.{arith}
 use lib.ListN.{length, take, replicate}
 use lib.Ieee.{Float, lt}
-use borrow.Author.Tests.{not-true, not-false}
 use Rattle.cost.specs.Choose.{pick}
 use Rattle.query.specs.Sheet.{frames_in}
 use Rattle.query.specs.Atoms.{Atom, Step}
@@ -20,7 +21,6 @@ use Rattle.cost.proofs.TabulateLaws.{tabulate_length, tabulate_mem}
 use Rattle.query.specs.Lowering.{Lowered, done}
 use Rattle.cost.specs.Scheduling.{State, Chosen, Progress, scans, unlowered, lower_eager, emit_at, go_on, rounds_up_to, atom_of, numbers}
 use Rattle.cost.specs.Cheapest.{Bid, Scan, scan, bidder, better, is_candidate, cheapest}
-use Rattle.query.specs.declared.statistics.Sampled.{Sampled}
 use Rattle.cost.specs.Emitters.{Emitters, record_atom, record_emitters}
 use Rattle.cost.specs.Sampling.{Tally}
 use Rattle.cost.specs.Costs.{Costed, estimate_cost}
@@ -33,6 +33,7 @@ use Rattle.round_choice.specs.Eager.{state, Went, Located, Ready, sheet_atoms}
 use Rattle.round_choice.proofs.EagerLaws.{lowered_then}
 use Rattle.round_choice.specs.Remembering.{Remembers}
 use Rattle.round_choice.specs.Bidding.{bid_of, or_best}
+use Rattle.round_choice.specs.Choice.{Choice}
 use Rattle.round_choice.specs.Choosing.{candidates}
 use Rattle.round_choice.specs.CostBits.{cost_bits}
 use Rattle.round_choice.specs.Advancing.{emitters_of, Prepared, TakesNext}
@@ -199,7 +200,7 @@ module _ (x : List ℕ) where
       now_state = state q.state.used q.state.bound now_steps
 
       abbrev picked : Option ℕ
-      picked = bidder (atom_of qs) (numbers qs) (cost fs qs) lt (bid_of q.best.found q.best.who q.best.price)
+      picked = bidder (atom_of qs) (numbers qs) (cost fs qs) lt (bid_of q.best.choice)
 
       -- the costs of this round
       abbrev now_costs : List (Option Float)
@@ -231,8 +232,8 @@ module _ (x : List ℕ) where
           rw e (subst (λ (j : ℕ). take j costs' ≡ map cost_bits now_costs) c (k.chose.costs_are (omega (arith, c))))
 
       -- none was found: the plan is made
-      pub rounding_ends : (p : Scheduled) → not q.best.found ≡ true → p ≡ record { order = q.state.order; count = q.state.count; tallied = q.best.tallies.tallied; rejected = q.best.tallies.rejected; found = q.best.found; who = q.best.who } → Rounded x last costs' p
-      rounding_ends p None-found e = rw e (record {
+      pub rounding_ends : (p : Scheduled) → q.best.choice ≡ None → p ≡ record { order = q.state.order; count = q.state.count; tallied = q.best.tallies.tallied; rejected = q.best.tallies.rejected; chosen = None } → Rounded x last costs' p
+      rounding_ends p lost e = rw e (record {
         order = record {
           used = q.state.used;
           bound = q.state.bound;
@@ -244,55 +245,49 @@ module _ (x : List ℕ) where
           size = now_sofar.ready.order;
           tallied = ap (λ (g : Progress Memory). g.memory.tally.tallied) stands;
           rejected = ap (λ (g : Progress Memory). g.memory.tally.rejected) stands;
-          chosen = ap (λ (g : Progress Memory). g.memory.chosen) stands ∙ rw lost;
+          chosen = ap (λ (g : Progress Memory). g.memory.chosen) stands;
         };
         costs_are = λ l. costs_by (rounds fs qs (suc last)).memory (ap (λ (g : Progress Memory). g.memory.costs) stands) l;
       })
         where
-          lost : q.best.found ≡ false
-          lost = not-true q.best.found None-found
-
           stands : rounds fs qs (suc last) ≡ record { state = now_state; memory = emitted_by fs qs none now_state (memory (emitters_of q.state) q.state.used (tally_at keys' q.best.tallies) now_costs r.latest) }
           stands = rw lost at planned_after
 
-      module _ (one_Found : not q.best.found ≡ false) where
-        found : q.best.found ≡ true
-        found = not-false q.best.found one_Found
-
-        at_some : (choose fs qs before now_state).at ≡ some q.best.who
+      module _ (b : Choice) (found : q.best.choice ≡ Some b) where
+        at_some : (choose fs qs before now_state).at ≡ some b.who
         at_some = ap (λ (c : Chosen Memory). c.at) chosen_is ∙ rw found
 
-        pub next_below : q.best.who < n
-        next_below = rw z.count (mem_below (length qs) q.best.who ((choose_fair fs qs).known before now_state q.best.who at_some))
+        pub next_below : b.who < n
+        next_below = rw z.count (mem_below (length qs) b.who ((choose_fair fs qs).known before now_state b.who at_some))
 
-        pub next_scans : scans (atom_of (sheet_atoms x) q.best.who) ≡ true
-        next_scans = (choose_fair fs qs).scanning before now_state q.best.who at_some
+        pub next_scans : scans (atom_of (sheet_atoms x) b.who) ≡ true
+        next_scans = (choose_fair fs qs).scanning before now_state b.who at_some
 
-        pub next_unused : has q.state.used q.best.who ≡ false
-        next_unused = (choose_fair fs qs).unused before now_state q.best.who at_some
+        pub next_unused : has q.state.used b.who ≡ false
+        next_unused = (choose_fair fs qs).unused before now_state b.who at_some
 
         pub next_prepared : Prepared x q.state
         next_prepared = record { ready = now_sofar.ready; emitters = k.advanced.size }
 
         -- one was found, and is lowered
-        module _ (e : Scheduler) (t : TakesNext x q.best.who q.state e) where
+        module _ (e : Scheduler) (t : TakesNext x b.who q.state e) where
           abbrev next_state_lem : State
           next_state_lem = state e.used e.bound (now_steps ++ t.went.steps)
 
           abbrev next_memory : Memory
-          next_memory = memory (emitters_of e) e.before (tally_at keys' q.best.tallies) now_costs (some q.best.who)
+          next_memory = memory (emitters_of e) e.before (tally_at keys' q.best.tallies) now_costs (some b.who)
 
           next_sofar : Sofar (now_steps ++ t.went.steps) e.used e.bound e.order e.count
-          next_sofar = sofar_then (emit_at (atom_of qs) (numbers qs) q.best.who) now_steps q.state.used q.state.bound q.state.order q.state.count e.used e.bound e.order e.count now_sofar t.went
+          next_sofar = sofar_then (emit_at (atom_of qs) (numbers qs) b.who) now_steps q.state.used q.state.bound q.state.order q.state.count e.used e.bound e.order e.count now_sofar t.went
 
-          same_memory : memory (record_atom (emitters_of q.state) q.best.who (atom_of qs q.best.who)) (add q.state.used q.best.who) (tally_at keys' q.best.tallies) now_costs (some q.best.who) ≡ next_memory
+          same_memory : memory (record_atom (emitters_of q.state) b.who (atom_of qs b.who)) (add q.state.used b.who) (tally_at keys' q.best.tallies) now_costs (some b.who) ≡ next_memory
           same_memory = rw (t.emitters, t.before, t.used)
 
           planned_next : rounds fs qs (suc last) ≡ rounds_from fs qs left next_memory next_state_lem
           planned_next = rw found at planned_after ∙ ap (rounds_from fs qs left _) (t.went.is now_steps) ∙ ap (λ (m : Memory). rounds_from fs qs left m next_state_lem) same_memory
 
           -- it was the last
-          pub rounding_over : (p : Scheduled) → left ≡ 0 → p ≡ record { order = e.order; count = e.count; tallied = q.best.tallies.tallied; rejected = q.best.tallies.rejected; found = q.best.found; who = q.best.who } → Rounded x last costs' p
+          pub rounding_over : (p : Scheduled) → left ≡ 0 → p ≡ record { order = e.order; count = e.count; tallied = q.best.tallies.tallied; rejected = q.best.tallies.rejected; chosen = Some b.who } → Rounded x last costs' p
           unfolding rounds_up_to
           rounding_over p l f = rw f (record {
             order = record {
@@ -306,7 +301,7 @@ module _ (x : List ℕ) where
               size = next_sofar.ready.order;
               tallied = ap (λ (g : Progress Memory). g.memory.tally.tallied) stands;
               rejected = ap (λ (g : Progress Memory). g.memory.tally.rejected) stands;
-              chosen = ap (λ (g : Progress Memory). g.memory.chosen) stands ∙ rw found;
+              chosen = ap (λ (g : Progress Memory). g.memory.chosen) stands;
             };
             costs_are = λ w. costs_by (rounds fs qs (suc last)).memory (ap (λ (g : Progress Memory). g.memory.costs) stands) w;
           })
@@ -321,7 +316,7 @@ module _ (x : List ℕ) where
               record {
                 steps = now_steps ++ t.went.steps;
                 noted = now_costs;
-                latest = some q.best.who;
+                latest = some b.who;
                 plans = planned_next ∙ ap (λ (j : ℕ). rounds_from fs qs j next_memory next_state_lem) l;
                 sofar = next_sofar;
                 emitters = t.size;

@@ -1,8 +1,8 @@
 -- The rounds of the scheduler over arrays: the atoms that were lowered, in order, and what the costs remember.
-use Rattle.std.specs.Prelude.{ℕ, suc, ◌≤◌, ◌≡◌, length, take}
+use Rattle.std.specs.Prelude.{ℕ, suc, ◌≤◌, ◌≡◌, length, take, Some, None}
+use Rattle.std.specs.Prelude.{Option as OptionOf}
 use Rattle.std.proofs.Math.Option.{Option, none, some}
 use mathlib.Core.List.{List, Memᴰ, map}
-use Rattle.cost.specs.Choose.{pick}
 use Rattle.query.specs.Sheet.{frames_in}
 use Rattle.query.specs.Atoms.{Step}
 use Rattle.query.specs.Bound.{Bound, bound_most, blank}
@@ -14,8 +14,9 @@ use Rattle.round_choice.specs.CostBits.{cost_bits}
 use Rattle.scheduling.specs.declared.schedule.Scheduled.{Scheduled}
 
 -- the atom chosen in the last round, where one was found
-abbrev pub chosen_of : Scheduled → Option ℕ
-chosen_of r = pick r.found (some r.who) none
+abbrev pub chosen_of : OptionOf ℕ → Option ℕ
+chosen_of (Some i) = some i
+chosen_of None = none
 
 -- where the rounds stand: the lowering of the first atoms of the order, from the start on; the tallies, and the choice
 pub record Ordering (x : List ℕ) (p : Progress Memory) (r : Scheduled) : Type 0 where
@@ -29,7 +30,7 @@ pub record Ordering (x : List ℕ) (p : Progress Memory) (r : Scheduled) : Type 
   pub size : length r.order ≡ bound_most
   pub tallied : p.memory.tally.tallied ≡ r.tallied
   pub rejected : p.memory.tally.rejected ≡ r.rejected
-  pub chosen : p.memory.chosen ≡ chosen_of r
+  pub chosen : p.memory.chosen ≡ chosen_of r.chosen
 
 -- the plan of the query x
 abbrev pub Scheduling : List ℕ → Scheduled → Type 0

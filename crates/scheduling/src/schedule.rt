@@ -10,8 +10,8 @@ ghost use Rattle.round_choice.specs.Remembering.{Samples};
 ghost use Rattle.scheduling.specs.Rounds.{Rounded};
 
 use cost::memo::Sampling;
-use query::statistics::Sampled;
-use round_choice::below::{Best, Scheduler, take_next};
+use query::below::SamplerConfig;
+use round_choice::below::{Scheduler, take_next};
 use round_choice::next::choose_next;
 
 // The atoms lowered in order, how many they are, the tallies, and the atom chosen in the last round, if one was found.
@@ -21,22 +21,19 @@ pub struct Scheduled {
     pub count: usize,
     pub tallied: usize,
     pub rejected: usize,
-    pub found: bool,
-    pub who: u8,
+    pub chosen: Option<u8>,
 }
 
-fn ended(d: Scheduler, b: Best) -> Scheduled
-    ensures { result ≡ record { order = d.order; count = d.count; tallied = b.tallies.tallied; rejected = b.tallies.rejected; found = b.found; who = b.who } }
+fn ended(d: Scheduler, s: Sampling, chosen: Option<u8>) -> Scheduled
+    ensures { result ≡ record { order = d.order; count = d.count; tallied = s.tallied; rejected = s.rejected; chosen = chosen } }
 {
     let order = d.order;
-    let s = b.tallies;
     Scheduled {
         order,
         count: d.count,
         tallied: s.tallied,
         rejected: s.rejected,
-        found: b.found,
-        who: b.who,
+        chosen,
     }
 }
 
@@ -48,7 +45,7 @@ pub fn schedule(
     from: &[u16],
     n: usize,
     prices: &[f64],
-    how: Sampled,
+    how: Option<SamplerConfig>,
     keys: &mut [u64],
     values: &mut [f64],
     last: usize,
@@ -77,17 +74,17 @@ pub fn schedule(
         rejected: 0,
     };
     let mut left = last;
+    // kept: a `for` over the rounds would need an answer behind its end, which is never reached
     loop {
         let r = choose_next(sheet, index, from, n, prices, d, keys, values, costs, s);
-        let b = r.best;
         let e = r.state;
-        s = b.tallies;
-        if !b.found {
-            return ended(e, b);
-        }
+        s = r.best.tallies;
+        let Some(b) = r.best.choice else {
+            return ended(e, s, None);
+        };
         d = take_next(sheet, from, n, b.who, e);
         if left == 0 {
-            return ended(d, b);
+            return ended(d, s, Some(b.who));
         }
         left -= 1;
     }

@@ -19,8 +19,8 @@ use Rattle.first_reading.proofs.ReadingLaws.{or_passes}
 use Rattle.class_sets.specs.Counts.{Counts}
 use Rattle.class_sets.specs.Test.TheVariants.{Range, Reals}
 use Rattle.first_reading.specs.Text.TheVariants.{Query}
-use Rattle.first_reading.specs.declared.first.Reading.{Reading}
-use Rattle.first_reading.specs.declared.first.Reading.TheVariants.{Accepted, Refused}
+use Rattle.first_reading.specs.Reading.{Reading}
+use Rattle.first_reading.specs.Reading.{Accepted, Refused}
 use Rattle.second_reading.specs.FromTable.{takes_table, has_sheets, table_for}
 use Rattle.second_reading.specs.Leading.{chained}
 use Rattle.second_reading.specs.Second.{header_counts, second_fault, second_from, second, reading, query_reading}

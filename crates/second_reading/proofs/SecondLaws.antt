@@ -24,8 +24,8 @@ use Rattle.class_sets.specs.Counts.{Counts}
 use Rattle.class_sets.specs.Test.TheVariants.{Range, Reals}
 use Rattle.first_reading.specs.Text.{Text}
 use Rattle.first_reading.specs.Text.TheVariants.{Query, Plan}
-use Rattle.first_reading.specs.declared.first.Reading.{Reading}
-use Rattle.first_reading.specs.declared.first.Reading.TheVariants.{Accepted, Refused}
+use Rattle.first_reading.specs.Reading.{Reading}
+use Rattle.first_reading.specs.Reading.{Accepted, Refused}
 use Rattle.indexing.proofs.UnreadLaws.{range_unread, reals_unread}
 use Rattle.indexing.proofs.SheetLaws.{frames_end, frame_some, frame_within, frame_inside, frames_step}
 use Rattle.indexing.specs.Keys.{key_given}

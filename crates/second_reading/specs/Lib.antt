@@ -16,7 +16,7 @@ pub use Rattle.first_reading.specs.Faults
 pub use Rattle.first_reading.specs.First
 pub use Rattle.first_reading.specs.Lines
 pub use Rattle.first_reading.specs.Text
-pub use Rattle.first_reading.specs.declared.first.Reading
+pub use Rattle.first_reading.specs.Reading
 pub use Rattle.indexing.specs.Among
 pub use Rattle.indexing.specs.Frames
 pub use Rattle.indexing.specs.Index

@@ -7,8 +7,8 @@ use Rattle.indexing.specs.Frames.{frame_passes}
 use Rattle.indexing.specs.Sheet.{frames_in, Whole}
 use Rattle.class_sets.specs.Counts.{Counts}
 use Rattle.class_sets.specs.Test.TheVariants.{Range, Reals}
-use Rattle.first_reading.specs.declared.first.Reading.{Reading}
-use Rattle.first_reading.specs.declared.first.Reading.TheVariants.{Accepted}
+use Rattle.first_reading.specs.Reading.{Reading}
+use Rattle.first_reading.specs.Reading.{Accepted}
 use Rattle.class_sets.specs.Sets.{set_words, has_class}
 use Rattle.indexing.specs.Keys.{begins}
 use Rattle.indexing.specs.Index.{slots_for, given_by, Indexed}

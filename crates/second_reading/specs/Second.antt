@@ -12,8 +12,8 @@ use Rattle.class_sets.specs.Counts.{Counts}
 use Rattle.class_sets.specs.Test.TheVariants.{Range, Reals}
 use Rattle.first_reading.specs.Text.{Text}
 use Rattle.first_reading.specs.Text.TheVariants.{Query, Plan, Table}
-use Rattle.first_reading.specs.declared.first.Reading.{Reading}
-use Rattle.first_reading.specs.declared.first.Reading.TheVariants.{Accepted, Refused}
+use Rattle.first_reading.specs.Reading.{Reading}
+use Rattle.first_reading.specs.Reading.{Accepted, Refused}
 use Rattle.indexing.specs.Keys.{key_given}
 use Rattle.second_reading.specs.FromTable.{takes_table, table_for}
 use Rattle.second_reading.specs.Leading.{chained}

@@ -22,10 +22,7 @@ pub fn is_chained(sheet: &[u8], index: &[u16], leaders: &[u64], frame: &[u8]) ->
     if begins(&key, frame) {
         return true;
     }
-    if key_given(sheet, index, &key, hash_of(&key), 3) {
-        return true;
-    }
-    has_class(leaders, short_at(frame, 1))
+    key_given(sheet, index, &key, hash_of(&key), 3) || has_class(leaders, short_at(frame, 1))
 }
 
 // The leader of a frame 34 joins the set of leaders.

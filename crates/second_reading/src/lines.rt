@@ -1,6 +1,6 @@
 // The second reading: each frame is tested 5, 6, 7, 14 and 13 in turn.
 ghost use Rattle.std.specs.Prelude.{◌≡◌, length};
-ghost use Rattle.first_reading.specs.declared.first.Reading.TheVariants.{Accepted};
+ghost use Rattle.first_reading.specs.Reading.{Accepted, as_reading};
 ghost use Rattle.indexing.specs.Frames.{kind_of};
 ghost use Rattle.indexing.specs.Rows.{tests_of};
 ghost use Rattle.second_reading.specs.Second.{header_counts, counts_in_by, fault_of};
@@ -10,7 +10,7 @@ ghost use Rattle.second_reading.specs.Rereading.{fields_fault, chained_by, Blank
 use crate::leading::{is_chained, mark_leader};
 use class_sets::below::{Counts, byte_at};
 use first_reading::below::Text;
-use first_reading::first::Reading;
+use first_reading::first::{Fault, Lines};
 use indexing::below::{frame_at, key_length, range_passes, reals_pass, tests_of};
 use indexing::index::{hash_of, key_given, note};
 
@@ -18,13 +18,10 @@ use indexing::index::{hash_of, key_given, note};
 fn header_counts(table: bool, header: &[u8], atoms: usize) -> Counts
     ensures { result ≡ header_counts table header.now atoms }
 {
-    let variables = byte_at(header, 1);
-    let globals = byte_at(header, 2);
-    let literals = byte_at(header, 3);
     Counts {
-        variables,
-        globals,
-        literals,
+        variables: byte_at(header, 1),
+        globals: byte_at(header, 2),
+        literals: byte_at(header, 3),
         atoms,
         rows: 0,
         table,
@@ -55,12 +52,14 @@ fn fields_fault(n: Counts, tests: u8, frame: &[u8]) -> u8
     ensures { result ≡ fields_fault n frame.now }
 {
     if tests < 8 {
-        return 0;
+        0
+    } else if !range_passes(n, tests, frame) {
+        5
+    } else if reals_pass(n, tests, frame) {
+        0
+    } else {
+        6
     }
-    if !range_passes(n, tests, frame) {
-        return 5;
-    }
-    if reals_pass(n, tests, frame) { 0 } else { 6 }
 }
 
 // The tests 5, 6, 7, 14 and 13 of a frame, by the index and the leaders of those before it: the first that it fails, or 0.
@@ -81,48 +80,51 @@ fn second_fault(
     let kind = byte_at(frame, 0);
     let first = fields_fault(n, tests_of(kind), frame);
     if first != 0 {
-        return first;
+        first
+    } else if key_given(sheet, index, frame, hash, k) {
+        7
+    } else if is_chained(sheet, index, leaders, frame) {
+        14
+    } else if kind != 0x24 {
+        0
+    } else if n.table {
+        0
+    } else {
+        13
     }
-    if key_given(sheet, index, frame, hash, k) {
-        return 7;
-    }
-    if is_chained(sheet, index, leaders, frame) {
-        return 14;
-    }
-    if kind != 0x24 {
-        return 0;
-    }
-    if n.table { 0 } else { 13 }
 }
 
-// The frames in turn, after a first reading that found that many lines and counted so many of them. Each that passes is entered, and its leader marked.
+// The frames in turn, after a first reading that found those lines. Each that passes is entered, and its leader marked.
 pub fn second_lines(
     n: Counts,
     sheet: &[u8],
-    lines: usize,
-    counted: usize,
+    lines: Lines,
     index: &mut [u16],
     leaders: &mut [u64],
-) -> Reading
+) -> Result<Lines, Fault>
     requires blank_for { BlankFor sheet.now index.old }
     requires leaders_for { LeadersFor sheet.now leaders.old }
-    ensures { Rereads n sheet.now (Accepted lines counted) index.new result }
+    ensures { Rereads n sheet.now (Accepted lines.count lines.counted) index.new (as_reading result) }
 {
     let mut at: usize = 0;
     let mut k: usize = 0;
     let mut m: usize = 0;
+    // kept: a frame is entered into the index by its place, which an iterator over frames does not give: the walk counts it anyway.
     while at < sheet.len() {
         let frame = frame_at(sheet, at);
         let hash = hash_of(frame);
         let key = key_length(byte_at(frame, 0));
         let fault = second_fault(n, sheet, index, leaders, frame, hash, key);
         if fault != 0 {
-            return Reading::Refused(fault, k + 1);
+            return Err(Fault {
+                number: fault,
+                line: k + 1,
+            });
         }
         m = note(index, frame, hash, key, at, m);
         mark_leader(leaders, frame);
         at += frame.len();
         k += 1;
     }
-    Reading::Accepted(lines, counted)
+    Ok(lines)
 }

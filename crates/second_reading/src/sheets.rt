@@ -9,8 +9,5 @@ use indexing::below::has_kinds;
 pub fn table_for(handed: bool, sheet: &[u8]) -> bool
     ensures { result ≡ table_for handed (frames_in sheet.now) }
 {
-    if handed {
-        return !has_kinds(sheet, 0x21, 0x23);
-    }
-    false
+    handed && !has_kinds(sheet, 0x21, 0x23)
 }

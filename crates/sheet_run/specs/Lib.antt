@@ -1,3 +1,4 @@
+pub mod RunEnds
 pub mod SheetRuns
 pub use Rattle.chains.specs.Chains
 pub use Rattle.named_joins.specs.Plans
@@ -6,4 +7,6 @@ pub use Rattle.table_tests.specs.Tables
 pub use Rattle.table_tests.specs.Validation
 pub use Rattle.world_run.specs.Ends
 pub use Rattle.world_run.specs.Halts
-pub use Rattle.world_run.specs.declared.world.Ended
+pub use Rattle.world_run.specs.declared.world.Handed
+pub use Rattle.table_tests.specs.Refusal
+pub use Rattle.table_tests.specs.Faults

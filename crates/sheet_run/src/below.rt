@@ -1,2 +1,3 @@
 // What crates above take from those below this one.
-pub use world_run::world::{Ended, refused_plan, refused_table};
+pub use table_tests::below::Refusal;
+pub use world_run::world::Handed;

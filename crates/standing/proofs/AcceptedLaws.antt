@@ -15,7 +15,7 @@ use Rattle.frames.specs.Frames.{frame_passes}
 use Rattle.frames.specs.Sheet.{frames_in}
 use Rattle.frame_tests.specs.declared.tests.Text.TheVariants.{Table}
 use Rattle.reading_facts.specs.First.{frames_of, Sheet}
-use Rattle.reading_facts.specs.Reading.TheVariants.{Accepted}
+use Rattle.reading_facts.specs.Reading.{Accepted}
 use Rattle.reading_facts.specs.Second.{reading}
 use Rattle.reading_facts.proofs.Passes.{frame_field}
 use Rattle.reading_facts.proofs.Whole.{accepted, table_rows}

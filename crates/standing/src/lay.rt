@@ -52,6 +52,7 @@ pub fn lay_standing(
     let mut bytes: usize = 0;
     let mut m: usize = 0;
     let mut old: usize = 0;
+    // kept: what is laid is never longer than the sheet up to `at`, the place that an iterator over frames does not show.
     while at < sheet.len() {
         let frame = frame_at(sheet, at);
         at += frame.len();

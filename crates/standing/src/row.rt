@@ -5,7 +5,6 @@ ghost use Rattle.indexing.specs.Index.{Indexed};
 ghost use Rattle.standing.specs.Laid.{Lays, head_bytes, value_bytes, child_bytes, led_frame};
 
 use super::put::{put_byte, put_short};
-use fields::field::wide;
 use hexadecimal::{byte_at, short_at};
 use leaders::leader::leader;
 
@@ -48,12 +47,10 @@ fn put_children(
     ensures { Lays out.old at (child_bytes sheet.now frame.now n) out.new result }
 {
     let mut to = at;
-    let mut j: usize = 0;
-    while j < n {
+    for j in 0..n {
         let class = short_at(frame, 5 + 2 * j);
         let led = leader(sheet, index, class);
         to = put_short(out, to, led);
-        j += 1;
     }
     to
 }
@@ -71,5 +68,5 @@ pub fn put_row(sheet: &[u8], index: &[u16], frame: &[u8], out: &mut [u8], at: us
     }
     let n = byte_at(frame, 4);
     let count = put_byte(out, head, n);
-    put_children(sheet, index, frame, wide(n), out, count)
+    put_children(sheet, index, frame, usize::from(n), out, count)
 }

@@ -6,7 +6,6 @@ use mathlib.Core.List.{List, [], ◌∷◌, map, flat_map}
 use native.Mathlib.Omega.{arith}
 use lib.Dec.{T, eqb}
 use lib.ListN.{get_or}
-use borrow.Author.Tests.{eq-eqb, ne_eqb}
 use Rattle.hexadecimal.specs.Choose.{pick}
 use Rattle.output.specs.Fields.{width}
 use Rattle.binding.specs.Kinds.{kinds, kind_at, fixed_length, items_of}
@@ -39,12 +38,6 @@ pub placed_items : (f : List ℕ) (kind i w n : ℕ) → Placed f kind i w n →
 placed_items f kind i w n z = items_are f kind i w n z.is z.first z.wide z.many
 
 -- ---- one operand
-
-pub tag_local : (f : List ℕ) (j t : ℕ) → t ≡ get_or f j 0 → t ≡ 0 → 0 ≡ tag_of (operand_at f j)
-tag_local f j t is h = rw (← is, eq-eqb t 0 h)
-
-pub tag_global : (f : List ℕ) (j t : ℕ) → t ≡ get_or f j 0 → (t ≡ 0 → ⊥) → 1 ≡ tag_of (operand_at f j)
-tag_global f j t is h = rw (← is, ne_eqb t 0 h)
 
 pub index_at : (f : List ℕ) (j : ℕ) → get_or f (j + 1) 0 ≡ index_of (operand_at f j)
 index_at f j = by (eqb (get_or f j 0) 0)

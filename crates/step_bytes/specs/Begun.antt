@@ -1,5 +1,5 @@
 -- Steps held in an array: their bytes come first in it, as many as the table of kinds has for their kind.
-use Rattle.std.specs.Prelude.{ℕ, ◌≤◌, ◌≡◌, List, [], ◌∷◌, ◌++◌, map, length, get_or, eqb}
+use Rattle.std.specs.Prelude.{ℕ, ◌≤◌, ◌≡◌, List, [], ◌∷◌, ◌++◌, map, length, get_or, eqb, MatchOption, Option as Maybe}
 use Rattle.std.proofs.Math.Option.{Option, none, some}
 use Rattle.hexadecimal.specs.Choose.{pick}
 use Rattle.output.specs.Fields.{width}
@@ -31,6 +31,10 @@ pub record Becomes (b : List ℕ) (ss : List Step) : Type 0 where
   pub fits : fixed_length (kind_of b) ≤ length b
   pub few : length b ≤ 16
   pub is : begun b ≡ map frame_of ss
+
+-- the bytes, where there are any, are those of the only step of ss; where there are none, ss has no step
+abbrev pub MayBecome : Maybe (List ℕ) → List Step → Type 0
+MayBecome r ss = MatchOption r (map frame_of ss ≡ []) (λ b. Begins b (map frame_of ss))
 
 -- the steps that an atom became: none where it waits
 abbrev pub steps_of : Option Emitted → List Step

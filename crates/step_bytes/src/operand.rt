@@ -13,10 +13,7 @@ use hexadecimal::byte_at;
 pub fn tag_at(frame: &[u8], j: usize) -> u8
     ensures { result ≡ tag_of (operand_at frame.now j) }
 {
-    if byte_at(frame, j) == 0 {
-        return 0;
-    }
-    1
+    u8::from(byte_at(frame, j) != 0)
 }
 
 // The operand at byte j as an item of a step, with the byte behind it, which is its multiplicity where items have one.
@@ -37,9 +34,10 @@ pub fn lookup_at(frame: &[u8], j: usize, plain: bool, position: u8) -> [u8; 4]
     let tag = tag_at(frame, j);
     let index = byte_at(frame, j + 1);
     if plain {
-        return [1, tag, index, position];
+        [1, tag, index, position]
+    } else {
+        [3, tag, index, 0]
     }
-    [3, tag, index, 0]
 }
 
 // The step of the child at byte j: checked where it is bound, else extracted.
@@ -50,7 +48,8 @@ pub fn child_at(frame: &[u8], j: usize, position: u8, bound: &[bool]) -> [u8; 5]
     let node = byte_at(frame, 1);
     let index = byte_at(frame, j + 1);
     if pv_is_bound(frame, j, bound) {
-        return [0x42, node, position, tag_at(frame, j), index];
+        [0x42, node, position, tag_at(frame, j), index]
+    } else {
+        [0x41, index, node, position, 0]
     }
-    [0x41, index, node, position, 0]
 }

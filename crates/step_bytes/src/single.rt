@@ -4,55 +4,46 @@ ghost use Rattle.output.specs.Atoms.{Eq, EqGlobal};
 ghost use Rattle.binding.specs.Lowering.{lower};
 ghost use Rattle.binding.specs.QueryAtoms.{atom_of_frame};
 ghost use Rattle.output.specs.StepFrames.{frame_of};
-ghost use Rattle.step_bytes.specs.Begun.{Begins, Becomes, steps_of, behind_of};
+ghost use Rattle.step_bytes.specs.Begun.{Begins, MayBecome, steps_of, behind_of};
 
 use binding::sets::is_set;
 use hexadecimal::byte_at;
 
-// The first byte where there is no step: no frame has this kind.
-pub const NO_STEP: u8 = 0xff;
-
 // Both bound, CheckEq; one bound, CopyBinding; none, it waits.
-fn eq_step(a: u8, b: u8, bound: &[bool]) -> [u8; 3]
-    ensures { Becomes result (steps_of (lower bound.now 0 (Eq a b))) }
+fn eq_step(a: u8, b: u8, bound: &[bool]) -> Option<[u8; 3]>
+    ensures { MayBecome result (steps_of (lower bound.now 0 (Eq a b))) }
 {
-    let left = is_set(bound, a);
-    let right = is_set(bound, b);
-    if left {
-        if right {
-            return [0x43, a, b];
-        }
-        return [0x46, b, a];
+    match (is_set(bound, a), is_set(bound, b)) {
+        (true, true) => Some([0x43, a, b]),
+        (true, false) => Some([0x46, b, a]),
+        (false, true) => Some([0x46, a, b]),
+        (false, false) => None,
     }
-    if right {
-        return [0x46, a, b];
-    }
-    [NO_STEP, 0, 0]
 }
 
 // Bound, CheckEqGlobal; else BindGlobal.
 fn eq_global_step(a: u8, g: u8, bound: &[bool]) -> [u8; 3]
-    ensures { Becomes result (steps_of (lower bound.now 0 (EqGlobal a g))) }
+    ensures { Begins result (map frame_of (steps_of (lower bound.now 0 (EqGlobal a g)))) }
 {
     if is_set(bound, a) {
-        return [0x44, a, g];
+        [0x44, a, g]
+    } else {
+        [0x45, a, g]
     }
-    [0x45, a, g]
 }
 
-// The step of an atom of kind 04, 05 or 06; its first byte is NO_STEP where the atom waits.
-pub fn lone_step(frame: &[u8], bound: &[bool]) -> [u8; 3]
+// The step of an atom of kind 04, 05 or 06; none where the atom waits.
+pub fn lone_step(frame: &[u8], bound: &[bool]) -> Option<[u8; 3]>
     requires bound { 3 < get_or frame.now 0 0 }
     requires frame_bound { get_or frame.now 0 0 < 7 }
-    ensures { Becomes result (steps_of (lower bound.now 0 (atom_of_frame frame.now))) }
+    ensures { MayBecome result (steps_of (lower bound.now 0 (atom_of_frame frame.now))) }
 {
-    let kind = byte_at(frame, 0);
     let a = byte_at(frame, 1);
     let b = byte_at(frame, 2);
-    match kind {
+    match byte_at(frame, 0) {
         4 => eq_step(a, b, bound),
-        5 => eq_global_step(a, b, bound),
-        _ => [0x4c, a, 0],
+        5 => Some(eq_global_step(a, b, bound)),
+        _ => Some([0x4c, a, 0]),
     }
 }
 

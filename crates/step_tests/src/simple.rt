@@ -34,56 +34,40 @@ fn child_step(frame: &[u8]) -> Simple
     let position = byte_at(frame, 2);
     let index = byte_at(frame, 4);
     if byte_at(frame, 3) == 0 {
-        return Simple::Child(parent, position, index, true);
+        Simple::Child(parent, position, index, true)
+    } else {
+        Simple::ChildGlobal(parent, position, index)
     }
-    Simple::ChildGlobal(parent, position, index)
 }
 
 // A step of two fields or three, by its kind.
 pub fn simple_step(frame: &[u8]) -> Simple
     ensures { result ≡ simple (step_of frame.now) }
 {
-    let kind = byte_at(frame, 0);
     let a = byte_at(frame, 1);
     let b = byte_at(frame, 2);
-    if kind == 0x41 {
-        return Simple::Child(b, byte_at(frame, 3), a, false);
+    match byte_at(frame, 0) {
+        0x41 => Simple::Child(b, byte_at(frame, 3), a, false),
+        0x42 => child_step(frame),
+        0x43 => Simple::Pair(a, b, true),
+        0x44 => Simple::Global(b, a, true),
+        0x45 => Simple::Global(b, a, false),
+        0x46 => Simple::Pair(b, a, false),
+        0x4a => Simple::Literal(a),
+        0x4b => Simple::Literal(a),
+        _ => Simple::NotRun,
     }
-    if kind == 0x42 {
-        return child_step(frame);
-    }
-    if kind == 0x43 {
-        return Simple::Pair(a, b, true);
-    }
-    if kind == 0x44 {
-        return Simple::Global(b, a, true);
-    }
-    if kind == 0x45 {
-        return Simple::Global(b, a, false);
-    }
-    if kind == 0x46 {
-        return Simple::Pair(b, a, false);
-    }
-    if kind == 0x4a {
-        return Simple::Literal(a);
-    }
-    if kind == 0x4b {
-        return Simple::Literal(a);
-    }
-    Simple::NotRun
 }
 
 // The fault of an ExtractChild, or a CheckChildEq with a local.
 fn child_step_fault(p: u8, i: u8, v: u8, bound: bool, marks: &[u16], shapes: &[usize]) -> u8
     ensures { result ≡ child_step_fault shapes.now (bound_in marks.now) (picked_in marks.now) (ops_in marks.now) p i v bound }
 {
-    if !row_read(p, marks) {
-        return 9;
+    if row_read(p, marks) && meets(v, bound, marks) {
+        child_fault(p, i, marks, shapes)
+    } else {
+        9
     }
-    if !meets(v, bound, marks) {
-        return 9;
-    }
-    child_fault(p, i, marks, shapes)
 }
 
 // The fault of a CheckChildEq with a global.
@@ -103,33 +87,33 @@ fn child_global_fault(p: u8, i: u8, g: u8, marks: &[u16], shapes: &[usize], glob
 fn pair_fault(a: u8, v: u8, bound: bool, marks: &[u16]) -> u8
     ensures { result ≡ pair_fault (bound_in marks.now) a v bound }
 {
-    if !is_bound(marks, a) {
-        return 9;
+    if is_bound(marks, a) && meets(v, bound, marks) {
+        0
+    } else {
+        9
     }
-    if !meets(v, bound, marks) {
-        return 9;
-    }
-    0
 }
 
 // The fault of a CheckEqGlobal or a BindGlobal.
 fn global_step_fault(g: u8, v: u8, bound: bool, marks: &[u16], globals: &[u16]) -> u8
     ensures { result ≡ global_step_fault globals.now (bound_in marks.now) g v bound }
 {
-    if !meets(v, bound, marks) {
-        return 9;
+    if meets(v, bound, marks) {
+        global_fault(g, globals)
+    } else {
+        9
     }
-    global_fault(g, globals)
 }
 
 // The fault of an ExtractLitVal or a CheckLit.
 fn literal_step_fault(n: u8, marks: &[u16], shapes: &[usize]) -> u8
     ensures { result ≡ literal_step_fault shapes.now (bound_in marks.now) (picked_in marks.now) (ops_in marks.now) n }
 {
-    if !row_read(n, marks) {
-        return 9;
+    if row_read(n, marks) {
+        literal_fault(n, marks, shapes)
+    } else {
+        9
     }
-    literal_fault(n, marks, shapes)
 }
 
 // The fault of a step other than a Join.

@@ -1,18 +1,11 @@
 // The file `table` in the folder that a program is started in.
 #![tactic(auto)]
 
-ghost use Rattle.std.specs.Prelude.{◌≤◌, length};
+ghost use Rattle.std.specs.Prelude.{◌≤◌, length, IfSome};
 
 use std::fs;
 use std::io::Read;
 use std::rt::Files;
-
-// Whether the file is there, and how many of its bytes were read.
-#[derive(Clone, Copy)]
-pub struct TableFile {
-    pub found: bool,
-    pub size: usize,
-}
 
 // Reads until the table is full, the file ends or a read fails: how many bytes stand at its start.
 fn read_full<R: Read>(file: &mut R, table: &mut [u8]) -> usize
@@ -31,15 +24,10 @@ fn read_full<R: Read>(file: &mut R, table: &mut [u8]) -> usize
     done
 }
 
-pub fn read_table<R: Files>(files: &R, table: &mut [u8]) -> TableFile
-    ensures { result.size ≤ length table.new }
+// How many of the file's bytes were read; none where it is missing.
+pub fn read_table<R: Files>(files: &R, table: &mut [u8]) -> Option<usize>
+    ensures { IfSome result (λ n. n ≤ length table.new) }
 {
-    let Ok(mut file) = fs::open(files, "table") else {
-        return TableFile {
-            found: false,
-            size: 0,
-        };
-    };
-    let size = read_full(&mut file, table);
-    TableFile { found: true, size }
+    let mut file = fs::open(files, "table").ok()?;
+    Some(read_full(&mut file, table))
 }

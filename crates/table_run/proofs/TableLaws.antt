@@ -20,8 +20,8 @@ use Rattle.frame_tests.specs.Limits.{text_most, rows_most}
 use Rattle.frame_tests.specs.Sheet.{frames_in}
 use Rattle.first_reading.specs.First.{frames_of, Sheet}
 use Rattle.frame_tests.specs.declared.tests.Text.TheVariants.{Table as TableText}
-use Rattle.first_reading.specs.declared.first.Reading.{Reading}
-use Rattle.first_reading.specs.declared.first.Reading.TheVariants.{Accepted, Refused}
+use Rattle.first_reading.specs.Reading.{Reading}
+use Rattle.first_reading.specs.Reading.{Accepted, Refused}
 use Rattle.reading.specs.Second.{counts_of, reading}
 use Rattle.sheet_run.proofs.Found.{begun_kind, found_at}
 use Rattle.sheet_run.proofs.Whole.{Whole, accepted}
@@ -32,8 +32,11 @@ use Rattle.sheet_run.proofs.DistinctRows.{distinct_frames}
 use Rattle.sheet_run.proofs.AcceptedLaws.{rows_sheet}
 use Rattle.sheet_run.specs.Validation.{Invalid, tests_with}
 use Rattle.sheet_run.specs.Halts.{Halt}
-use Rattle.sheet_run.specs.Ends.{Ends}
-use Rattle.sheet_run.specs.Ended.{Ended}
+use Rattle.std.specs.Prelude.{Result, Err}
+use Rattle.first_reading.specs.declared.first.Fault.{Fault}
+use Rattle.sheet_run.specs.Refusal.{Refusal}
+use Rattle.sheet_run.specs.RunEnds.{Ends}
+use Rattle.sheet_run.specs.Handed.{Handed}
 use Rattle.sheet_run.specs.SheetRuns.{halt_in, SheetLent}
 use Rattle.table_run.specs.TableRuns.{table_tests, TableLent}
 
@@ -82,8 +85,10 @@ sheet_lent t s i R K L l v is n c e y h =
 -- ---- the table is read
 
 module _ (fs : List (List ℕ)) (t : List ℕ) (md : Mode) (v : Reading) (is : v ≡ reading TableText t) where
-  pub table_refused : (k l : ℕ) → v ≡ Refused k l → (h : Halt) (o : List ℕ) (r : Ended) → ((o : List ℕ) (h : Halt) → Ends (Invalid k 2 l) h o o r) → Ends (table_tests fs t md) h o o r
-  table_refused k l e h o r f = let q : reading TableText t ≡ Refused k l = sym is ∙ e in rw q (f o h)
+  pub table_refused : (f : Fault) → v ≡ Refused f.number f.line → (g : Refusal) → g ≡ record { number = f.number; text = TableText; line = f.line } → (h : Halt) (o : List ℕ) → Ends (table_tests fs t md) h o o (Err g)
+  table_refused f e g q h o =
+      let r : reading TableText t ≡ Refused f.number f.line = sym is ∙ e in
+      record { is = rw (q, r); kept = λ _ _. refl; did = λ _ p. let z : ◌≡◌ {A = ℕ} 0 1 = cc in absurd (omega arith) }
 
-  pub table_run : (n c : ℕ) → v ≡ Accepted n c → (y : List ℕ) → Sheet t y → (A : ℕ) (o o' : List ℕ) (r : Ended) → Ends (tests_with fs (frames_in y) md) (halt_in fs (frames_in y) md A o) o o' r → Ends (table_tests fs t md) (halt_in fs (frames_of t) md A o) o o' r
+  pub table_run : (n c : ℕ) → v ≡ Accepted n c → (y : List ℕ) → Sheet t y → (A : ℕ) (o o' : List ℕ) (r : Result Handed Refusal) → Ends (tests_with fs (frames_in y) md) (halt_in fs (frames_in y) md A o) o o' r → Ends (table_tests fs t md) (halt_in fs (frames_of t) md A o) o o' r
   table_run n c e y s A o o' r h = let q : reading TableText t ≡ Accepted n c = sym is ∙ e in rw (q, ← s.frames) h

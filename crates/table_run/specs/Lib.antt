@@ -1,6 +1,9 @@
 pub mod TableRuns
-pub use Rattle.sheet_run.specs.Ended
+pub use Rattle.sheet_run.specs.Handed
+pub use Rattle.sheet_run.specs.Refusal
+pub use Rattle.sheet_run.specs.Faults
 pub use Rattle.sheet_run.specs.Ends
+pub use Rattle.sheet_run.specs.RunEnds
 pub use Rattle.sheet_run.specs.Halts
 pub use Rattle.sheet_run.specs.Plans
 pub use Rattle.sheet_run.specs.Run

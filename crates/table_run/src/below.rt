@@ -1,2 +1,2 @@
 // What crates above take from those below this one.
-pub use sheet_run::below::{Ended, refused_plan};
+pub use sheet_run::below::{Handed, Refusal};

@@ -3,15 +3,14 @@ ghost use Rattle.frame_tests.specs.Sheet.{frames_in};
 ghost use Rattle.first_reading.specs.First.{frames_of};
 ghost use Rattle.modes.specs.Modes.{mode_of};
 ghost use Rattle.sheet_run.specs.Plans.{PlanSheet};
-ghost use Rattle.sheet_run.specs.Ends.{Ends};
+ghost use Rattle.sheet_run.specs.RunEnds.{Ends};
 ghost use Rattle.sheet_run.specs.SheetRuns.{halt_in};
 ghost use Rattle.table_run.specs.TableRuns.{table_tests, TableLent};
 
-use first_reading::first::{Reading, sheet_size};
+use first_reading::first::sheet_size;
 use frame_tests::tests::Text;
-use modes::mode::DeltaAtom;
 use reading::second::read_indexed;
-use sheet_run::below::{Ended, refused_table};
+use sheet_run::below::{Handed, Refusal};
 use sheet_run::sheets::run_sheets;
 
 // The run of the plan on a sheet over a table text, with the arrays that are lent for the table.
@@ -24,28 +23,27 @@ pub fn run_table(
     children: &mut [u16],
     links: &mut [u16],
     allowance: u64,
-    named: DeltaAtom,
+    named: Option<u64>,
     out: &mut [u8],
-) -> Ended
+) -> Result<Handed, Refusal>
     requires plan_sheet { PlanSheet plan.now }
     requires table_lent { TableLent table.now sheet.old index.old rows.old children.old links.old }
     ensures { Ends (table_tests (frames_in plan.now) table.now (mode_of named)) (halt_in (frames_in plan.now) (frames_of table.now) (mode_of named) allowance out.old) out.old out.new result }
 {
-    match read_indexed(Text::Table, table, sheet, index) {
-        Reading::Refused(k, line) => refused_table(k, line),
-        Reading::Accepted(lines, _) => {
-            let size = sheet_size(table.len(), lines);
-            run_sheets(
-                plan,
-                &sheet[..size],
-                index,
-                rows,
-                children,
-                links,
-                allowance,
-                named,
-                out,
-            )
-        }
-    }
+    let lines = match read_indexed(Text::Table, table, sheet, index) {
+        Ok(lines) => lines,
+        Err(fault) => return Err(fault.of(Text::Table)),
+    };
+    let size = sheet_size(table.len(), lines.count);
+    run_sheets(
+        plan,
+        &sheet[..size],
+        index,
+        rows,
+        children,
+        links,
+        allowance,
+        named,
+        out,
+    )
 }

@@ -1,14 +1,15 @@
 -- The classes of a row at a site, put into an array. Proved from the row's frame.
 use Prim.Native.Nat.{ℕ, zero, suc, ◌+◌, ◌-◌, ◌*◌, ◌<◌, ◌≤◌}
-use mathlib.Core.Path.{◌≡◌, refl, sym, ◌∙◌, ap}
+use mathlib.Core.Path.{◌≡◌, refl, ◌∙◌, ap}
 use mathlib.Core.Bool.{Bool, true, false, ◌||◌}
 use mathlib.Core.List.{List, [], ◌∷◌, ◌++◌}
 use native.Mathlib.Omega.{arith}
 use native.Mathlib.Numerals.{add-one}
-use lib.ListN.{length, get_or, set, take, drop, length-set, drop_of_length-le}
-use lib.Seq.{take-suc-set, drop-cons, get_or-take, length-take-le}
+use lib.ListN.{length, get_or, set, take, length-set}
+use lib.Seq.{take-suc-set}
 use lib.Dec.{eqb}
-use borrow.Author.Tests.{eq-eqb, ne_eqb}
+use borrow.Author.Tests.{ne_eqb}
+use Rattle.std.specs.List.{list_any}
 use Rattle.hexadecimal.specs.Choose.{pick}
 use Rattle.hexadecimal.specs.Digits.{short_at, word_at}
 use Rattle.buckets.specs.Atoms.{Row, Node, Literal, class_of, children}
@@ -51,27 +52,10 @@ module _ (f K : List ℕ) (position p n : ℕ) (at : p ≡ position) (count : (n
 
 -- ---- a class among those seen
 
-pub record Looking (K : List ℕ) (n c j : ℕ) : Type 0 where
-  pub is : among c (take n K) ≡ among c (drop j (take n K))
-
-pub looking_first : (K : List ℕ) (n c : ℕ) → Looking K n c 0
-looking_first K n c = record { is = refl }
-
-module _ (K : List ℕ) (n c j : ℕ) (k : Looking K n c j) (room : n ≤ length K) where
-  pub looking_end : n ≤ j → false ≡ among c (take n K)
-  unfolding among
-  looking_end h = let e : length (take n K) ≤ j = rw (length-take-le n K room) h in sym (k.is ∙ ap (among c) (drop_of_length-le (take n K) e))
-
-  module _ (h : j < n) where
-    more : among c (take n K) ≡ (eqb (get_or K j 0) c || among c (drop (suc j) (take n K)))
-    unfolding among same_class
-    more = let e : j < length (take n K) = rw (length-take-le n K room) h in k.is ∙ rw (drop-cons (take n K) j 0 e, get_or-take n K j 0 h)
-
-    pub looking_here : get_or K j 0 ≡ c → true ≡ among c (take n K)
-    looking_here e = rw (more, eq-eqb _ _ e)
-
-    pub looking_next : (get_or K j 0 ≡ c → ⊥) → Looking K n c (j + 1)
-    looking_next e = record { is = more ∙ rw (ne_eqb _ _ e, add-one j) }
+among_any : (c : ℕ) (ds : List ℕ) → list_any (λ d. eqb d c) ds ≡ among c ds
+unfolding among same_class
+among_any c [] = refl
+among_any c (d ∷ ds) = ap (λ b. eqb d c || b) (among_any c ds)
 
 -- ---- the distinct classes, one child after the other
 
@@ -97,7 +81,10 @@ module _ (f : List ℕ) (n : ℕ) (K₀ K : List ℕ) (m j : ℕ) (s : Seeing f 
     pub seeing_place : m < length K
     seeing_place = omega (arith, s.few, s.most, s.size)
 
-    module _ (c : ℕ) (e : c ≡ short_at f (5 + 2 * j)) (t : Bool) (q : t ≡ among c (take m K)) where
+    module _ (c : ℕ) (e : c ≡ short_at f (5 + 2 * j)) (t : Bool) (any : t ≡ list_any (λ d. eqb d c) (take m K)) where
+      q : t ≡ among c (take m K)
+      q = any ∙ among_any c (take m K)
+
       step : distinct_from (pick t (take m K) (take m K ++ c ∷ [])) (items_at short_at 2 f (5 + 2 * (j + 1)) (n - (j + 1))) ≡ distinct_from [] (children (row_of f))
       unfolding distinct_from
       step =
@@ -125,11 +112,10 @@ module _ (rs : List Row) (node site position : ℕ) (f : List ℕ) (is : row_of 
   unfolding table_classes
   at_node z K c h e = rw (← is, z, row_class f, ← e) (one_listed K c h)
 
-  module _ (y : site ≡ 0 → ⊥) where
-    pub at_child : site ≡ 1 → (K : List ℕ) (r : ℕ) → Listed K r 255 (child_of (children (row_of f)) position) → Listed K r 255 (table_classes rs node site position)
-    unfolding table_classes
-    at_child z K r l = rw (← is, z) l
+  pub at_child : site ≡ 1 → (K : List ℕ) (r : ℕ) → Listed K r 255 (child_of (children (row_of f)) position) → Listed K r 255 (table_classes rs node site position)
+  unfolding table_classes
+  at_child z K r l = rw (← is, z) l
 
-    pub at_element : (site ≡ 1 → ⊥) → (K : List ℕ) (r : ℕ) → Listed K r 255 (distinct_from [] (children (row_of f))) → Listed K r 255 (table_classes rs node site position)
-    unfolding table_classes
-    at_element z K r l = rw (← is, ne_eqb site 0 y, ne_eqb site 1 z) l
+  pub at_element : (site ≡ 0 → ⊥) → (site ≡ 1 → ⊥) → (K : List ℕ) (r : ℕ) → Listed K r 255 (distinct_from [] (children (row_of f))) → Listed K r 255 (table_classes rs node site position)
+  unfolding table_classes
+  at_element y z K r l = rw (← is, ne_eqb site 0 y, ne_eqb site 1 z) l

@@ -1,28 +1,15 @@
 // The answers of a table, Note 3: nodes are row numbers.
-ghost use Rattle.std.specs.Prelude.{◌≡◌, [], ◌<◌, ◌≤◌, min, length, take};
+ghost use Rattle.std.specs.Prelude.{◌≡◌, [], ◌<◌, ◌≤◌, length, take};
 ghost use Rattle.buckets.specs.Atoms.{children as children_of};
-ghost use Rattle.buckets.specs.Running.{among};
 ghost use Rattle.buckets.specs.Rows.{row_of};
 ghost use Rattle.buckets.specs.RowIndex.{RowsIndexed, rows_on};
 ghost use Rattle.table_samples.specs.TableSamples.{table_classes, table_drivers, table_probe, child_of, distinct_from, scaled_back};
 ghost use Rattle.table_samples.specs.Listed.{Listed, RowsListed};
 
-use buckets::below::{OP_PATH, Want, child_count, wide};
+use buckets::below::{OP_PATH, Want, child_count};
 use buckets::index::row_frame;
 use buckets::sample::{count_rows, op_hits, stride_rows};
 use hexadecimal::short_at;
-
-pub fn least(a: usize, b: usize) -> usize
-    ensures { result ≡ min a b }
-{
-    if a <= b { a } else { b }
-}
-
-fn operator(op: u8) -> u16
-    ensures { result ≡ op }
-{
-    op as u16
-}
 
 // The operator's rows in order, at most k of them at even distances, and how many they are.
 pub fn table_drivers(sheet: &[u8], index: &[u16], op: u8, k: usize, nodes: &mut [u16]) -> usize
@@ -33,27 +20,12 @@ pub fn table_drivers(sheet: &[u8], index: &[u16], op: u8, k: usize, nodes: &mut 
     let w = Want {
         path: OP_PATH,
         place: 0,
-        class: operator(op),
+        class: u16::from(op),
     };
     let n = count_rows(sheet, index, w);
-    let m = least(k, n);
+    let m = k.min(n);
     stride_rows(sheet, index, w, n, m, nodes);
     m
-}
-
-// Whether a class is one of the first n.
-fn is_seen(classes: &[u16], n: usize, class: u16) -> bool
-    requires { n ≤ length classes.now }
-    ensures { result ≡ among class (take n classes.now) }
-{
-    let mut j: usize = 0;
-    while j < n {
-        if classes[j] == class {
-            return true;
-        }
-        j += 1;
-    }
-    false
 }
 
 // The distinct classes of a row's children, as they are first seen, and how many they are.
@@ -63,11 +35,9 @@ fn distinct_classes(frame: &[u8], classes: &mut [u16]) -> usize
 {
     let n = child_count(frame);
     let mut m: usize = 0;
-    let mut j: usize = 0;
-    while j < n {
+    for j in 0..n {
         let class = short_at(frame, 5 + 2 * j);
-        j += 1;
-        if is_seen(classes, m, class) {
+        if classes[..m].contains(&class) {
             continue;
         }
         classes[m] = class;
@@ -81,7 +51,7 @@ fn class_at(frame: &[u8], position: u8, classes: &mut [u16]) -> usize
     requires { 256 ≤ length classes.old }
     ensures { Listed classes.new result 255 (child_of (children_of (row_of frame.now)) position) }
 {
-    let p = wide(position);
+    let p = usize::from(position);
     if child_count(frame) <= p {
         return 0;
     }
@@ -104,14 +74,14 @@ pub fn table_classes(
     ensures { Listed classes.new result 255 (table_classes (rows_on sheet.now) node site position) }
 {
     let frame = row_frame(sheet, index, node);
-    if site == 0 {
-        classes[0] = short_at(frame, 1);
-        return 1;
+    match site {
+        0 => {
+            classes[0] = short_at(frame, 1);
+            1
+        }
+        1 => class_at(frame, position, classes),
+        _ => distinct_classes(frame, classes),
     }
-    if site == 1 {
-        return class_at(frame, position, classes);
-    }
-    distinct_classes(frame, classes)
 }
 
 // The most rows of a bucket that are all looked at.
@@ -139,7 +109,7 @@ pub fn table_probe(sheet: &[u8], index: &[u16], class: u16, path: u8, position: 
         class,
     };
     let n = count_rows(sheet, index, w);
-    let m = least(PROBE_SCAN_CAP, n);
+    let m = PROBE_SCAN_CAP.min(n);
     let mut bucket = [0u16; PROBE_SCAN_CAP];
     stride_rows(sheet, index, w, n, m, &mut bucket);
     scaled(op_hits(sheet, index, &bucket, m, op), n)

@@ -1,30 +1,19 @@
 -- The globals' classes, one after another. Assumes nothing.
 use Prim.Native.Nat.{ℕ, ◌+◌, ◌<◌, ◌≤◌}
-use mathlib.Core.Path.{◌≡◌, refl, sym, ◌∙◌}
+use mathlib.Core.Path.{◌≡◌, sym, ◌∙◌}
 use mathlib.Core.List.{List, [], ◌∷◌}
 use native.Mathlib.Omega.{arith}
 use native.Mathlib.Decide.{ℕ_discrete}
 use lib.ListN.{length, get_or, set, length-set}
 use lib.Seq.{get_or-set_same, get_or-set_other, ext_get_or}
 use Rattle.frames.specs.Sheet.{frames_in}
-use Rattle.hexadecimal.specs.Digits.{short_at}
 use Rattle.frames.specs.Kinds.{kind_at}
 use Rattle.indexing.specs.Index.{Proper}
 use Rattle.indexing.specs.Keys.{find}
-use Rattle.join_tests.specs.Leaders.{leader_in}
 use Rattle.join_tests.specs.Tabulate.{tabulate}
 use Rattle.join_tests.proofs.TabulateLaws.{tabulate_at, tabulate_length}
 use Rattle.running.specs.Tables.{class_from, global_in, table_in}
 use Rattle.table_tests.specs.Globals.{GlobalsRead}
-
--- no frame, or the class that it gives
-pub class_none : (fs : List (List ℕ)) (l : List ℕ) → length l ≡ 0 → 0xffff ≡ class_from fs l
-class_none fs [] h = refl
-class_none fs (b ∷ l) h = absurd (omega arith)
-
-pub class_read : (fs : List (List ℕ)) (l : List ℕ) (c r : ℕ) → (length l ≡ 0 → ⊥) → c ≡ short_at l 2 → r ≡ leader_in fs c → r ≡ class_from fs l
-class_read fs [] c r h e q = absurd (h refl)
-class_read fs (b ∷ l) c r h e q = rw e at q
 
 pub global_proper : (g : ℕ) → Proper (0x32 ∷ g ∷ [])
 unfolding kind_at

@@ -1,22 +1,23 @@
 -- The shapes of the table's operators, row by row. Proved from the walk over a sheet's frames.
-use Prim.Native.Nat.{ℕ, zero, suc, ◌+◌, ◌-◌, ◌*◌, ◌<◌, ◌≤◌}
-use mathlib.Core.Path.{◌≡◌, refl, sym, ◌∙◌}
+use Prim.Native.Nat.{ℕ, zero, suc, ◌+◌, ◌*◌, ◌<◌, ◌≤◌}
+use mathlib.Core.Path.{◌≡◌, refl, sym, ◌∙◌, ap}
 use mathlib.Core.Bool.{Bool, true, false, not, ◌&&◌, ◌||◌, and-true, and_self, and_assoc}
 use mathlib.Core.List.{List, [], ◌∷◌, ◌++◌, append_assoc, append-nil}
 use native.Mathlib.Omega.{arith}
 use native.Mathlib.Decide.{ℕ_discrete}
 use native.Mathlib.Numerals.{add-one}
 use lib.Dec.{eqb}
-use lib.ListN.{length, get_or, drop, set, replicate, length-set}
+use lib.ListN.{length, get_or, drop, set, replicate, length-set, length-drop}
 use lib.Seq.{get_or-set_same, get_or-set_other}
-use borrow.Author.Tests.{eq-eqb, ne_eqb, not-true, not-false, eqb-true}
+use borrow.Author.Tests.{eq-eqb, ne_eqb, not-false, eqb-true}
 use Rattle.hexadecimal.specs.Choose.{pick}
 use Rattle.fields.proofs.Lists.{blank_at}
 use Rattle.hexadecimal.specs.Digits.{short_at}
 use Rattle.frames.specs.Kinds.{table}
 use Rattle.frame_tests.specs.Faults.{is_row}
-use Rattle.frames.specs.Sheet.{frame_at, frames_in}
-use Rattle.frames.proofs.SheetLaws.{frames_end, frame_some, frame_within, frames_step}
+use Rattle.frames.specs.Frames.{frame_length}
+use Rattle.frames.specs.Sheet.{frames_up_to, frames_in}
+use Rattle.frames.proofs.SheetLaws.{length_some}
 use Rattle.join_tests.specs.Atoms.{Row, Node, Literal, op_of}
 use Rattle.join_tests.specs.Refusing.{all_rows}
 use Rattle.join_tests.specs.Items.{items_at}
@@ -24,7 +25,8 @@ use Rattle.join_tests.proofs.ItemsLaws.{items_count}
 use Rattle.join_tests.specs.Rows.{row_of, rows_in}
 use Rattle.running.specs.Validation.{Verdict, Invalid, of_fault, same_shape, row_fault, with_row, shapes_from}
 use Rattle.join_tests.specs.Arrays.{shape_of, fits_shape, Shaped}
-use Rattle.table_tests.specs.declared.shapes.Verdict.TheVariants.{Passed as NoFault, Invalid as Fault}
+use Rattle.std.specs.Prelude.{Ok, Err}
+use Rattle.frame_tests.specs.declared.tests.Text.TheVariants.{Table as TableText}
 use Rattle.table_tests.specs.Shapes.{like_first, shape_fault, with_shape, RowNoted, TableNoted}
 
 -- ---- one row
@@ -109,9 +111,6 @@ module _ (f F : List ℕ) (k b o : ℕ) (a : Bool) (g : b ≡ get_or f 3 0) (w :
   byte : get_or f 3 0 < 256
   byte = rw (← g, ← w) small
 
-  pub no_row_lem : not a ≡ true → RowNoted f F 0 F
-  no_row_lem h = let r : is_row (get_or f 0 0) ≡ false = rw (← e, ← p) (not-true a h) in record { fault = rw r; shapes = rw r; size = refl; byte = byte }
-
   module _ (h : not a ≡ false) (s : ℕ) (l : Bool) (q : s ≡ shape_of (row_of f)) (v : l ≡ fits_shape (eqb s) (get_or F o 0)) where
     row : is_row (get_or f 0 0) ≡ true
     row = rw (← e, ← p) (not-false a h)
@@ -119,73 +118,72 @@ module _ (f F : List ℕ) (k b o : ℕ) (a : Bool) (g : b ≡ get_or f 3 0) (w :
     like : like_first F f ≡ l
     like = rw (← g, ← w, ← q) (sym v)
 
-    pub row_unlike : not l ≡ true → RowNoted f F 11 F
-    row_unlike z = record { fault = rw (row, like, not-true l z); shapes = rw (row, like, not-true l z); size = refl; byte = byte }
-
-    pub row_noted : not l ≡ false → RowNoted f F 0 (set F o s)
-    row_noted z = record { fault = rw (row, like, not-false l z); shapes = rw (row, like, not-false l z, ← g, ← w, ← q); size = length-set F o s; byte = byte }
-
 -- ---- the frames in turn
 
-pub frame_less : (x : List ℕ) (at : ℕ) (f : List ℕ) → at < length x → f ≡ frame_at x at → length x - (at + length f) < length x - at
-frame_less x at f h q = omega (arith, frame_some x at h f q)
+few_up_to : (n : ℕ) (x : List ℕ) → length (frames_up_to n x) ≤ length x
+unfolding frames_up_to
+few_up_to zero x = omega arith
+few_up_to (suc n) [] = omega arith
+few_up_to (suc n) (b ∷ x) =
+    let k = frame_length (b ∷ x) in
+    omega (arith, few_up_to n (drop k (b ∷ x)), length-drop k (b ∷ x), length_some (b ∷ x))
 
--- n frames stand before `at`, with the earlier rows, whose shapes are F
-pub record Noting (t F₀ F : List ℕ) (at n : ℕ) : Type 0 where
+-- a sheet has no more frames than bytes
+pub frames_few : (x : List ℕ) → length (frames_in x) ≤ length x
+unfolding frames_in
+frames_few x = few_up_to (length x) x
+
+-- n frames stand before those that are left, with the earlier rows, whose shapes are F
+pub record Noting (t F₀ F : List ℕ) (fs : List (List ℕ)) (n : ℕ) : Type 0 where
   pub earlier : List Row
   pub size : length F ≡ length F₀
-  pub few : n ≤ at
-  pub within : at ≤ length t
+  pub few : n + length fs ≤ length t
   pub shaped : Shaped F earlier
-  pub rows : rows_in (frames_in t) ≡ earlier ++ rows_in (frames_in (drop at t))
-  pub is : shapes_from [] 0 (frames_in t) ≡ shapes_from earlier n (frames_in (drop at t))
+  pub rows : rows_in (frames_in t) ≡ earlier ++ rows_in fs
+  pub is : shapes_from [] 0 (frames_in t) ≡ shapes_from earlier n fs
 
-pub noting_none : (t F : List ℕ) → F ≡ replicate 256 0 → Noting t F F 0 0
+pub noting_none : (t F r : List ℕ) → F ≡ replicate 256 0 → r ≡ t → Noting t F F (frames_in r) 0
 unfolding all_rows
-noting_none t F e = record { earlier = []; size = refl; few = omega arith; within = omega arith; shaped = rw e (record { size = refl; is = λ P g same o. rw (blank_at {A = ℕ} 256 0 o) }); rows = refl; is = refl }
+noting_none t F r e q = rw q (record { earlier = []; size = refl; few = omega (arith, frames_few t); shaped = rw e (record { size = refl; is = λ P g same o. rw (blank_at {A = ℕ} 256 0 o) }); rows = refl; is = refl })
 
 pub fault_stops : (x k n : ℕ) (v : Verdict) → (k ≡ 0 → ⊥) → of_fault x k n v ≡ Invalid k x (suc n)
 fault_stops x zero n v h = absurd (h refl)
 fault_stops x (suc k) n v h = refl
 
-module _ (t F₀ F : List ℕ) (at n : ℕ) (s : Noting t F₀ F at n) where
-  pub noted_end : length t ≤ at → TableNoted t NoFault F
+module _ (t F₀ F : List ℕ) (fs : List (List ℕ)) (n : ℕ) (s : Noting t F₀ F fs n) where
+  pub noted_end : fs ≡ [] → TableNoted t (Ok tt) F
   unfolding shapes_from rows_in
-  noted_end h = let e = frames_end t at h in record { is = sym (s.is ∙ rw e); shaped = λ _. rw (s.rows, e, append-nil s.earlier) s.shaped }
+  noted_end e = record { is = sym (s.is ∙ rw e); shaped = λ _. rw (s.rows, e, append-nil s.earlier) s.shaped }
 
-  module _ (frame : List ℕ) (p : frame ≡ frame_at t at) (h : at < length t) where
-    abbrev e : ℕ
-    e = at + length frame
-
-    next : frames_in (drop at t) ≡ frame ∷ frames_in (drop e t)
-    next = frames_step t at h frame p
+  module _ (frame : List ℕ) (gs : List (List ℕ)) (next : fs ≡ frame ∷ gs) where
+    pub noted_few : n + 1 ≤ length t
+    noted_few = omega (arith, s.few, ap length next)
 
     module _ (v : ℕ) (G : List ℕ) (w : RowNoted frame F v G) where
       same_fault : v ≡ row_fault s.earlier frame
       same_fault = w.fault ∙ fault_same F s.earlier s.shaped frame
 
-      says : shapes_from [] 0 (frames_in t) ≡ of_fault table v n (shapes_from (with_row s.earlier frame) (suc n) (frames_in (drop e t)))
+      says : shapes_from [] 0 (frames_in t) ≡ of_fault table v n (shapes_from (with_row s.earlier frame) (suc n) gs)
       unfolding shapes_from
       says = s.is ∙ rw (next, ← same_fault)
 
-      rows_more : rows_in (frames_in t) ≡ with_row s.earlier frame ++ rows_in (frames_in (drop e t))
+      rows_more : rows_in (frames_in t) ≡ with_row s.earlier frame ++ rows_in gs
       unfolding rows_in
       rows_more = s.rows ∙ rw next (by (is_row (get_or frame 0 0)))
         where
-          by : (b : Bool) → s.earlier ++ pick b (row_of frame ∷ rows_in (frames_in (drop e t))) (rows_in (frames_in (drop e t))) ≡ pick b (s.earlier ++ row_of frame ∷ []) s.earlier ++ rows_in (frames_in (drop e t))
-          by true = sym (append_assoc s.earlier (row_of frame ∷ []) (rows_in (frames_in (drop e t))))
+          by : (b : Bool) → s.earlier ++ pick b (row_of frame ∷ rows_in gs) (rows_in gs) ≡ pick b (s.earlier ++ row_of frame ∷ []) s.earlier ++ rows_in gs
+          by true = sym (append_assoc s.earlier (row_of frame ∷ []) (rows_in gs))
           by false = refl
 
-      pub noting_again : v ≡ 0 → Noting t F₀ G (at + length frame) (n + 1)
+      pub noting_again : v ≡ 0 → Noting t F₀ G gs (n + 1)
       noting_again z = record {
         earlier = with_row s.earlier frame;
         size = w.size ∙ s.size;
-        few = omega (arith, s.few, frame_some t at h frame p);
-        within = frame_within t at h frame p;
+        few = omega (arith, s.few, ap length next);
         shaped = rw w.shapes (noted_same F s.earlier s.shaped frame w.byte (sym w.fault ∙ z));
         rows = rows_more;
         is = says ∙ rw (z, add-one n);
       }
 
-      pub noted_refused : (v ≡ 0 → ⊥) → TableNoted t (Fault v 2 (n + 1)) G
+      pub noted_refused : (v ≡ 0 → ⊥) → TableNoted t (Err (record { number = v; text = TableText; line = n + 1 })) G
       noted_refused z = record { is = sym (says ∙ fault_stops table v n _ z ∙ rw (add-one n)); shaped = λ q. let y : ◌≡◌ {A = ℕ} 0 1 = cc in absurd (omega arith) }

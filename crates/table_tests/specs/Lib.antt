@@ -1,5 +1,8 @@
 pub mod Shapes
 pub mod Globals
+pub use Rattle.frame_tests.specs.declared.tests.Text
+pub use Rattle.first_reading.specs.declared.first.Refusal
+pub use Rattle.frame_tests.specs.Faults
 pub use Rattle.running.specs.Run
 pub use Rattle.running.specs.StepFrames
 pub use Rattle.running.specs.Tables

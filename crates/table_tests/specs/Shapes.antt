@@ -1,18 +1,18 @@
 -- The shapes of the table's operators, a number for each: "operator with two shapes in the table, or position or literal unlike its rows".
-use Rattle.std.specs.Prelude.{ℕ, ◌<◌, ◌≡◌, Bool, List, [], length, get_or, set, eqb}
+use Rattle.std.specs.Prelude.{ℕ, ◌<◌, ◌≡◌, Bool, List, [], length, get_or, set, eqb, Result, Ok, Err}
 use Rattle.hexadecimal.specs.Choose.{pick}
 use Rattle.frames.specs.Sheet.{frames_in}
 use Rattle.frame_tests.specs.Faults.{is_row}
 use Rattle.join_tests.specs.Rows.{row_of, rows_in}
 use Rattle.running.specs.Validation.{Verdict, Passed, Invalid, shapes_from}
 use Rattle.join_tests.specs.Arrays.{shape_of, fits_shape, Shaped}
-use Rattle.table_tests.specs.declared.shapes.Verdict.{Verdict as Answer}
-use Rattle.table_tests.specs.declared.shapes.Verdict.TheVariants.{Passed as NoFault, Invalid as Fault}
+use Rattle.frame_tests.specs.Faults.{text_number}
+use Rattle.first_reading.specs.declared.first.Refusal.{Refusal}
 
 -- what the code answers, in document 01's numbers
-abbrev pub verdict : Answer → Verdict
-verdict NoFault = Passed
-verdict (Fault k x l) = Invalid k x l
+abbrev pub verdict : Result (Unit {0}) Refusal → Verdict
+verdict (Ok _) = Passed
+verdict (Err f) = Invalid f.number (text_number f.text) f.line
 
 -- the row of the frame f is like the first of its operator, by the shapes F
 abbrev pub like_first : List ℕ → List ℕ → Bool
@@ -34,6 +34,6 @@ pub record RowNoted (f F : List ℕ) (r : ℕ) (G : List ℕ) : Type 0 where
   pub byte : get_or f 3 0 < 256
 
 -- a whole sheet t: the verdict, and where it passes the shapes of all rows
-pub record TableNoted (t : List ℕ) (r : Answer) (F : List ℕ) : Type 0 where
+pub record TableNoted (t : List ℕ) (r : Result (Unit {0}) Refusal) (F : List ℕ) : Type 0 where
   pub is : verdict r ≡ shapes_from [] 0 (frames_in t)
-  pub shaped : r ≡ NoFault → Shaped F (rows_in (frames_in t))
+  pub shaped : r ≡ Ok tt → Shaped F (rows_in (frames_in t))

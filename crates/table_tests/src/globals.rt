@@ -17,7 +17,7 @@ fn class_from(sheet: &[u8], index: &[u16], frame: &[u8]) -> u16
     requires { Indexed sheet.now index.now }
     ensures { result ≡ class_from (frames_in sheet.now) frame.now }
 {
-    if frame.len() == 0 {
+    if frame.is_empty() {
         return UNSET;
     }
     leader(sheet, index, short_at(frame, 2))
@@ -40,9 +40,7 @@ pub fn global_classes(sheet: &[u8], index: &[u16], globals: &mut [u16])
     requires globals_len { length globals.old ≡ 16 }
     ensures { GlobalsRead sheet.now globals.new }
 {
-    let mut g: u8 = 0;
-    while g < 16 {
-        globals[g as usize] = global_class(sheet, index, g);
-        g += 1;
+    for g in 0..16u8 {
+        globals[usize::from(g)] = global_class(sheet, index, g);
     }
 }

@@ -5,7 +5,6 @@ ghost use Rattle.indexing.specs.Keys.{find};
 ghost use Rattle.indexing.specs.Index.{Indexed};
 ghost use Rattle.running.specs.Tables.{row_from};
 
-use fields::field::wide_short;
 use hexadecimal::short_at;
 use indexing::index::{find_by, is_absent};
 
@@ -13,10 +12,10 @@ use indexing::index::{find_by, is_absent};
 fn row_from(frame: &[u8], n: usize) -> usize
     ensures { result ≡ row_from frame.now n }
 {
-    if frame.len() == 0 {
+    if frame.is_empty() {
         return n;
     }
-    wide_short(short_at(frame, 1))
+    usize::from(short_at(frame, 1))
 }
 
 // The first new row of n, by the index of the table's sheet.

@@ -4,18 +4,10 @@ ghost use Rattle.join_tests.specs.Rows.{row_of};
 ghost use Rattle.join_tests.specs.Arrays.{shape_of, fits_shape};
 ghost use Rattle.table_tests.specs.Shapes.{RowNoted, TableNoted};
 
-use fields::field::wide;
-use frame_tests::tests::is_row;
-use frames::frame::frame_at;
+use first_reading::first::Refusal;
+use frame_tests::tests::{Text, is_row};
+use frames::walk::Frames;
 use hexadecimal::byte_at;
-
-// What the tests find.
-#[derive(Clone, Copy)]
-pub enum Verdict {
-    Passed,
-    // number, text and line
-    Invalid(u8, u8, usize),
-}
 
 // The shape of a row's frame: 1 for a literal, 2 and its number of children for a node.
 fn row_shape(frame: &[u8]) -> usize
@@ -24,17 +16,14 @@ fn row_shape(frame: &[u8]) -> usize
     if byte_at(frame, 0) != 0x30 {
         return 1;
     }
-    2 + wide(byte_at(frame, 4))
+    2 + usize::from(byte_at(frame, 4))
 }
 
 // Whether a row of that shape may follow: no row of its operator came before, or the first has the same shape.
 fn like_first(first: usize, shape: usize) -> bool
     ensures { result ≡ fits_shape (eqb shape) first }
 {
-    if first == 0 {
-        return true;
-    }
-    shape == first
+    first == 0 || shape == first
 }
 
 // The fault of one frame of the table; the shape of a row that has none is noted.
@@ -42,7 +31,7 @@ fn row_fault(frame: &[u8], shapes: &mut [usize]) -> u8
     requires { length shapes.old ≡ 256 }
     ensures { RowNoted frame.now shapes.old result shapes.new }
 {
-    let op = wide(byte_at(frame, 3));
+    let op = usize::from(byte_at(frame, 3));
     if !is_row(byte_at(frame, 0)) {
         return 0;
     }
@@ -55,20 +44,21 @@ fn row_fault(frame: &[u8], shapes: &mut [usize]) -> u8
 }
 
 // The table's frames in turn: the first row unlike an earlier one of its operator. No shape is noted before.
-pub fn shapes_fault(table: &[u8], shapes: &mut [usize]) -> Verdict
+pub fn shapes_fault(table: &[u8], shapes: &mut [usize]) -> Result<(), Refusal>
     requires { shapes.old ≡ replicate 256 0 }
     ensures { TableNoted table.now result shapes.new }
 {
-    let mut at: usize = 0;
     let mut n: usize = 0;
-    while at < table.len() {
-        let frame = frame_at(table, at);
+    for frame in Frames::of(table) {
         let fault = row_fault(frame, shapes);
         n += 1;
         if fault != 0 {
-            return Verdict::Invalid(fault, 2, n);
+            return Err(Refusal {
+                number: fault,
+                text: Text::Table,
+                line: n,
+            });
         }
-        at += frame.len();
     }
-    Verdict::Passed
+    Ok(())
 }

@@ -1,3 +1,5 @@
 pub mod Trying
 pub use Rattle.choices.specs.Choices
+pub use Rattle.choices.specs.SearchEnd
+pub use Rattle.choices.specs.Seeking
 pub use Rattle.choices.specs.declared.choice.Cursor

@@ -1,12 +1,12 @@
 -- What a step leaves, by its kind. Assumes nothing.
 use Prim.Native.Nat.{ℕ, zero, suc, ◌+◌, ◌-◌, ◌<◌, ◌≤◌}
 use mathlib.Core.Path.{◌≡◌, refl, sym, ◌∙◌, ap}
-use mathlib.Core.Bool.{Bool, true, false, not}
+use mathlib.Core.Bool.{Bool, true, false}
 use mathlib.Core.List.{List, [], ◌∷◌, map}
 use native.Mathlib.Omega.{arith}
 use lib.Dec.{eqb}
 use lib.ListN.{length, get_or, set, length-set}
-use borrow.Author.Tests.{eq-eqb, ne_eqb, lt-ltb, eqb-true, not-true, not-false}
+use borrow.Author.Tests.{ne_eqb, lt-ltb, eqb-true}
 use Rattle.hexadecimal.specs.Choose.{pick}
 use Rattle.join_tests.specs.Atoms.{Step, Join, ExtractChild, CheckChildEq, CheckEq, CheckEqGlobal, BindGlobal, CopyBinding, Expand, ExtractLitVal, CheckLit, CheckPred, is_join}
 use Rattle.join_tests.proofs.Bools.{true_false}
@@ -20,12 +20,6 @@ use Rattle.join_tests.specs.RecordsLookups.{lookups_of}
 use Rattle.validation.specs.Marks.{binds_target, bound_mark, Markable, Stepped}
 
 -- ---- one mark
-
-pub mark_new : (m : ℕ) → m ≡ 0 → 1 ≡ bound_mark m
-mark_new m h = rw (eq-eqb m 0 h)
-
-pub mark_kept : (m : ℕ) → (m ≡ 0 → ⊥) → m ≡ bound_mark m
-mark_kept m h = rw (ne_eqb m 0 h)
 
 -- what the marks say, where one is set
 map_put : {A : Type 0} (d : A) (f : ℕ → A) (M : List ℕ) (v x : ℕ) → v < length M → map f (set M v x) ≡ put d (map f M) v (f x)
@@ -119,14 +113,14 @@ module _ (f M : List ℕ) (o : ℕ) (m : Markable f o M) (k w v : ℕ) (is : k �
     other : is_join (step_of f) ≡ false
     other = no_join f k is j
 
-    pub bind_below : not b ≡ false → v < length M
-    bind_below h = kinds (not-false b h) (λ e. omega (arith, target_below (omega arith) (omega arith), m.size)) (λ e. omega (arith, target_below (omega arith) (omega arith), m.size)) (λ e. omega (arith, target_below (omega arith) (omega arith), m.size))
+    pub bind_below : b ≡ true → v < length M
+    bind_below h = kinds h (λ e. omega (arith, target_below (omega arith) (omega arith), m.size)) (λ e. omega (arith, target_below (omega arith) (omega arith), m.size)) (λ e. omega (arith, target_below (omega arith) (omega arith), m.size))
 
-    bound_by_lem : (B : Bound) → not b ≡ false → add B v ≡ bound_by (step_of f) B
+    bound_by_lem : (B : Bound) → b ≡ true → add B v ≡ bound_by (step_of f) B
     unfolding step_of
-    bound_by_lem B h = kinds (not-false b h) (λ e. rw (← is, e, target)) (λ e. rw (← is, e, target)) (λ e. rw (← is, e, target))
+    bound_by_lem B h = kinds h (λ e. rw (← is, e, target)) (λ e. rw (← is, e, target)) (λ e. rw (← is, e, target))
 
-    pub bind_marked : (x : ℕ) → not b ≡ false → x ≡ bound_mark (get_or M v 0) → Stepped f M (set M v x)
+    pub bind_marked : (x : ℕ) → b ≡ true → x ≡ bound_mark (get_or M v 0) → Stepped f M (set M v x)
     unfolding bound_in picked_in ops_in
     bind_marked x h e = record {
       bound = map_put false is_bound M v x (bind_below h) ∙ rw (e, bound_some (get_or M v 0)) (bound_by_lem (map is_bound M) h);
@@ -150,9 +144,9 @@ module _ (f M : List ℕ) (o : ℕ) (m : Markable f o M) (k w v : ℕ) (is : k �
             (binds_none B (eqb k 0x4a) _ _ (λ r. refl) (binds_none B (eqb k 0x4b) _ _ (λ r. refl) (λ r. refl))))))))
             (rw (← is, ne_eqb k 0x40 j, e, d, c) at m.runs))
 
-    pub none_marked : not b ≡ true → Stepped f M M
+    pub none_marked : b ≡ false → Stepped f M M
     none_marked h = record {
-      bound = unbound_by (bound_in M) (sym eb ∙ not-true b h);
+      bound = unbound_by (bound_in M) (sym eb ∙ h);
       picked = picks_none (step_of f) (picked_in M) other;
       ops = keeps_ops (step_of f) (ops_in M) other;
       size = m.size;

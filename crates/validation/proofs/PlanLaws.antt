@@ -6,7 +6,7 @@ use mathlib.Core.List.{List, [], ◌∷◌, map}
 use native.Mathlib.Omega.{arith}
 use native.Mathlib.Numerals.{add-one}
 use lib.Dec.{ltb}
-use lib.ListN.{length, get_or, drop, replicate}
+use lib.ListN.{length, get_or, take, drop, replicate}
 use borrow.Author.Tests.{ltb-true}
 use Rattle.hexadecimal.specs.Choose.{pick}
 use Rattle.hexadecimal.proofs.ChooseLaws.{both_hold}
@@ -15,7 +15,7 @@ use Rattle.frames.specs.Kinds.{kinds, kind_at, plan}
 use Rattle.fields.specs.Fields.{field_passes, field_in}
 use Rattle.frames.specs.Frames.{pass_all, frame_passes}
 use Rattle.frames.specs.Sheet.{frame_at, frames_in}
-use Rattle.frames.proofs.SheetLaws.{frames_end, frame_some, frame_within, frames_step}
+use Rattle.frames.proofs.SheetLaws.{frames_end, frame_within, frames_step, first_taken}
 use Rattle.join_tests.specs.First.{frames_of}
 use Rattle.fields.specs.declared.field.Counts.{Counts}
 use Rattle.fields.specs.declared.field.Test.TheVariants.{Range}
@@ -34,9 +34,10 @@ use Rattle.join_tests.specs.declared.joins.Tested.{Tested}
 use Rattle.step_tests.specs.Steps.{Described}
 use Rattle.validation.specs.Steps.{StepTested}
 use Rattle.validation.specs.Marks.{Targeted, Markable, Stepped}
-use Rattle.table_tests.specs.declared.shapes.Verdict.TheVariants.{Passed as NoFault, Invalid as Fault}
+use Rattle.std.specs.Prelude.{Ok, Err}
+use Rattle.table_tests.specs.Text.TheVariants.{Plan as PlanText}
 use Rattle.validation.specs.Plans.{PlanSheet, PlanReady, StepsTested}
-use Rattle.table_tests.proofs.ShapeLaws.{fault_stops}
+use Rattle.table_tests.proofs.ShapeLaws.{frames_few, fault_stops}
 
 -- ---- a target is below 64
 
@@ -74,13 +75,12 @@ module _ (n : Counts) where
 
 -- ---- the frames in turn
 
--- n frames stand before `at`, and the steps from there on say the rest
-pub record Walking (x F G M : List ℕ) (at n : ℕ) : Type 0 where
-  pub few : n ≤ at
-  pub within : at ≤ length x
+-- n frames stand before those that are left, whose steps say the rest
+pub record Walking (x F G M : List ℕ) (fs : List (List ℕ)) (n : ℕ) : Type 0 where
+  pub few : n + length fs ≤ length x
   pub size : length M ≡ variables_most
-  pub each : (i : ℕ) → i < length (frames_in (drop at x)) → Targeted (get_or (frames_in (drop at x)) i [])
-  pub is : (tb : Table) → Described tb F G → steps_pass tb (steps_in (frames_in x)) ≡ steps_from tb (bound_in M) (picked_in M) (ops_in M) n (map step_of (frames_in (drop at x)))
+  pub each : (i : ℕ) → i < length fs → Targeted (get_or fs i [])
+  pub is : (tb : Table) → Described tb F G → steps_pass tb (steps_in (frames_in x)) ≡ steps_from tb (bound_in M) (picked_in M) (ops_in M) n (map step_of fs)
 
 module _ (x : List ℕ) (s : PlanSheet x) (l : List ℕ) (q : l ≡ frame_at x 0) where
   pub whole : Whole Plan s.p s.lines s.counted
@@ -109,21 +109,24 @@ module _ (x : List ℕ) (s : PlanSheet x) (l : List ℕ) (q : l ≡ frame_at x 0
   pub header_within : length l ≤ length x
   header_within = rw from_0 at (frame_within x 0 some l q)
 
-  pub walking_none : (F G : List ℕ) → Walking x F G (replicate 64 0) (length l) 1
-  unfolding steps_in blank bound_in picked_in ops_in
-  walking_none F G = record {
-    few = frame_some x 0 some l q;
-    within = header_within;
-    size = refl;
-    each = λ i h.
-        let m : suc i < s.lines = omega (arith, lines, ap length behind) in
-        let t : Targeted (get_or (frames_in x) (suc i) []) = rw s.sheet.frames (targeted (counts_of Plan s.p s.counted) head.header.variables (get_or (frames_of s.p) (suc i) []) (whole.named (suc i) m).range) in
-        rw behind at t;
-    is = λ tb d. rw behind;
-  }
+  module _ (r : List ℕ) (rest : r ≡ take (length x - length l) (drop (length l) x)) where
+    pub header_taken : frames_in x ≡ l ∷ frames_in r
+    header_taken = rw rest (first_taken x l some q)
 
-pub walking_start : (x F G l : List ℕ) → PlanReady x F G → l ≡ frame_at x 0 → Walking x F G (replicate 64 0) (length l) 1
-walking_start x F G l r q = walking_none x r.plan l q F G
+    pub walking_none : (F G : List ℕ) → Walking x F G (replicate 64 0) (frames_in r) 1
+    unfolding steps_in blank bound_in picked_in ops_in
+    walking_none F G = record {
+      few = omega (arith, frames_few x, ap length header_taken);
+      size = refl;
+      each = λ i h.
+          let m : suc i < s.lines = omega (arith, lines, ap length header_taken) in
+          let t : Targeted (get_or (frames_in x) (suc i) []) = rw s.sheet.frames (targeted (counts_of Plan s.p s.counted) head.header.variables (get_or (frames_of s.p) (suc i) []) (whole.named (suc i) m).range) in
+          rw header_taken at t;
+      is = λ tb d. rw header_taken;
+    }
+
+pub walking_start : (x F G l r : List ℕ) → PlanReady x F G → l ≡ frame_at x 0 → r ≡ take (length x - length l) (drop (length l) x) → Walking x F G (replicate 64 0) (frames_in r) 1
+walking_start x F G l r p q rest = walking_none x p.plan l q r rest F G
 
 pub runs : (tb : Table) (B R : Bound) (O f : List ℕ) → 0 ≡ step_fault tb B R O (step_of f) → runnable (step_of f) ≡ true
 runs tb B R O f h = by (runnable (step_of f)) h
@@ -132,21 +135,21 @@ runs tb B R O f h = by (runnable (step_of f)) h
     by true h = refl
     by false h = absurd (omega arith)
 
-module _ (x F G M : List ℕ) (at n : ℕ) (s : Walking x F G M at n) where
-  pub steps_end : length x ≤ at → StepsTested x F G NoFault
+module _ (x F G M : List ℕ) (fs : List (List ℕ)) (n : ℕ) (s : Walking x F G M fs n) where
+  pub steps_end : fs ≡ [] → StepsTested x F G (Ok tt)
   unfolding steps_from
-  steps_end h = record { is = λ tb d. sym (s.is tb d ∙ rw (frames_end x at h)) }
+  steps_end e = record { is = λ tb d. sym (s.is tb d ∙ rw e) }
 
-  module _ (frame : List ℕ) (q : frame ≡ frame_at x at) (h : at < length x) where
-    next : frames_in (drop at x) ≡ frame ∷ frames_in (drop (at + length frame) x)
-    next = frames_step x at h frame q
+  module _ (frame : List ℕ) (gs : List (List ℕ)) (next : fs ≡ frame ∷ gs) where
+    pub steps_few : n + 1 ≤ length x
+    steps_few = omega (arith, s.few, ap length next)
 
     module _ (t : Tested) (w : StepTested F G M frame t) where
-      says : (tb : Table) → Described tb F G → steps_pass tb (steps_in (frames_in x)) ≡ of_fault plan t.fault n (steps_from tb (bound_by (step_of frame) (bound_in M)) (picked_by (step_of frame) (picked_in M)) (ops_by (step_of frame) (ops_in M)) (suc n) (map step_of (frames_in (drop (at + length frame) x))))
+      says : (tb : Table) → Described tb F G → steps_pass tb (steps_in (frames_in x)) ≡ of_fault plan t.fault n (steps_from tb (bound_by (step_of frame) (bound_in M)) (picked_by (step_of frame) (picked_in M)) (ops_by (step_of frame) (ops_in M)) (suc n) (map step_of gs))
       unfolding steps_from
       says tb d = s.is tb d ∙ rw (next, ← w.is tb d)
 
-      pub steps_refused : (t.fault ≡ 0 → ⊥) → StepsTested x F G (Fault t.fault 1 (n + 1))
+      pub steps_refused : (t.fault ≡ 0 → ⊥) → StepsTested x F G (Err (record { number = t.fault; text = PlanText; line = n + 1 }))
       steps_refused z = record { is = λ tb d. sym (says tb d ∙ fault_stops plan t.fault n _ z ∙ rw (add-one n)) }
 
       module _ (z : t.fault ≡ 0) where
@@ -158,10 +161,9 @@ module _ (x F G M : List ℕ) (at n : ℕ) (s : Walking x F G M at n) where
           size = s.size;
         }
 
-        pub walking_again : (N : List ℕ) → Stepped frame M N → Walking x F G N (at + length frame) (n + 1)
+        pub walking_again : (N : List ℕ) → Stepped frame M N → Walking x F G N gs (n + 1)
         walking_again N m = record {
-          few = omega (arith, s.few, frame_some x at h frame q);
-          within = frame_within x at h frame q;
+          few = omega (arith, s.few, ap length next);
           size = m.size;
           each = λ i j. rw next at (s.each (suc i) (omega (arith, ap length next)));
           is = λ tb d. says tb d ∙ rw (z, add-one n, m.bound, m.picked, m.ops);

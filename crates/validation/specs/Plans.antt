@@ -1,16 +1,15 @@
 -- A plan's steps in turn, and the whole: what the code asks and leaves. x is the plan's sheet, y the table's.
-use Rattle.std.specs.Prelude.{ℕ, ◌≡◌, List}
+use Rattle.std.specs.Prelude.{ℕ, ◌≡◌, List, Result, Ok}
 use Rattle.frames.specs.Sheet.{frames_in}
 use Rattle.join_tests.specs.Text.TheVariants.{Plan}
 use Rattle.join_tests.specs.First.{Sheet}
-use Rattle.join_tests.specs.FirstReadingReading.TheVariants.{Accepted}
+use Rattle.join_tests.specs.FirstReadingReading.{Accepted}
 use Rattle.join_tests.specs.Second.{reading}
 use Rattle.join_tests.specs.Atoms.{Table}
 use Rattle.table_tests.specs.Tables.{table_in, steps_in}
 use Rattle.step_tests.specs.Validation.{steps_pass, tests_in}
 use Rattle.step_tests.specs.Steps.{Described}
-use Rattle.table_tests.specs.declared.shapes.Verdict.{Verdict as Answer}
-use Rattle.table_tests.specs.declared.shapes.Verdict.TheVariants.{Passed as NoFault}
+use Rattle.table_tests.specs.Refusal.{Refusal}
 use Rattle.table_tests.specs.Shapes.{verdict}
 
 -- x is the sheet of an accepted plan text
@@ -28,10 +27,10 @@ pub record PlanReady (x F G : List ℕ) : Type 0 where
   pub described : Described table F G
 
 -- the verdict on the steps of x, over any table that F and G speak of
-pub record StepsTested (x F G : List ℕ) (r : Answer) : Type 0 where
+pub record StepsTested (x F G : List ℕ) (r : Result (Unit {0}) Refusal) : Type 0 where
   pub is : (tb : Table) → Described tb F G → verdict r ≡ steps_pass tb (steps_in (frames_in x))
 
 -- the whole: the verdict, and where it passes the classes of the globals
-pub record Validated (x y : List ℕ) (r : Answer) (G : List ℕ) : Type 0 where
+pub record Validated (x y : List ℕ) (r : Result (Unit {0}) Refusal) (G : List ℕ) : Type 0 where
   pub is : verdict r ≡ tests_in (frames_in x) (frames_in y)
-  pub globals : r ≡ NoFault → G ≡ (table_in (frames_in y)).globals
+  pub globals : r ≡ Ok tt → G ≡ (table_in (frames_in y)).globals

@@ -2,36 +2,26 @@
 ghost use Rattle.std.specs.Prelude.{◌≡◌, ◌+◌};
 ghost use Rattle.validation.specs.Marks.{binds_target, bound_mark, Markable, Stepped};
 
-use fields::field::wide;
 use hexadecimal::byte_at;
 
 fn binds(kind: u8) -> bool
     ensures { result ≡ binds_target kind }
 {
-    if kind == 0x41 {
-        return true;
-    }
-    if kind == 0x45 {
-        return true;
-    }
-    kind == 0x46
+    matches!(kind, 0x41 | 0x45 | 0x46)
 }
 
 // The mark of a variable that a Join picks.
 fn picked_mark(op: u8) -> u16
     ensures { result ≡ 2 + op }
 {
-    2 + op as u16
+    2 + u16::from(op)
 }
 
 // The mark of a variable that is bound, by its mark before.
 fn bound_mark(mark: u16) -> u16
     ensures { result ≡ bound_mark mark }
 {
-    if mark == 0 {
-        return 1;
-    }
-    mark
+    mark.max(1)
 }
 
 // Marks what the step of a frame binds and picks; op is a Join's operator.
@@ -40,13 +30,10 @@ pub fn step_marks(frame: &[u8], op: u8, marks: &mut [u16])
     ensures { Stepped frame.now marks.old marks.new }
 {
     let kind = byte_at(frame, 0);
-    let v = wide(byte_at(frame, 1));
+    let v = usize::from(byte_at(frame, 1));
     if kind == 0x40 {
         marks[v] = picked_mark(op);
-        return;
+    } else if binds(kind) {
+        marks[v] = bound_mark(marks[v]);
     }
-    if !binds(kind) {
-        return;
-    }
-    marks[v] = bound_mark(marks[v]);
 }

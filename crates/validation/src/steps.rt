@@ -10,8 +10,9 @@ pub fn step_fault(frame: &[u8], marks: &[u16], shapes: &[usize], globals: &[u16]
     ensures { StepTested shapes.now globals.now marks.now frame.now result }
 {
     if byte_at(frame, 0) == 0x40 {
-        return join_fault(frame, marks, shapes, globals);
+        join_fault(frame, marks, shapes, globals)
+    } else {
+        let fault = simple_fault(simple_step(frame), marks, shapes, globals);
+        Tested { fault, op: 0 }
     }
-    let fault = simple_fault(simple_step(frame), marks, shapes, globals);
-    Tested { fault, op: 0 }
 }

@@ -60,12 +60,11 @@ module _ (f : List ℕ) (k : ℕ) (is : k ≡ get_or f 0 0) (line : AtomLine f) 
       let e : n + 1 ≡ suc (get_or f 3 0) = omega arith in
       e ∙ rw (← count_kind_lem f line.kind, ← is, eq-eqb k 1 h)
 
-  module _ (p : k ≡ 1 → ⊥) where
-    pub count_literal : k < 4 → 2 ≡ step_count (atom_of_frame f)
-    count_literal l = rw (← count_kind_lem f line.kind, ← is, ne_eqb k 1 p, lt-ltb k 4 l)
+  pub count_alone : 4 ≤ k → k ≤ 6 → 1 ≡ step_count (atom_of_frame f)
+  count_alone l m = rw (← count_kind_lem f line.kind, ← is, ne_eqb k 1 (λ p. omega arith), le-ltb k 4 l, lt-ltb k 7 (omega arith))
 
-    pub count_alone : 4 ≤ k → k < 7 → 1 ≡ step_count (atom_of_frame f)
-    count_alone l m = rw (← count_kind_lem f line.kind, ← is, ne_eqb k 1 p, le-ltb k 4 l, lt-ltb k 7 m)
+  pub count_few : (k ≡ 1 → ⊥) → k < 4 → 2 ≡ step_count (atom_of_frame f)
+  count_few p l = rw (← count_kind_lem f line.kind, ← is, ne_eqb k 1 p, lt-ltb k 4 l)
 
-    pub count_collection : 4 ≤ k → 7 ≤ k → 2 ≡ step_count (atom_of_frame f)
-    count_collection l m = rw (← count_kind_lem f line.kind, ← is, ne_eqb k 1 p, le-ltb k 4 l, le-ltb k 7 m)
+  pub count_collection : 6 < k → 2 ≡ step_count (atom_of_frame f)
+  count_collection l = rw (← count_kind_lem f line.kind, ← is, ne_eqb k 1 (λ p. omega arith), le-ltb k 4 (omega arith), le-ltb k 7 (omega arith))

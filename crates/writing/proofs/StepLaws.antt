@@ -24,14 +24,15 @@ use Rattle.writing.specs.Steps.{steps_along, step_count, count_along, Ordered, P
 
 -- ---- one atom of the order
 
-next_atom : (O : List ℕ) (count c k : ℕ) → c < count → count ≤ length O → k ≡ get_or O c 0 → drop c (take count O) ≡ k ∷ drop (c + 1) (take count O)
-next_atom O count c k h l e =
-    let s : c < length (take count O) = omega (arith, length-take count O) in
-    drop-cons (take count O) c 0 s ∙ rw (add-one c, get_or-take, e)
+next_atom : (O : List ℕ) (count c k : ℕ) → c < length (take count O) → k ≡ get_or (take count O) c 0 → drop c (take count O) ≡ k ∷ drop (c + 1) (take count O)
+next_atom O count c k h e = drop-cons (take count O) c 0 h ∙ rw (add-one c, e)
 
-module _ (x from : List ℕ) (n : ℕ) (O : List ℕ) (count c k v : ℕ) (z : Located x from n) (y : Ordered x from n O count) (h : c < count) (is : k ≡ get_or O c 0) (wide : v ≡ k) where
+module _ (x from : List ℕ) (n : ℕ) (O : List ℕ) (count c k v : ℕ) (z : Located x from n) (y : Ordered x from n O count) (h : c < length (take count O)) (is : k ≡ get_or (take count O) c 0) (wide : v ≡ k) where
+  before : c < count
+  before = omega (arith, length-take count O)
+
   pub number : v < n
-  number = rw (wide, is) (y.below c h)
+  number = rw (wide, is, get_or-take count O c 0 before) (y.below c before)
 
   module _ (l : List ℕ) (line : l ≡ frame_at x (get_or from v 0)) where
     pub line_ready : Emittable l
@@ -55,17 +56,16 @@ pub adding_none : (x O : List ℕ) (count : ℕ) → Adding x O count 0 0
 adding_none x O count = record { few = omega arith; small = omega arith; is = omega arith }
 
 module _ (x O : List ℕ) (count sum c : ℕ) (m : Adding x O count sum c) where
-  pub adding_again : (from : List ℕ) (n k v : ℕ) → Located x from n → Ordered x from n O count → c < count → k ≡ get_or O c 0 → v ≡ k → (l : List ℕ) → l ≡ frame_at x (get_or from v 0) → (r : ℕ) → r ≡ step_count (atom_of_frame l) → r ≤ 256 → Adding x O count (sum + r) (c + 1)
+  pub adding_again : (from : List ℕ) (n k v : ℕ) → Located x from n → Ordered x from n O count → c < length (take count O) → k ≡ get_or (take count O) c 0 → v ≡ k → (l : List ℕ) → l ≡ frame_at x (get_or from v 0) → (r : ℕ) → r ≡ step_count (atom_of_frame l) → r ≤ 256 → Adding x O count (sum + r) (c + 1)
   unfolding count_along
   adding_again from n k v z y h is wide l line r e s =
-      let g : count_along (atom_of (sheet_atoms x)) (drop c (take count O)) ≡ r + count_along (atom_of (sheet_atoms x)) (drop (c + 1) (take count O)) = rw (next_atom O count c k h y.within is, atom_is x from n O count c k v z y h is wide l line, e) in
-      record { few = omega arith; small = omega (arith, m.small); is = omega (arith, m.is) }
+      let g : count_along (atom_of (sheet_atoms x)) (drop c (take count O)) ≡ r + count_along (atom_of (sheet_atoms x)) (drop (c + 1) (take count O)) = rw (next_atom O count c k h is, atom_is x from n O count c k v z y h is wide l line, e) in
+      record { few = omega (arith, length-take count O); small = omega (arith, m.small); is = omega (arith, m.is) }
 
-  pub added : count ≤ c → sum ≡ count_along (atom_of (sheet_atoms x)) (take count O)
+  pub added : length (take count O) ≤ c → sum ≡ count_along (atom_of (sheet_atoms x)) (take count O)
   unfolding count_along
   added h =
-      let s : length (take count O) ≤ c = omega (arith, length-take count O) in
-      let g : sum + 0 ≡ count_along (atom_of (sheet_atoms x)) (take count O) = rw (drop_of_length-le (take count O) s) at m.is in
+      let g : sum + 0 ≡ count_along (atom_of (sheet_atoms x)) (take count O) = rw (drop_of_length-le (take count O) h) at m.is in
       omega arith
 
   pub added_few : (from : List ℕ) (n : ℕ) → Ordered x from n O count → sum ≤ 0x4000
@@ -97,9 +97,9 @@ module _ (x O : List ℕ) (count : ℕ) (B₀ : Bound) (o₀ : List ℕ) (start 
   pub bound_sized : length B₀ ≡ bound_most → length B ≡ bound_most
   bound_sized h = m.bound ∙ h
 
-  pub writing_again : (from : List ℕ) (n k v : ℕ) → Located x from n → Ordered x from n O count → c < count → k ≡ get_or O c 0 → v ≡ k → (l : List ℕ) → l ≡ frame_at x (get_or from v 0) → (C : Bound) (q : List ℕ) (r : ℕ) → length C ≡ length B → C ≡ bound_behind B (lower B k (atom_of_frame l)) → Emits B k (atom_of_frame l) o at q r → Writing x O count B₀ o₀ start C q r (c + 1)
+  pub writing_again : (from : List ℕ) (n k v : ℕ) → Located x from n → Ordered x from n O count → c < length (take count O) → k ≡ get_or (take count O) c 0 → v ≡ k → (l : List ℕ) → l ≡ frame_at x (get_or from v 0) → (C : Bound) (q : List ℕ) (r : ℕ) → length C ≡ length B → C ≡ bound_behind B (lower B k (atom_of_frame l)) → Emits B k (atom_of_frame l) o at q r → Writing x O count B₀ o₀ start C q r (c + 1)
   writing_again from n k v z y h is wide l line C q r s e u = record {
-    few = omega arith;
+    few = omega (arith, length-take count O);
     room = omega (arith, m.room, u.near);
     bound = s ∙ m.bound;
     size = ap length u.puts.is ∙ written_size o at (text_of F) ∙ m.size;
@@ -112,13 +112,11 @@ module _ (x O : List ℕ) (count : ℕ) (B₀ : Bound) (o₀ : List ℕ) (start 
       F = map frame_of (steps_of (lower B k (atom_of_frame l)))
 
       more : lines_of x B (drop c (take count O)) ≡ F ++ lines_of x C (drop (c + 1) (take count O))
-      more = ap (lines_of x B) (next_atom O count c k h y.within is) ∙ along_more (atom_of (sheet_atoms x)) B C k (drop (c + 1) (take count O)) (atom_of_frame l) (atom_is x from n O count c k v z y h is wide l line) e
+      more = ap (lines_of x B) (next_atom O count c k h is) ∙ along_more (atom_of (sheet_atoms x)) B C k (drop (c + 1) (take count O)) (atom_of_frame l) (atom_is x from n O count c k v z y h is wide l line) e
 
-  pub steps_put : (from : List ℕ) (n : ℕ) → Ordered x from n O count → count ≤ c → PutsSteps x B₀ (take count O) o₀ start o at
+  pub steps_put : (from : List ℕ) (n : ℕ) → Ordered x from n O count → length (take count O) ≤ c → PutsSteps x B₀ (take count O) o₀ start o at
   unfolding steps_along
   steps_put from n y h = record { puts = subst (λ (w : List (List ℕ)). PutsFrames o₀ start w o at) (sym (append-nil m.done) ∙ d) m.puts; near = omega (arith, m.room, m.few, y.few) }
     where
       d : m.done ++ [] ≡ lines_of x B₀ (take count O)
-      d =
-          let s : length (take count O) ≤ c = omega (arith, length-take count O) in
-          rw (drop_of_length-le (take count O) s) at m.rest
+      d = rw (drop_of_length-le (take count O) h) at m.rest

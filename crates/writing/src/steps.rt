@@ -8,7 +8,6 @@ ghost use Rattle.passes.specs.Eager.{sheet_atoms, Located};
 ghost use Rattle.writing.specs.Steps.{step_count, count_along, Ordered, PutsSteps};
 
 use emitting::atom::emit_atom;
-use fields::field::wide;
 use frames::frame::items_of;
 use hexadecimal::byte_at;
 use passes::eager::atom_line;
@@ -31,12 +30,9 @@ pub fn write_steps(
     ensures { PutsSteps sheet.now bound.old (take count order.now) out.old at out.new result }
 {
     let mut next = at;
-    let mut c: usize = 0;
-    while c < count {
-        let k = order[c];
-        let frame = atom_line(sheet, from, wide(k));
+    for &k in &order[..count] {
+        let frame = atom_line(sheet, from, usize::from(k));
         next = emit_atom(frame, k, bound, out, next);
-        c += 1;
     }
     next
 }
@@ -46,17 +42,11 @@ fn steps_of(frame: &[u8]) -> usize
     requires { AtomLine frame.now }
     ensures { (result ≡ step_count (atom_of_frame frame.now)) × (result ≤ 256) }
 {
-    let kind = byte_at(frame, 0);
-    if kind == 1 {
-        return items_of(frame) + 1;
+    match byte_at(frame, 0) {
+        1 => items_of(frame) + 1,
+        4..=6 => 1,
+        _ => 2,
     }
-    if kind < 4 {
-        return 2;
-    }
-    if kind < 7 {
-        return 1;
-    }
-    2
 }
 
 // How many steps they are, if each atom lowers in its turn.
@@ -66,11 +56,8 @@ pub fn count_steps(sheet: &[u8], from: &[u16], n: usize, order: &[u8], count: us
     ensures { (result ≡ count_along (atom_of (sheet_atoms sheet.now)) (take count order.now)) × (result ≤ 0x4000) }
 {
     let mut sum: usize = 0;
-    let mut c: usize = 0;
-    while c < count {
-        let frame = atom_line(sheet, from, wide(order[c]));
-        sum += steps_of(frame);
-        c += 1;
+    for &k in &order[..count] {
+        sum += steps_of(atom_line(sheet, from, usize::from(k)));
     }
     sum
 }

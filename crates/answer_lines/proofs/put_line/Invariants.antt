@@ -1,11 +1,6 @@
 -- `answer_lines::put_line` meets its contract. The loop's invariant: the digits of the first bytes stand. Assumes nothing.
-use Prim.Native.Nat.{◌-◌}
-use lib.ListN.{length}
 use Rattle.answer_lines.proofs.Laws.{Put}
 use Rattle.answer_lines.proofs.put_line.Given as goal
 
 abbrev pub invariant-loop-i : goal.invariant-loop-i
 invariant-loop-i l = Put l.frame l.out l.i
-
-abbrev pub decreases-loop-i : goal.decreases-loop-i
-decreases-loop-i l = length l.frame - l.i

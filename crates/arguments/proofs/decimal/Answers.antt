@@ -5,11 +5,11 @@ use borrow.Author.Tests.{not-false}
 use Rattle.arguments.proofs.Laws.{nothing_given, counting_none, all_counted, no_digit, one_digit}
 use Rattle.arguments.proofs.decimal.Goals as goal
 
-pub returns-then-word-eq0 : goal.returns-then-word-eq0
-returns-then-word-eq0 c = search nothing_given
+pub returns-then-is_empty : goal.returns-then-is_empty
+returns-then-is_empty c = nothing_given _ (sym c.is_empty.ensures ∙ c.if-is_empty.true)
 
-pub loop-i-init : goal.loop-i-init
-loop-i-init c = search counting_none
+pub loop-b-init : goal.loop-b-init
+loop-b-init c = counting_none _ (sym c.is_empty.ensures ∙ c.if-is_empty.false)
 
 pub returns-then-not-fits : goal.returns-then-not-fits
 returns-then-not-fits c = search no_digit
@@ -17,8 +17,8 @@ returns-then-not-fits c = search no_digit
 pub with_digit-value-requires : goal.with_digit-value-requires
 with_digit-value-requires c = sym c.fits.ensures ∙ not-false _ (ap not c.if-not-fits.false)
 
-pub loop-i-preserved : goal.loop-i-preserved
-loop-i-preserved c = search one_digit
+pub loop-b-preserved : goal.loop-b-preserved
+loop-b-preserved c = search one_digit
 
 pub returns : goal.returns
 returns c = search all_counted

@@ -6,8 +6,8 @@ use Rattle.arguments.proofs.with_digit.Goals as goal
 pub overflow_mul-result : goal.overflow_mul-result
 overflow_mul-result c = record { fits = omega (arith, fit_small c.args.value c.args.b c.requires) }
 
-pub overflow_sub-result : goal.overflow_sub-result
-overflow_sub-result c = omega (arith, fit_low c.args.value c.args.b c.requires)
+pub overflow_sub-b : goal.overflow_sub-b
+overflow_sub-b c = omega (arith, fit_low c.args.value c.args.b c.requires)
 
 pub overflow_add-result : goal.overflow_add-result
 overflow_add-result c = record { fits = omega (arith, fit_small c.args.value c.args.b c.requires) }

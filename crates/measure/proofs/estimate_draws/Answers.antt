@@ -6,6 +6,6 @@ pub returns-then-rejected : goal.returns-then-rejected
 unfolding estimate_of
 returns-then-rejected c = rw (← c.mean-m.ensures, ← c.rejected.ensures, c.if-rejected.true)
 
-pub returns : goal.returns
+pub returns-else-rejected : goal.returns-else-rejected
 unfolding estimate_of
-returns c = rw (← c.mean-m.ensures, ← c.rejected.ensures, c.if-rejected.false)
+returns-else-rejected c = rw (← c.mean-m.ensures, ← c.rejected.ensures, c.if-rejected.false)

@@ -3,7 +3,7 @@ use borrow.Author.Tests.{eq-eqb, ne_eqb}
 use Rattle.measure.proofs.path_selectivity.Goals as goal
 
 pub returns-then-denom-eq0 : goal.returns-then-denom-eq0
-returns-then-denom-eq0 c = rw (c.in-Measured.is, eq-eqb _ _ c.if-denom-eq0.true)
+returns-then-denom-eq0 c = rw (c.in-Some.is, eq-eqb _ _ c.if-denom-eq0.true)
 
 pub returns : goal.returns
-returns c = rw (c.in-Measured.is, ne_eqb _ _ c.if-denom-eq0.false, ← c.at_least.ensures) c.at_most.ensures
+returns c = rw (c.in-Some.is, ne_eqb _ _ c.if-denom-eq0.false, ← c.at_least.ensures) c.at_most.ensures

@@ -3,10 +3,10 @@ use borrow.Author.Tests.{eq-eqb, ne_eqb}
 use Rattle.measure.specs.Bootstrap.{rejected}
 use Rattle.measure.proofs.rejected.Goals as goal
 
-pub returns-then-cfg-eq0 : goal.returns-then-cfg-eq0
+pub returns-then-cfg-ne0 : goal.returns-then-cfg-ne0
 unfolding rejected
-returns-then-cfg-eq0 c = rw (eq-eqb _ _ c.if-cfg-eq0.true)
+returns-then-cfg-ne0 c = rw (ne_eqb _ _ c.if-cfg-ne0.true, ← c.bootstrap_ok.ensures)
 
-pub returns : goal.returns
+pub returns-else-cfg-ne0 : goal.returns-else-cfg-ne0
 unfolding rejected
-returns c = rw (ne_eqb _ _ c.if-cfg-eq0.false, ← c.bootstrap_ok.ensures)
+returns-else-cfg-ne0 c = rw (eq-eqb _ _ c.if-cfg-ne0.false)

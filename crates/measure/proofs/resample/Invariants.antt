@@ -3,7 +3,4 @@ use Rattle.measure.proofs.Laws.{Resampling}
 use Rattle.measure.proofs.resample.Given as goal
 
 abbrev pub invariant-loop-left : goal.invariant-loop-left
-invariant-loop-left l = Resampling l.draws l.state-2 l.state l.total l.left
-
-abbrev pub decreases-loop-left : goal.decreases-loop-left
-decreases-loop-left l = l.left
+invariant-loop-left l = Resampling l.draws l.state-2 l.state l.total l._left

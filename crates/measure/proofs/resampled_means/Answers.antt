@@ -1,6 +1,5 @@
 -- `resampled_means` meets its contract: the invariant says that the means in their places, with those to come from the state now, are them all.
 use native.Mathlib.Omega.{arith}
-use Prim.Native.Nat.{◌-◌}
 use mathlib.Core.Path.{refl}
 use Rattle.measure.proofs.Laws.{fill_start, fill_next, fill_done}
 use Rattle.measure.proofs.resampled_means.Goals as goal

@@ -1,10 +1,6 @@
 -- `resampled_means` meets its contract: the invariant says that the means in their places, with those to come from the state now, are them all.
-use Prim.Native.Nat.{◌-◌}
 use Rattle.measure.proofs.Laws.{Filled}
 use Rattle.measure.proofs.resampled_means.Given as goal
 
 abbrev pub invariant-loop-i : goal.invariant-loop-i
 invariant-loop-i l = Filled l.draws l.count l.means l.state l.i
-
-abbrev pub decreases-loop-i : goal.decreases-loop-i
-decreases-loop-i l = l.count - l.i

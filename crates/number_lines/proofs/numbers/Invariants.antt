@@ -1,11 +1,6 @@
 -- `numbers` meets its contract: a line at each turn, until one is no number, the text ends or the array is full. Assumes nothing.
 use Rattle.number_lines.proofs.Laws.{Walks}
-use Prim.Native.Nat.{◌-◌}
-use lib.ListN.{length}
 use Rattle.number_lines.proofs.numbers.Given as goal
 
 abbrev pub invariant-loop-n : goal.invariant-loop-n
 invariant-loop-n l = Walks l.text l.initial.out l.out l.n
-
-abbrev pub decreases-loop-n : goal.decreases-loop-n
-decreases-loop-n l = length l.initial.out - l.n

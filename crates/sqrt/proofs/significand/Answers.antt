@@ -5,5 +5,5 @@ use Rattle.sqrt.proofs.significand.Goals as goal
 pub returns-then-b-eq0 : goal.returns-then-b-eq0
 returns-then-b-eq0 c = search tests
 
-pub returns : goal.returns
-returns c = search tests
+pub returns-else-b-eq0 : goal.returns-else-b-eq0
+returns-else-b-eq0 c = search tests

@@ -1,5 +1,4 @@
 -- `binding::operands::all_set` meets its contract: the numbers left decide what all decide.
-use Prim.Native.Nat.{◌-◌}
 use Rattle.binding.proofs.OperandLaws.{all_none, all_stops, all_again, all_all}
 use Rattle.binding.proofs.operands.all_set.Goals as goal
 

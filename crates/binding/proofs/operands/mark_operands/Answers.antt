@@ -1,5 +1,4 @@
 -- `binding::operands::mark_operands` meets its contract: the operands left, marked, give what all give.
-use Prim.Native.Nat.{◌-◌}
 use Rattle.binding.proofs.OperandLaws.{marked_none, next_below, marked_again, marked_all}
 use borrow.Author.Rules.{rules}
 use Rattle.binding.proofs.operands.mark_operands.Goals as goal

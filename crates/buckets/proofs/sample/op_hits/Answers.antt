@@ -1,21 +1,19 @@
 -- `buckets::sample::op_hits` meets its contract.
-use borrow.Author.Rules.{rules}
-use Rattle.buckets.proofs.SampleLaws.{hitting_first, hitting_end, hit_row, hitting_other, hitting_next}
-use native.Mathlib.Omega.{arith}
-use Prim.Native.Nat.{◌-◌}
+use Rattle.buckets.proofs.SampleLaws.{hitting_first, hitting_end, hitting_few, hit_row, hitting_other, hitting_next}
 use Rattle.buckets.proofs.sample.op_hits.Goals as goal
+use Rattle.buckets.proofs.sample.op_hits.Goals.{then-byte_at-op, else-byte_at-op}
 
-pub loop-i-init : goal.loop-i-init
-loop-i-init c = search hitting_first
+pub loop-row-init : goal.loop-row-init
+loop-row-init c = search hitting_first
 
-pub row_frame-frame-requires : goal.row_frame-frame-requires
-row_frame-frame-requires c = record { rows_indexed = search (rules, hit_row); j_in_bounds = search (rules, hit_row) }
+pub row_frame-requires : goal.row_frame-requires
+row_frame-requires c = record { rows_indexed = c.requires.rows_indexed; j_in_bounds = hit_row _ _ _ _ c.requires.numbers_room c.loop-row-test.true }
 
-pub loop-i-preserved-then-byte_at-op : goal.loop-i-preserved-then-byte_at-op
-loop-i-preserved-then-byte_at-op c = search hitting_other
-
-pub loop-i-preserved : goal.loop-i-preserved
-loop-i-preserved c = search hitting_next
+pub loop-row-preserved : goal.loop-row-preserved
+loop-row-preserved c = elim c.if-byte_at-op.branch [
+  | then-byte_at-op w ↦ rw w.n-is (search hitting_next)
+  | else-byte_at-op w ↦ rw w.n-is (search hitting_other)
+]
 
 pub returns : goal.returns
-returns c = search (hitting_end, arith)
+returns c = (search hitting_end, search hitting_few)

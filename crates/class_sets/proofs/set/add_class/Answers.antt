@@ -3,4 +3,4 @@ use Rattle.class_sets.proofs.SetLaws.{class_added}
 use Rattle.class_sets.proofs.set.add_class.Goals as goal
 
 pub returns : goal.returns
-returns c = class_added _ _ _ c.wide_short-c.ensures.0 _ c.with_bit.ensures
+returns c = class_added _ _ _ c.from-c.ensures _ c.with_bit.ensures

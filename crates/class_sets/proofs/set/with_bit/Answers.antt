@@ -9,5 +9,5 @@ returns-then-has_bit c = search bit_there
 pub overflow_add-result : goal.overflow_add-result
 overflow_add-result c = record { fits = bit_fits _ _ c.requires _ c.has_bit.ensures c.if-has_bit.false (omega (arith, c.ranges)) }
 
-pub returns : goal.returns
-returns c = bit_new _ _ c.requires _ c.has_bit.ensures c.if-has_bit.false
+pub returns-else-has_bit : goal.returns-else-has_bit
+returns-else-has_bit c = bit_new _ _ c.requires _ c.has_bit.ensures c.if-has_bit.false

@@ -1,5 +1,5 @@
 -- `cost::draws::measured` meets its contract: by what the estimate is.
 use Rattle.cost.proofs.draws.measured.Goals as goal
 
-pub returns-in-Accepted : goal.returns-in-Accepted
-returns-in-Accepted c = rw c.in-Accepted.is
+pub returns-in-Some : goal.returns-in-Some
+returns-in-Some c = rw c.in-Some.is

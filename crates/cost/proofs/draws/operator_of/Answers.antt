@@ -1,25 +1,15 @@
--- `cost::draws::operator_of` meets its contract.
-use Prim.Native.Nat.{◌-◌}
-use Rattle.cost.proofs.OperatorLaws.{seeking_first, seeking_end, seeking_less, seeking_pass, seeking_here, seeking_next}
+-- `cost::draws::operator_of` meets its contract: the frames that are left decide.
+use Rattle.cost.proofs.OperatorLaws.{seeking_end, seeking_pass, seeking_here, seeking_next}
 use Rattle.cost.proofs.draws.operator_of.Goals as goal
 
-pub loop-at-init : goal.loop-at-init
-loop-at-init c = search seeking_first
-
-pub loop-at-smaller-then-not-is_atom : goal.loop-at-smaller-then-not-is_atom
-loop-at-smaller-then-not-is_atom c = search seeking_less
-
-pub loop-at-preserved-then-not-is_atom : goal.loop-at-preserved-then-not-is_atom
-loop-at-preserved-then-not-is_atom c = search seeking_pass
+pub loop-frame-preserved-then-not-is_atom : goal.loop-frame-preserved-then-not-is_atom
+loop-frame-preserved-then-not-is_atom c = seeking_pass _ _ _ _ c.loop-frame.invariant _ _ c.in-Some.ensures.steps _ c.byte_at.ensures _ c.is_atom.ensures c.if-not-is_atom.true
 
 pub returns-then-left-eq0 : goal.returns-then-left-eq0
-returns-then-left-eq0 c = search seeking_here
+returns-then-left-eq0 c = seeking_here _ _ _ _ c.loop-frame.invariant _ _ c.in-Some.ensures.steps _ c.byte_at.ensures _ c.is_atom.ensures c.if-not-is_atom.false c.if-left-eq0.true _ c.byte_at-then-left-eq0.ensures
 
-pub loop-at-smaller : goal.loop-at-smaller
-loop-at-smaller c = search seeking_less
-
-pub loop-at-preserved : goal.loop-at-preserved
-loop-at-preserved c = search seeking_next
+pub loop-frame-preserved : goal.loop-frame-preserved
+loop-frame-preserved c = seeking_next _ _ _ _ c.loop-frame.invariant _ _ c.in-Some.ensures.steps _ c.byte_at.ensures _ c.is_atom.ensures c.if-not-is_atom.false c.if-left-eq0.false
 
 pub returns : goal.returns
-returns c = search seeking_end
+returns c = seeking_end _ _ _ _ c.loop-frame.invariant c.in-None.ensures.steps.0

@@ -1,6 +1,7 @@
 -- `cost::memo::pack_key` meets its contract: field by field.
-use Rattle.cost.proofs.MemoLaws.{key_fields}
+use native.Mathlib.Omega.{arith}
+use Rattle.cost.proofs.MemoLaws.{packed_key}
 use Rattle.cost.proofs.memo.pack_key.Goals as goal
 
 pub returns : goal.returns
-returns c = key_fields _ _ _ _ _ _ _ _ c.wide-a.ensures.0 c.wide-b.ensures.0 c.wide-c.ensures.0 c.wide-d.ensures.0 c.wide-e.ensures.0 c.wide-f.ensures.0 c.six.ensures
+returns c = packed_key _ c.args.x (omega arith) (omega arith) (omega arith) (omega arith) (omega arith) (omega arith) c.from_be_bytes.ensures

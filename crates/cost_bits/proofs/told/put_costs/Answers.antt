@@ -6,14 +6,11 @@ use Rattle.cost_bits.proofs.told.put_costs.Goals as goal
 pub loop-i-init : goal.loop-i-init
 loop-i-init c = filling_none _ _
 
-pub loop-i-smaller : goal.loop-i-smaller
-loop-i-smaller c = omega (arith, c.loop-i.invariant.size, c.loop-i-test.true)
-
 pub loop-i-preserved : goal.loop-i-preserved
-loop-i-preserved c = filling_again _ _ _ _ c.loop-i.invariant c.loop-i-test.true _ c.bits_at.ensures
+loop-i-preserved c = filling_again _ _ _ _ c.loop-i.invariant (omega (arith, c.loop-i.invariant.size)) _ c.bits_at.ensures
 
 pub shape_of-out : goal.shape_of-out
 shape_of-out c = c.loop-i.invariant.size
 
 pub returns : goal.returns
-returns c = filled _ _ _ _ c.loop-i.invariant c.loop-i-test.false
+returns c = filled _ _ _ _ c.loop-i.invariant (omega (arith, c.loop-i.invariant.size))

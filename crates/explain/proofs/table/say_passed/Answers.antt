@@ -1,6 +1,7 @@
 -- `explain::table::say_passed` meets its contract: the sheet of an accepted table is within the lent one.
-use mathlib.Core.Path.{refl}
+use mathlib.Core.Path.{refl, ap}
 use Rattle.fields.specs.Limits.{text_most}
+use Rattle.first_reading.specs.Reading.{as_reading}
 use Rattle.reading.specs.Index.{many_slots}
 use Rattle.reading.proofs.LentLaws.{lent_for}
 use Rattle.reading.proofs.ReadLaws.{read_within, read_fits}
@@ -11,10 +12,10 @@ pub read_indexed-requires : goal.read_indexed-requires
 read_indexed-requires c = lent_for _ text_most many_slots refl (λ h. h)
 
 pub slice_bounds-sheet-end : goal.slice_bounds-sheet-end
-slice_bounds-sheet-end c = search read_within
+slice_bounds-sheet-end c = read_within _ _ _ _ _ c.read_indexed.ensures _ _ (ap as_reading c.in-Ok.is) _ c.sheet_size-size.ensures
 
 pub slice_bounds-say_sheet-end : goal.slice_bounds-say_sheet-end
-slice_bounds-say_sheet-end c = search read_fits
+slice_bounds-say_sheet-end c = read_fits _ _ _ _ _ c.read_indexed.ensures _ _ (ap as_reading c.in-Ok.is) _ c.sheet_size-size.ensures
 
 pub say_sheet-requires : goal.say_sheet-requires
-say_sheet-requires c = let p = rows_read _ _ _ _ c.read_indexed.ensures _ _ c.in-Accepted.is _ c.sheet_size-size.ensures in record { indexed = p.0; rows_sheet = p.1.0; rows_bound = p.1.1 }
+say_sheet-requires c = let p = rows_read _ _ _ _ c.read_indexed.ensures _ _ (ap as_reading c.in-Ok.is) _ c.sheet_size-size.ensures in record { indexed = p.0; rows_sheet = p.1.0; rows_bound = p.1.1 }

@@ -3,4 +3,4 @@ use Rattle.run_answers.proofs.ReplyLaws.{tells_some}
 use Rattle.exports.proofs.some.rimdovek_some_match.Goals as goal
 
 pub returns : goal.returns
-returns c = tells_some _ _ _ _ _ _ _ _ c.some_match.result c.delta_atom.ensures c.some_match.ensures.replies c.told.ensures
+returns c = tells_some _ _ _ _ _ _ _ _ c.some_match.result c.delta_atom.ensures c.some_match.ensures c.told.ensures

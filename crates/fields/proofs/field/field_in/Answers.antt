@@ -18,7 +18,7 @@ returns-in-18 c = rw (c.in-18.is, c.byte_at-in-18.ensures)
 
 pub returns-in-19 : goal.returns-in-19
 unfolding field_in decode
-returns-in-19 c = rw (c.in-19.is, c.wide.ensures.0, c.byte_at-in-19.ensures)
+returns-in-19 c = rw (c.in-19.is, c.from.ensures, c.byte_at-in-19.ensures)
 
 pub returns-in-23 : goal.returns-in-23
 unfolding field_in decode
@@ -34,7 +34,7 @@ returns-in-29 c = rw (c.in-29.is, c.lookup_in.ensures, c.byte_at-in-29-3.ensures
 
 pub returns-in-30 : goal.returns-in-30
 unfolding field_in decode
-returns-in-30 c = rw (c.in-30.is, c.wide_short.ensures.0, c.short_at.ensures)
+returns-in-30 c = rw (c.in-30.is, c.from-in-30.ensures, c.short_at.ensures)
 
 pub returns-in_default : goal.returns-in_default
 returns-in_default c = range_other _ _ _ _ c.in_default.in_default-own.rest

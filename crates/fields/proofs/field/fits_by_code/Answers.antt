@@ -1,4 +1,5 @@
 -- `fields::field::fits_by_code` meets its contract.
+use borrow.Author.Tests.{lt-ltb}
 use Rattle.fields.specs.Fields.{field_fits}
 use Rattle.fields.specs.Codes.{decode}
 use Rattle.fields.proofs.FieldLaws.{limits_other}
@@ -41,4 +42,4 @@ unfolding field_fits decode
 returns-in-29 c = rw (c.in-29.is, c.lookup_fits.ensures, c.byte_at-in-29-4.ensures, c.byte_at-in-29-3.ensures, c.byte_at-in-29-2.ensures, c.byte_at-in-29.ensures)
 
 pub returns-then-code-lt128 : goal.returns-then-code-lt128
-returns-then-code-lt128 c = limits_other _ _ _ c.in_default.in_default-own.rest c.if-code-lt128.true
+returns-then-code-lt128 c = rw (lt-ltb _ _ c.if-code-lt128.true) (limits_other _ _ _ c.in_default.in_default-own.rest c.if-code-lt128.true)

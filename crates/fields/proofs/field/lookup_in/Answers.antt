@@ -2,11 +2,11 @@
 use Rattle.field_values.proofs.ChooseLaws.{tests}
 use Rattle.fields.proofs.field.lookup_in.Goals as goal
 
-pub returns-then-tag-eq0 : goal.returns-then-tag-eq0
-returns-then-tag-eq0 c = search tests
+pub returns-in-0 : goal.returns-in-0
+returns-in-0 c = search (tests, c.in-0.is)
 
-pub returns-then-tag-eq2 : goal.returns-then-tag-eq2
-returns-then-tag-eq2 c = search tests
+pub returns-in-2 : goal.returns-in-2
+returns-in-2 c = search (tests, c.in-2.is)
 
-pub returns : goal.returns
-returns c = search tests
+pub returns-in_default : goal.returns-in_default
+returns-in_default c = search tests

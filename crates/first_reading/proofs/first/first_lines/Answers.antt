@@ -1,7 +1,6 @@
 -- What a line brings the reading to, by the laws of where it stands: what `decode_next` says of the reader's own text and place is said of the text that was lent.
-use Rattle.std.proofs.Common.{◌≡◌, ◌∙◌, sym, ap, arith}
+use Rattle.std.proofs.Common.{sym, arith}
 use Rattle.hex_lines.specs.Decoding.{Passes}
-use Rattle.first_reading.specs.First.{LinesLaid}
 use Rattle.first_reading.proofs.StandLaws.{walked_line, walked_moves, walked_done}
 use Rattle.first_reading.proofs.first.first_lines.Goals as goal
 

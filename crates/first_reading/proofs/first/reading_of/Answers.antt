@@ -5,5 +5,5 @@ use Rattle.first_reading.proofs.first.reading_of.Goals as goal
 pub returns-then-s-eq0 : goal.returns-then-s-eq0
 returns-then-s-eq0 c = search says_accepted
 
-pub returns : goal.returns
-returns c = search says_refused
+pub returns-else-s-eq0 : goal.returns-else-s-eq0
+returns-else-s-eq0 c = search says_refused

@@ -18,8 +18,8 @@ count_steps-steps-requires c = record { located = places_located _ _ _ c.require
 pub slice_bounds-write_plan-end : goal.slice_bounds-write_plan-end
 slice_bounds-write_plan-end c = sym c.requires.scheduling.size
 
-pub write_plan-size-requires : goal.write_plan-size-requires
-write_plan-size-requires c = record { located = places_located _ _ _ c.requires.accepts c.requires.places; ordered = in_order _ _ _ c.args.s c.requires.accepts c.requires.places c.requires.scheduling; steps_bound = omega (arith, c.count_steps-steps.ensures.1); tallied_bound = tallied_few _ _ _ c.args.s c.requires.accepts c.requires.places c.requires.scheduling; rejected_bound = rejected_few _ _ _ c.args.s c.requires.accepts c.requires.places c.requires.scheduling }
+pub write_plan-bytes-requires : goal.write_plan-bytes-requires
+write_plan-bytes-requires c = record { located = places_located _ _ _ c.requires.accepts c.requires.places; ordered = in_order _ _ _ c.args.s c.requires.accepts c.requires.places c.requires.scheduling; steps_bound = omega (arith, c.count_steps-steps.ensures.1); tallied_bound = tallied_few _ _ _ c.args.s c.requires.accepts c.requires.places c.requires.scheduling; rejected_bound = rejected_few _ _ _ c.args.s c.requires.accepts c.requires.places c.requires.scheduling }
 
 pub returns : goal.returns
-returns c = fitting _ _ _ c.args.s c.requires.accepts c.requires.places c.requires.scheduling _ _ _ _ c.count_steps-steps.ensures.0 c.write_plan-size.ensures _ c.fits.ensures (ap not c.if-not-fits.false)
+returns c = fitting _ _ _ c.args.s c.requires.accepts c.requires.places c.requires.scheduling _ _ _ _ c.count_steps-steps.ensures.0 c.write_plan-bytes.ensures _ c.fits.ensures (ap not c.if-not-fits.false)

@@ -1,11 +1,8 @@
--- `frames::among::has_kinds` meets its contract.
-use Prim.Native.Nat.{◌-◌}
-use lib.ListN.{length}
-use Rattle.frames.proofs.AmongLaws.{Seeking}
+-- `frames::among::has_kinds` meets its contract: the frames that are left decide.
+use Rattle.std.proofs.Common.{◌≡◌}
+use Rattle.frames.specs.Among.{has_kinds}
+use Rattle.frames.specs.Sheet.{frames_in}
 use Rattle.frames.proofs.among.has_kinds.Given as goal
 
-abbrev pub invariant-loop-at : goal.invariant-loop-at
-invariant-loop-at l = Seeking l.low l.high l.sheet l.at
-
-abbrev pub decreases-loop-at : goal.decreases-loop-at
-decreases-loop-at l = length l.sheet - l.at
+abbrev pub invariant-loop-frame : goal.invariant-loop-frame
+invariant-loop-frame l = has_kinds l.low l.high (frames_in l.sheet) ≡ has_kinds l.low l.high (frames_in l.frame-iterator.rest.now)

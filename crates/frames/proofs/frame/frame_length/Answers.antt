@@ -7,10 +7,10 @@ pub items_by-n-requires : goal.items_by-n-requires
 items_by-n-requires c = search lengths_here
 
 pub overflow_mul-result : goal.overflow_mul-result
-overflow_mul-result c = omega (arith, product_small c.wide-2.result c.items_by-n.result c.wide-2.ensures.1 c.items_by-n.ensures.1)
+overflow_mul-result c = omega (arith, product_small c.from-2.result c.items_by-n.result (omega arith) c.items_by-n.ensures.1)
 
 pub overflow_add-result : goal.overflow_add-result
-overflow_add-result c = omega (arith, product_small c.wide-2.result c.items_by-n.result c.wide-2.ensures.1 c.items_by-n.ensures.1)
+overflow_add-result c = omega (arith, product_small c.from-2.result c.items_by-n.result (omega arith) c.items_by-n.ensures.1)
 
 pub returns : goal.returns
-returns c = (search (length_is, lengths_here), omega (arith, product_small c.wide-2.result c.items_by-n.result c.wide-2.ensures.1 c.items_by-n.ensures.1))
+returns c = (search (length_is, lengths_here), omega (arith, product_small c.from-2.result c.items_by-n.result (omega arith) c.items_by-n.ensures.1))

@@ -6,8 +6,8 @@ use Rattle.frames.proofs.frame.items_by.Goals as goal
 pub returns-then-lengths-lt16 : goal.returns-then-lengths-lt16
 returns-then-lengths-lt16 c = (search items_none, search rules)
 
-pub overflow_sub-wide : goal.overflow_sub-wide
-overflow_sub-wide c = search fixed_some
+pub overflow_sub-from : goal.overflow_sub-from
+overflow_sub-from c = search fixed_some
 
-pub returns : goal.returns
-returns c = (search items_some, search rules)
+pub returns-else-lengths-lt16 : goal.returns-else-lengths-lt16
+returns-else-lengths-lt16 c = (search items_some, search rules)

@@ -1,5 +1,4 @@
 -- `hex_lines::decode::decode_line` meets its contract.
-use Prim.Native.Nat.{◌-◌}
 use mathlib.Core.Path.{refl}
 use Rattle.hex_lines.proofs.DecodeLaws.{laying_starts, laying_from, place_fits, high_stops, low_stops, laying_again, last_stops, none_left, no_bytes}
 use Rattle.hex_lines.proofs.decode.decode_line.Goals as goal

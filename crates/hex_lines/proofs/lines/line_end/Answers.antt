@@ -1,7 +1,8 @@
 -- `hex_lines::lines::line_end` meets its contract.
 use borrow.Author.Rules.{rules}
-use Prim.Native.Nat.{◌-◌}
-use mathlib.Core.Path.{refl}
+use mathlib.Core.Path.{◌≡◌, refl, ◌∙◌}
+use native.Mathlib.Omega.{arith}
+use lib.ListN.{length}
 use Rattle.hex_lines.proofs.ScanLaws.{end_again, end_hit, end_none}
 use Rattle.hex_lines.proofs.lines.line_end.Goals as goal
 
@@ -15,4 +16,6 @@ pub loop-i-preserved : goal.loop-i-preserved
 loop-i-preserved c = (search rules, search end_again)
 
 pub returns : goal.returns
-returns c = (search end_none, search rules)
+returns c =
+    let e : length c.args.text.now ≡ c.loop-i.i = omega arith in
+    (e ∙ end_none _ _ _ c.loop-i.invariant.1 c.loop-i-test.false, search rules)

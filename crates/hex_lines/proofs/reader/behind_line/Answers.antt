@@ -5,8 +5,8 @@ use Rattle.hex_lines.proofs.reader.behind_line.Goals as goal
 pub overflow_add-result : goal.overflow_add-result
 overflow_add-result c = search behind_fits
 
-pub returns-in-At : goal.returns-in-At
-returns-in-At c = search passes_line
+pub returns-in-Some : goal.returns-in-Some
+returns-in-Some c = search passes_line
 
-pub returns-in-Nothing : goal.returns-in-Nothing
-returns-in-Nothing c = search passes_none
+pub returns-in-None : goal.returns-in-None
+returns-in-None c = search passes_none

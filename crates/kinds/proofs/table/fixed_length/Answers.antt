@@ -5,4 +5,4 @@ use borrow.Author.Rules.{rules}
 use Rattle.kinds.proofs.table.fixed_length.Goals as goal
 
 pub returns : goal.returns
-returns c = (c.wide.ensures.0 ∙ fixed_is _ _ c.lengths.ensures, search rules)
+returns c = (c.from.ensures ∙ fixed_is _ _ c.lengths.ensures, search rules)

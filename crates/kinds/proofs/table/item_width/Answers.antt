@@ -5,4 +5,4 @@ use borrow.Author.Rules.{rules}
 use Rattle.kinds.proofs.table.item_width.Goals as goal
 
 pub returns : goal.returns
-returns c = (c.wide.ensures.0 ∙ width_is _ _ c.lengths.ensures, search rules)
+returns c = (c.from.ensures ∙ width_is _ _ c.lengths.ensures, search rules)

@@ -11,5 +11,5 @@ returns-then-is_absent c = leader_found _ _ _ [] _ _ c.high_of.ensures c.low_of.
 pub find_by-requires : goal.find_by-requires
 find_by-requires c = record { proper = leading_proper _ _; indexed = c.requires }
 
-pub returns : goal.returns
-returns c = leader_found _ _ _ _ _ _ c.high_of.ensures c.low_of.ensures c.find_by.ensures c.leader_from.ensures
+pub returns-else-is_absent : goal.returns-else-is_absent
+returns-else-is_absent c = leader_found _ _ _ _ _ _ c.high_of.ensures c.low_of.ensures c.find_by.ensures c.leader_from.ensures

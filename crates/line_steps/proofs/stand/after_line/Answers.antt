@@ -2,8 +2,8 @@
 use Rattle.line_steps.proofs.StepLaws.{line_missing, line_there}
 use Rattle.line_steps.proofs.stand.after_line.Goals as goal
 
-pub returns-then-next-at : goal.returns-then-next-at
-returns-then-next-at c = search line_missing
+pub returns-then-next-s : goal.returns-then-next-s
+returns-then-next-s c = search line_missing
 
 pub returns : goal.returns
 returns c = search line_there

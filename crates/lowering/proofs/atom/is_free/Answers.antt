@@ -1,12 +1,16 @@
--- `lowering::atom::is_free` meets its contract: kind by kind.
-use Rattle.lowering.proofs.AtomLaws.{free_pred, free_node, free_rest}
+-- `lowering::atom::is_free` meets its contract: by the kind.
+use native.Mathlib.Omega.{arith}
+use Rattle.lowering.proofs.AtomLaws.{free_pred, free_node, free_eq, free_last}
 use Rattle.lowering.proofs.atom.is_free.Goals as goal
 
-pub returns-then-kind-eq6 : goal.returns-then-kind-eq6
-returns-then-kind-eq6 c = search free_pred
+pub returns-in-0-to-3 : goal.returns-in-0-to-3
+returns-in-0-to-3 c = search (free_node, arith)
 
-pub returns-then-kind-lt4 : goal.returns-then-kind-lt4
-returns-then-kind-lt4 c = search free_node
+pub returns-in-4 : goal.returns-in-4
+returns-in-4 c = search (free_eq, arith)
 
-pub returns : goal.returns
-returns c = search free_rest
+pub returns-in-6 : goal.returns-in-6
+returns-in-6 c = search free_pred
+
+pub returns-in_default : goal.returns-in_default
+returns-in_default c = search (free_last, arith)

@@ -8,5 +8,5 @@ returns-then-is_set c = search eq_forth
 pub returns-then-is_set-2 : goal.returns-then-is_set-2
 returns-then-is_set-2 c = search eq_back
 
-pub returns : goal.returns
-returns c = search eq_none
+pub returns-else-is_set-2 : goal.returns-else-is_set-2
+returns-else-is_set-2 c = search eq_none

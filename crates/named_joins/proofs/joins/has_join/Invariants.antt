@@ -1,11 +1,10 @@
--- `named_joins::joins::has_join` meets its contract.
-use Prim.Native.Nat.{◌-◌}
-use lib.ListN.{length}
-use Rattle.named_joins.proofs.NamedLaws.{Seeking}
+-- `named_joins::joins::has_join` meets its contract: the frames that are left decide.
+use Rattle.std.proofs.Common.{◌≡◌, map}
+use Rattle.frames.specs.Sheet.{frames_in}
+use Rattle.modes.specs.Refusing.{has_join}
+use Rattle.table_tests.specs.StepFrames.{step_of}
+use Rattle.table_tests.specs.Tables.{steps_in}
 use Rattle.named_joins.proofs.joins.has_join.Given as goal
 
-abbrev pub invariant-loop-at : goal.invariant-loop-at
-invariant-loop-at l = Seeking l.plan l.atom l.at
-
-abbrev pub decreases-loop-at : goal.decreases-loop-at
-decreases-loop-at l = length l.plan - l.at
+abbrev pub invariant-loop-frame : goal.invariant-loop-frame
+invariant-loop-frame l = has_join l.atom (steps_in (frames_in l.plan)) ≡ has_join l.atom (map step_of (frames_in l.frame-iterator.rest.now))

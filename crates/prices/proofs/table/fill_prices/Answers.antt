@@ -16,7 +16,7 @@ pub fill_row-requires : goal.fill_row-requires
 fill_row-requires c = record { repr_value = repr_is _ _ _ _ c.by_repr.ensures c.nodes.ensures c.path_selectivity-repr.ensures; frame_in_bounds = row_room _ _ _ _ _ _ c.loop-k.invariant c.loop-k-test.true c.requires.n_in_bounds _ c.atom_line-frame.ensures c.requires.few_items; given = c.requires.given }
 
 pub loop-k-preserved : goal.loop-k-preserved
-loop-k-preserved c = pricing_again _ _ _ _ _ _ c.loop-k.invariant c.loop-k-test.true c.requires.n_in_bounds _ c.atom_line-frame.ensures _ _ c.prices-1.given.0 c.narrow.ensures c.fill_row.ensures c.prices-1.given.1
+loop-k-preserved c = pricing_again _ _ _ _ _ _ c.loop-k.invariant c.loop-k-test.true c.requires.n_in_bounds _ c.atom_line-frame.ensures _ c.prices-1.given.0 c.fill_row.ensures c.prices-1.given.1
 
 pub shape_of-prices : goal.shape_of-prices
 shape_of-prices c = c.loop-k.invariant.size

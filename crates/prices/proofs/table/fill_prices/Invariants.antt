@@ -1,10 +1,6 @@
 -- `prices::table::fill_prices` meets its contract: one more row, and the others as before.
-use Prim.Native.Nat.{◌-◌}
 use Rattle.prices.proofs.PriceLaws.{Pricing}
 use Rattle.prices.proofs.table.fill_prices.Given as goal
 
 abbrev pub invariant-loop-k : goal.invariant-loop-k
 invariant-loop-k l = Pricing l.sheet l.from l.n l.initial.prices l.prices l.k
-
-abbrev pub decreases-loop-k : goal.decreases-loop-k
-decreases-loop-k l = l.n - l.k

@@ -2,10 +2,10 @@
 use Rattle.query.specs.Statistics.{denominator, op_card}
 use Rattle.query.proofs.statistics.denominator.Goals as goal
 
-pub returns-in-Known : goal.returns-in-Known
+pub returns-in-Some : goal.returns-in-Some
 unfolding denominator op_card
-returns-in-Known c = rw (← c.card_by.ensures, c.in-Known.is)
+returns-in-Some c = rw (← c.card_by.ensures, c.in-Some.is)
 
-pub returns-in-Unknown : goal.returns-in-Unknown
+pub returns-in-None : goal.returns-in-None
 unfolding denominator op_card
-returns-in-Unknown c = rw (← c.card_by.ensures, c.in-Unknown.is)
+returns-in-None c = rw (← c.card_by.ensures, c.in-None.is)

@@ -1,5 +1,5 @@
 -- `query::statistics::or_card` meets its contract.
 use Rattle.query.proofs.statistics.or_card.Goals as goal
 
-pub returns-in-Known : goal.returns-in-Known
-returns-in-Known c = rw c.in-Known.is
+pub returns-in-Some : goal.returns-in-Some
+returns-in-Some c = rw c.in-Some.is

@@ -1,8 +1,8 @@
--- `round_costs::rounds::costs_accepted` meets its contract: the places, the rounds, the costs, by whether an atom was chosen.
+-- `round_costs::rounds::costs_accepted` meets its contract: the places, the rounds, the costs where an atom was chosen.
 use mathlib.Core.Path.{refl}
 use native.Mathlib.Omega.{arith}
 use Rattle.fitting.proofs.OrderLaws.{sheet_few, sheet_short, places_located}
-use Rattle.round_costs.proofs.CostLaws.{told_ended, told_chosen}
+use Rattle.round_costs.proofs.CostLaws.{told_round}
 use Rattle.round_costs.proofs.rounds.costs_accepted.Goals as goal
 
 pub atom_places-n-requires : goal.atom_places-n-requires
@@ -14,8 +14,5 @@ find_order-s-requires c = record { accepts = c.requires.accepts; places = c.atom
 pub put_round-requires : goal.put_round-requires
 put_round-requires c = omega (arith, (places_located _ _ _ c.requires.accepts c.atom_places-n.ensures).few, c.costs-2-1.given)
 
-pub returns-then-not-s : goal.returns-then-not-s
-returns-then-not-s c = told_ended _ _ _ _ c.find_order-s.ensures _ _ _ c.if-not-s.true c.put_round.ensures
-
 pub returns : goal.returns
-returns c = told_chosen _ _ _ _ c.find_order-s.ensures _ _ _ (places_located _ _ _ c.requires.accepts c.atom_places-n.ensures).count (omega (arith, (places_located _ _ _ c.requires.accepts c.atom_places-n.ensures).few, c.costs-2-1.given)) c.if-not-s.false c.put_round.ensures
+returns c = told_round _ _ _ _ c.find_order-s.ensures _ _ _ (places_located _ _ _ c.requires.accepts c.atom_places-n.ensures).count (omega (arith, (places_located _ _ _ c.requires.accepts c.atom_places-n.ensures).few, c.costs-2-1.given)) _ c.is_some.ensures c.put_round.ensures

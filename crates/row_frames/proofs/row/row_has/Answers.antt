@@ -1,6 +1,5 @@
 -- `row_frames::row::row_has` meets its contract.
 use Rattle.row_frames.proofs.RowLaws.{has_first, has_end, has_here, has_next}
-use Prim.Native.Nat.{◌-◌}
 use Rattle.row_frames.proofs.row.row_has.Goals as goal
 
 pub loop-j-init : goal.loop-j-init

@@ -2,11 +2,11 @@
 use Rattle.row_frames.proofs.RowLaws.{wanted_op, wanted_at, wanted_among}
 use Rattle.row_frames.proofs.row.row_wanted.Goals as goal
 
-pub returns-then-w-eq-OP_PATH : goal.returns-then-w-eq-OP_PATH
-returns-then-w-eq-OP_PATH c = search wanted_op
+pub returns-in-2 : goal.returns-in-2
+returns-in-2 c = search wanted_op
 
-pub returns-then-w-eq-CHILD_PATH : goal.returns-then-w-eq-CHILD_PATH
-returns-then-w-eq-CHILD_PATH c = search wanted_at
+pub returns-in-0 : goal.returns-in-0
+returns-in-0 c = search wanted_at
 
-pub returns : goal.returns
-returns c = search wanted_among
+pub returns-in_default : goal.returns-in_default
+returns-in_default c = search wanted_among

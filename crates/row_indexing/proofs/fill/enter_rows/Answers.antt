@@ -19,10 +19,10 @@ pub overflow_cast-j : goal.overflow_cast-j
 overflow_cast-j c = omega (arith, fill_fits c.args.sheet.now c.args.index.now c.args.n c.requires _ _ _ c.loop-j.invariant c.loop-j-test.true)
 
 pub enter_row-m-requires : goal.enter_row-m-requires
-enter_row-m-requires c = fill_room c.args.sheet.now c.args.index.now c.args.n c.requires _ _ _ c.loop-j.invariant c.loop-j-test.true _ c.wide_short-place.ensures.0 _ c.frame_at.ensures
+enter_row-m-requires c = fill_room c.args.sheet.now c.args.index.now c.args.n c.requires _ _ _ c.loop-j.invariant c.loop-j-test.true _ c.from-place.ensures _ c.frame_at.ensures
 
 pub loop-j-preserved : goal.loop-j-preserved
-loop-j-preserved c = filling_next c.args.sheet.now c.args.index.now c.args.n c.requires _ _ _ c.loop-j.invariant c.loop-j-test.true _ c.wide_short-place.ensures.0 _ c.frame_at.ensures _ _ c.enter_row-m.ensures
+loop-j-preserved c = filling_next c.args.sheet.now c.args.index.now c.args.n c.requires _ _ _ c.loop-j.invariant c.loop-j-test.true _ c.from-place.ensures _ c.frame_at.ensures _ _ c.enter_row-m.ensures
 
 pub returns : goal.returns
 returns c = filling_end c.args.sheet.now c.args.index.now c.args.n c.requires _ _ _ c.loop-j.invariant c.loop-j-test.false

@@ -5,6 +5,3 @@ use Rattle.row_indexing.proofs.fill.enter_rows.Given as goal
 
 abbrev pub invariant-loop-j : goal.invariant-loop-j
 invariant-loop-j l = RowsEntered (rows_placed l.sheet l.initial.index l.n) l.initial.index l.index l.j l.m
-
-abbrev pub decreases-loop-j : goal.decreases-loop-j
-decreases-loop-j l = l.j

@@ -1,7 +1,6 @@
 -- `row_indexing::fill::place_rows` meets its contract.
 use Rattle.std.proofs.Common.{ap, not}
 use Rattle.row_indexing.proofs.PlaceLaws.{placing_first, placing_end, place_less, place_fits, placing_other, place_room, place_few, placing_row}
-use Prim.Native.Nat.{◌-◌}
 use native.Mathlib.Omega.{arith}
 use Rattle.row_indexing.proofs.fill.place_rows.Goals as goal
 

@@ -15,7 +15,7 @@ pub key_of-x-requires : goal.key_of-x-requires
 key_of-x-requires c = search some_number
 
 pub estimate-requires : goal.estimate-requires
-estimate-requires c = let p = estimate_ready _ c.args.em.now c.args.frame.now _ _ _ _ _ _ _ _ c.requires.remembers _ c.byte_at.ensures _ _ c.if-byte_at-ne0.false c.byte_at-2.ensures c.emitter_of-e.ensures c.requires.samples c.if-e-eq0.false _ c.in-On.is _ c.key_of-x.ensures _ _ c.requires.given c.requires.s_in_bounds in record { samples = p.0; remembers = p.1.0; s_in_bounds = p.1.1.0; given = p.1.1.1 }
+estimate-requires c = let p = estimate_ready _ c.args.em.now c.args.frame.now _ _ _ _ _ _ _ _ c.requires.remembers _ c.byte_at.ensures _ _ c.if-byte_at-ne0.false c.byte_at-2.ensures c.emitter_of-e.ensures c.requires.samples c.if-e-eq0.false _ c.in-Some.is _ c.key_of-x.ensures _ _ c.requires.given c.requires.s_in_bounds in record { samples = p.0; remembers = p.1.0; s_in_bounds = p.1.1.0; given = p.1.1.1 }
 
 pub returns : goal.returns
-returns c = sampled_gives _ c.args.em.now c.args.frame.now _ _ _ _ _ _ _ _ c.requires.remembers _ c.byte_at.ensures _ _ c.if-byte_at-ne0.false c.byte_at-2.ensures c.emitter_of-e.ensures c.requires.samples c.if-e-eq0.false _ c.in-On.is _ c.key_of-x.ensures _ _ _ c.estimate.ensures
+returns c = sampled_gives _ c.args.em.now c.args.frame.now _ _ _ _ _ _ _ _ c.requires.remembers _ c.byte_at.ensures _ _ c.if-byte_at-ne0.false c.byte_at-2.ensures c.emitter_of-e.ensures c.requires.samples c.if-e-eq0.false _ c.in-Some.is _ c.key_of-x.ensures _ _ _ c.estimate.ensures

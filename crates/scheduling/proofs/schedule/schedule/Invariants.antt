@@ -2,8 +2,8 @@
 use Rattle.scheduling.proofs.LoopLaws.{Rounding}
 use Rattle.scheduling.proofs.schedule.schedule.Given as goal
 
-abbrev pub invariant-loop-s : goal.invariant-loop-s
-invariant-loop-s l = Rounding l.sheet l.initial.s.how l.initial.keys l.initial.values l.initial.costs l.last l.d l.keys l.values l.costs l.s l.left
+abbrev pub invariant-loop-b : goal.invariant-loop-b
+invariant-loop-b l = Rounding l.sheet l.initial.s.how l.initial.keys l.initial.values l.initial.costs l.last l.d l.keys l.values l.costs l.s l.left
 
-abbrev pub decreases-loop-s : goal.decreases-loop-s
-decreases-loop-s l = l.left
+abbrev pub decreases-loop-b : goal.decreases-loop-b
+decreases-loop-b l = l.left

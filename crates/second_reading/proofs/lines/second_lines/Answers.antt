@@ -1,5 +1,4 @@
 -- `second_reading::lines::second_lines` meets its contract.
-use Prim.Native.Nat.{◌-◌}
 use native.Mathlib.Omega.{arith}
 use Rattle.second_reading.proofs.SecondLaws.{from_blank, all_indexed, noting, next_less, next_fits, room_here, frame_refused, frame_entered, key_here}
 use Rattle.second_reading.proofs.lines.second_lines.Goals as goal

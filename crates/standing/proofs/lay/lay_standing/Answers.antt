@@ -1,6 +1,5 @@
 -- `standing::lay::lay_standing` meets its contract.
 use Rattle.std.proofs.Common.{ap, not}
-use Prim.Native.Nat.{◌-◌}
 use native.Mathlib.Omega.{arith}
 use Rattle.standing.proofs.LayLaws.{laying_starts, laying_ends, next_fits, next_less, not_row, row_here, row_room, number_next, turn_room, row_passed, row_new, row_old}
 use Rattle.standing.proofs.lay.lay_standing.Goals as goal

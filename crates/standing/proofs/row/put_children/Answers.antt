@@ -1,5 +1,4 @@
 -- `standing::row::put_children` meets its contract.
-use Prim.Native.Nat.{◌-◌}
 use native.Mathlib.Omega.{arith}
 use Rattle.standing.proofs.FrameLaws.{leading_starts, leading_room, leading_again, leading_ends}
 use Rattle.standing.proofs.row.put_children.Goals as goal
@@ -21,12 +20,6 @@ leader-led-requires c = c.requires.indexed
 
 pub put_short-to-requires : goal.put_short-to-requires
 put_short-to-requires c = leading_room c.loop-j.invariant c.loop-j-test.true c.requires.n_in_bounds
-
-pub overflow_add-j-in-loop-j : goal.overflow_add-j-in-loop-j
-overflow_add-j-in-loop-j c = omega (arith, c.requires.n_bound, c.loop-j-test.true)
-
-pub loop-j-smaller : goal.loop-j-smaller
-loop-j-smaller c = omega (arith, c.loop-j-test.true)
 
 pub loop-j-preserved : goal.loop-j-preserved
 loop-j-preserved c = leading_again c.loop-j.invariant c.loop-j-test.true _ _ c.short_at-class.ensures c.leader-led.ensures c.put_short-to.ensures

@@ -16,7 +16,7 @@ pub put_byte-count-requires : goal.put_byte-count-requires
 put_byte-count-requires c = count_room _ c.args.frame.now _ _ c.requires.frame_in_bounds c.requires.frame_value c.put_head-head.ensures _ c.byte_at.ensures c.if-byte_at-ne48.false _ c.byte_at-n.ensures
 
 pub put_children-requires : goal.put_children-requires
-put_children-requires c = record { indexed = c.requires.indexed; n_bound = c.wide.ensures.1; n_in_bounds = children_room _ c.args.frame.now _ _ c.requires.frame_in_bounds c.requires.frame_value c.put_head-head.ensures _ c.byte_at.ensures c.if-byte_at-ne48.false _ c.byte_at-n.ensures c.put_byte-count.ensures _ c.wide.ensures.0 }
+put_children-requires c = record { indexed = c.requires.indexed; n_bound = omega arith; n_in_bounds = children_room _ c.args.frame.now _ _ c.requires.frame_in_bounds c.requires.frame_value c.put_head-head.ensures _ c.byte_at.ensures c.if-byte_at-ne48.false _ c.byte_at-n.ensures c.put_byte-count.ensures _ c.from.ensures }
 
 pub returns : goal.returns
-returns c = node_laid _ c.args.frame.now _ _ c.requires.frame_in_bounds c.requires.frame_value c.put_head-head.ensures _ c.byte_at.ensures c.if-byte_at-ne48.false _ c.byte_at-n.ensures c.put_byte-count.ensures _ c.wide.ensures.0 c.put_children.ensures
+returns c = node_laid _ c.args.frame.now _ _ c.requires.frame_in_bounds c.requires.frame_value c.put_head-head.ensures _ c.byte_at.ensures c.if-byte_at-ne48.false _ c.byte_at-n.ensures c.put_byte-count.ensures _ c.from.ensures c.put_children.ensures

@@ -5,5 +5,5 @@ use Rattle.step_bytes.proofs.operand.child_at.Goals as goal
 pub returns-then-pv_is_bound : goal.returns-then-pv_is_bound
 returns-then-pv_is_bound c = search child_checked
 
-pub returns : goal.returns
-returns c = search child_extracted
+pub returns-else-pv_is_bound : goal.returns-else-pv_is_bound
+returns-else-pv_is_bound c = search child_extracted

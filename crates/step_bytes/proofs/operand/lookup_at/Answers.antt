@@ -5,5 +5,5 @@ use Rattle.step_bytes.proofs.operand.lookup_at.Goals as goal
 pub returns-then-plain : goal.returns-then-plain
 returns-then-plain c = search lookup_child
 
-pub returns : goal.returns
-returns c = search lookup_element
+pub returns-else-plain : goal.returns-else-plain
+returns-else-plain c = search lookup_element

@@ -5,5 +5,5 @@ use Rattle.step_bytes.proofs.single.eq_global_step.Goals as goal
 pub returns-then-is_set : goal.returns-then-is_set
 returns-then-is_set c = search global_checked
 
-pub returns : goal.returns
-returns c = search global_bound
+pub returns-else-is_set : goal.returns-else-is_set
+returns-else-is_set c = search global_bound

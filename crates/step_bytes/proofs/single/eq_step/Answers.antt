@@ -2,14 +2,14 @@
 use Rattle.step_bytes.proofs.SingleLaws.{eq_both, eq_left, eq_right, eq_waits}
 use Rattle.step_bytes.proofs.single.eq_step.Goals as goal
 
-pub returns-then-right : goal.returns-then-right
-returns-then-right c = search eq_both
+pub returns-in-true-true : goal.returns-in-true-true
+returns-in-true-true c = eq_both _ _ _ c.in-true-true.ensures c.in-true-true.ensures'
 
-pub returns-then-left : goal.returns-then-left
-returns-then-left c = search eq_left
+pub returns-in-true-false : goal.returns-in-true-false
+returns-in-true-false c = eq_left _ _ _ c.in-true-false.ensures c.in-true-false.ensures'
 
-pub returns-then-right-2 : goal.returns-then-right-2
-returns-then-right-2 c = search eq_right
+pub returns-in-false-true : goal.returns-in-false-true
+returns-in-false-true c = eq_right _ _ _ c.in-false-true.ensures c.in-false-true.ensures'
 
-pub returns : goal.returns
-returns c = search eq_waits
+pub returns-in-false-false : goal.returns-in-false-false
+returns-in-false-false c = eq_waits _ _ _ c.in-false-false.ensures c.in-false-false.ensures'

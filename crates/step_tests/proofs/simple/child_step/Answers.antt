@@ -5,5 +5,5 @@ use Rattle.step_tests.proofs.simple.child_step.Goals as goal
 pub returns-then-byte_at-eq0 : goal.returns-then-byte_at-eq0
 returns-then-byte_at-eq0 c = search is_child_local
 
-pub returns : goal.returns
-returns c = search is_child_global
+pub returns-else-byte_at-eq0 : goal.returns-else-byte_at-eq0
+returns-else-byte_at-eq0 c = search is_child_global

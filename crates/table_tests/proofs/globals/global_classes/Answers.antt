@@ -6,7 +6,7 @@ pub loop-g-init : goal.loop-g-init
 loop-g-init c = search given_none
 
 pub loop-g-preserved : goal.loop-g-preserved
-loop-g-preserved c = search given_again
+loop-g-preserved c = rw c.from.ensures (search given_again)
 
 pub returns : goal.returns
 returns c = search given_all

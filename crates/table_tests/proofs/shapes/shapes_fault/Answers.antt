@@ -1,23 +1,19 @@
 -- `table_tests::shapes::shapes_fault` meets its contract: the frames left, after the earlier rows, give what all give.
-use Rattle.table_tests.proofs.ShapeLaws.{noting_none, noted_refused, noting_again, noted_end, frame_less}
-use Rattle.frames.proofs.SheetLaws.{frame_within}
+use Rattle.table_tests.proofs.ShapeLaws.{noting_none, noted_few, noted_refused, noting_again, noted_end}
 use native.Mathlib.Omega.{arith}
 use Rattle.table_tests.proofs.shapes.shapes_fault.Goals as goal
 
-pub loop-at-init : goal.loop-at-init
-loop-at-init c = search noting_none
+pub loop-frame-init : goal.loop-frame-init
+loop-frame-init c = noting_none _ _ _ c.requires (search c.of-frame-items.ensures)
+
+pub overflow_add-n : goal.overflow_add-n
+overflow_add-n c = omega (arith, noted_few _ _ _ _ _ c.loop-frame.invariant _ _ c.in-Some.ensures.steps, c.well_formed)
 
 pub returns-then-fault-ne0 : goal.returns-then-fault-ne0
-returns-then-fault-ne0 c = search noted_refused
+returns-then-fault-ne0 c = noted_refused _ _ _ _ _ c.loop-frame.invariant _ _ c.in-Some.ensures.steps _ _ c.row_fault-fault.ensures c.if-fault-ne0.true
 
-pub overflow_add-at : goal.overflow_add-at
-overflow_add-at c = omega (arith, frame_within _ _ c.loop-at-test.true _ c.frame_at-frame.ensures, c.well_formed)
-
-pub loop-at-smaller : goal.loop-at-smaller
-loop-at-smaller c = search frame_less
-
-pub loop-at-preserved : goal.loop-at-preserved
-loop-at-preserved c = search noting_again
+pub loop-frame-preserved : goal.loop-frame-preserved
+loop-frame-preserved c = noting_again _ _ _ _ _ c.loop-frame.invariant _ _ c.in-Some.ensures.steps _ _ c.row_fault-fault.ensures c.if-fault-ne0.false
 
 pub returns : goal.returns
-returns c = search noted_end
+returns c = noted_end _ _ _ _ _ c.loop-frame.invariant c.in-None.ensures.steps.0

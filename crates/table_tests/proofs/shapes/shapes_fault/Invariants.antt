@@ -1,11 +1,7 @@
 -- `table_tests::shapes::shapes_fault` meets its contract: the frames left, after the earlier rows, give what all give.
 use Rattle.table_tests.proofs.ShapeLaws.{Noting}
-use Prim.Native.Nat.{◌-◌}
-use lib.ListN.{length}
+use Rattle.frames.specs.Sheet.{frames_in}
 use Rattle.table_tests.proofs.shapes.shapes_fault.Given as goal
 
-abbrev pub invariant-loop-at : goal.invariant-loop-at
-invariant-loop-at l = Noting l.table l.initial.shapes l.shapes l.at l.n
-
-abbrev pub decreases-loop-at : goal.decreases-loop-at
-decreases-loop-at l = length l.table - l.at
+abbrev pub invariant-loop-frame : goal.invariant-loop-frame
+invariant-loop-frame l = Noting l.table l.initial.shapes l.shapes (frames_in l.frame-iterator.rest.now) l.n

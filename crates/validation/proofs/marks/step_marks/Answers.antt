@@ -8,14 +8,14 @@ bounds-marks-v c = search join_below
 pub returns-then-kind-eq64 : goal.returns-then-kind-eq64
 returns-then-kind-eq64 c = search join_marked
 
-pub returns-then-not-binds : goal.returns-then-not-binds
-returns-then-not-binds c = search none_marked
+pub returns-else-binds : goal.returns-else-binds
+returns-else-binds c = search none_marked
 
-pub bounds-marks-v-2 : goal.bounds-marks-v-2
-bounds-marks-v-2 c = search bind_below
+pub bounds-marks-v-then-binds : goal.bounds-marks-v-then-binds
+bounds-marks-v-then-binds c = search bind_below
 
-pub bounds-marks-v-3 : goal.bounds-marks-v-3
-bounds-marks-v-3 c = search bind_below
+pub bounds-marks-v-then-binds-2 : goal.bounds-marks-v-then-binds-2
+bounds-marks-v-then-binds-2 c = search bind_below
 
-pub returns : goal.returns
-returns c = search bind_marked
+pub returns-then-binds : goal.returns-then-binds
+returns-then-binds c = search bind_marked

@@ -1,16 +1,17 @@
 -- `writing::steps::steps_of` meets its contract: by the kind.
-use Rattle.writing.proofs.LineLaws.{count_plain, count_literal, count_alone, count_collection}
+use native.Mathlib.Omega.{arith}
 use borrow.Author.Rules.{rules}
+use Rattle.writing.proofs.LineLaws.{count_plain, count_few, count_alone, count_collection}
 use Rattle.writing.proofs.steps.steps_of.Goals as goal
 
-pub returns-then-kind-eq1 : goal.returns-then-kind-eq1
-returns-then-kind-eq1 c = (search count_plain, search rules)
+pub returns-in-1 : goal.returns-in-1
+returns-in-1 c = (search count_plain, search rules)
 
-pub returns-then-kind-lt4 : goal.returns-then-kind-lt4
-returns-then-kind-lt4 c = (search count_literal, search rules)
+pub returns-in-4-to-6 : goal.returns-in-4-to-6
+returns-in-4-to-6 c = (count_alone _ _ c.byte_at.ensures c.requires (omega arith) (omega arith), search rules)
 
-pub returns-then-kind-lt7 : goal.returns-then-kind-lt7
-returns-then-kind-lt7 c = (search count_alone, search rules)
+pub returns-in_default : goal.returns-in_default
+returns-in_default c = (count_few _ _ c.byte_at.ensures c.requires (λ p. omega arith) (omega arith), search rules)
 
-pub returns : goal.returns
-returns c = (search count_collection, search rules)
+pub returns-in_default-2 : goal.returns-in_default-2
+returns-in_default-2 c = (count_collection _ _ c.byte_at.ensures c.requires (omega arith), search rules)

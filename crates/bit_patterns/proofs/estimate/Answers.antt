@@ -1,5 +1,0 @@
--- `estimate` meets its contract: what its callees ensure, one in the other. Assumes nothing.
-use Rattle.bit_patterns.proofs.estimate.Goals as goal
-
-pub returns : goal.returns
-returns c = cc

@@ -1,0 +1,3 @@
+// What crates above take from those below this one.
+pub use first_reading::first::Refusal;
+pub use frame_tests::tests::Text;
