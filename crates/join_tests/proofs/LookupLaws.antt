@@ -1,16 +1,32 @@
 -- The lookups of a Join's frame, one after another. Proved by the lookup's tag, and by induction on how many.
 use Prim.Native.Nat.{ℕ, suc, ◌+◌, ◌-◌, ◌*◌, ◌<◌, ◌≤◌}
 use mathlib.Core.Path.{◌≡◌, refl, sym, ◌∙◌, ap}
+use mathlib.Core.Bool.{Bool, true, not}
 use mathlib.Core.List.{List, [], ◌∷◌}
 use native.Mathlib.Omega.{arith}
 use lib.ListN.{get_or}
+use borrow.Author.Tests.{ne_eqb}
 use Rattle.records.specs.Atoms.{Operand, local, global, wild, Lookup, ByOp, ByChildPos, ByRepr, ByContains}
-use Rattle.records.specs.Bound.{Bound}
+use Rattle.records.specs.Bound.{Bound, has}
 use Rattle.records.specs.Items.{items_at}
-use Rattle.records.specs.Lookups.{lookup_at}
+use Rattle.records.specs.Lookups.{operand_at, lookup_at}
 use Rattle.records.specs.Lookups.{lookups_of}
-use Rattle.join_tests.specs.Lookups.{operand_seen, lookup_seen, none_seen, seen_from, seen_in}
+use Rattle.join_tests.specs.Lookups.{repr_seen, operand_seen, lookup_seen, none_seen, seen_from, seen_in}
 use Rattle.join_tests.specs.declared.seen.Seen.{Seen}
+
+-- ---- the lookup at byte i, by its tag
+
+module _ (B : Bound) (G f : List ℕ) (i v t : ℕ) (s : Seen) (is : t ≡ get_or f i 0) where
+  pub by_repr_lem : (u : ℕ) (x : Seen) → t ≡ 2 → u ≡ get_or f (i + 1) 0 → x ≡ repr_seen B v s u → x ≡ lookup_seen B G v s (lookup_at f i)
+  by_repr_lem u x h e g = g ∙ rw (← is, h, e)
+
+  module _ (y : Seen) (g : y ≡ operand_seen B G s (operand_at f (i + 1))) where
+    pub by_contains_lem : (t ≡ 0 → ⊥) → (t ≡ 2 → ⊥) → (t ≡ 1 → ⊥) → y ≡ lookup_seen B G v s (lookup_at f i)
+    by_contains_lem z h k = g ∙ rw (← is, ne_eqb t 0 z, ne_eqb t 2 h, ne_eqb t 1 k)
+
+-- none is seen yet
+pub none_seen_lem : (B : Bound) (v : ℕ) (b : Bool) → b ≡ has B v → ◌≡◌ {A = Seen} (record { ops = 0; op = 0; read = true; given = true; free = not b; reach = 0 }) (none_seen B v)
+none_seen_lem B v b e = rw e
 
 -- ---- n lookups
 

@@ -19,6 +19,7 @@ use Rattle.table_tests.proofs.StepsRead.{no_join}
 use Rattle.table_tests.specs.Tables.{steps_in}
 use Rattle.table_tests.specs.Validation.{named_joins}
 use Rattle.std.specs.Prelude.{Result, Ok, Err}
+use Rattle.std.specs.Result.{result_and}
 use Rattle.table_tests.specs.Refusal.{Refusal}
 use Rattle.table_tests.specs.Shapes.{verdict}
 use Rattle.validation.specs.Plans.{Validated}
@@ -85,3 +86,8 @@ all_passed x y md r G p n = record { is = rw (← p.is, n); globals = λ e. p.gl
 
 pub all_refused : (x y : List ℕ) (md : Mode) (f : Refusal) (G : List ℕ) → Validated x y (Err f) G → ValidatedWith x y md (Err f) G
 all_refused x y md f G p = record { is = rw (← p.is); globals = λ e. let z : ◌≡◌ {A = ℕ} 0 1 = cc in absurd (omega arith) }
+
+-- those of the plan and the table, then that of the named atom
+pub all_tested : (x y : List ℕ) (md : Mode) (v w r : Result (Unit {0}) Refusal) (G : List ℕ) → Validated x y v G → verdict w ≡ named_joins md (steps_in (frames_in x)) → r ≡ result_and v w → ValidatedWith x y md r G
+all_tested x y md (Ok tt) w r G p n e = rw e (all_passed x y md w G p n)
+all_tested x y md (Err f) w r G p n e = rw e (all_refused x y md f G p)

@@ -67,6 +67,7 @@ pub fn validate_run(
     requires globals_len { length globals.old ≡ 16 }
     ensures { ValidatedWith plan.now table.now (mode_of named) result globals.new }
 {
-    validate(plan, table, index, globals)?;
-    named_fault(plan, named)
+    let tested = validate(plan, table, index, globals);
+    let joined = named_fault(plan, named);
+    tested.and(joined)
 }

@@ -9,10 +9,11 @@ use native.Mathlib.Omega.{arith}
 use native.Mathlib.Decide.{dec_lt}
 use borrow.Author.Tests.{ne_eqb, le-ltb}
 use Rattle.hexadecimal.specs.Choose.{pick}
+use Rattle.join_tests.specs.Bound.{Bound, has}
 use Rattle.join_tests.specs.Refusing.{op_at}
 use Rattle.join_tests.specs.Arrays.{is_bound, bound_in, picked_in, ops_in}
 use Rattle.join_tests.proofs.ArrayLaws.{bound_at, picked_at, op_at_lem}
-use Rattle.step_tests.specs.Steps.{row_read}
+use Rattle.step_tests.specs.Steps.{meets_bound, row_read}
 
 module _ (M : List ℕ) (v m : ℕ) (e : m ≡ get_or M v 0) where
   -- a row that was picked is bound
@@ -29,3 +30,7 @@ module _ (M : List ℕ) (v m : ℕ) (e : m ≡ get_or M v 0) where
 
   pub op_some : m - 2 ≡ op_at (ops_in M) v
   op_some = rw (op_at_lem M v, ← e)
+
+module _ (B : Bound) (v : ℕ) (w b : Bool) (e : b ≡ has B v) where
+  pub meets_bound_lem : w ≡ true → b ≡ meets_bound B v w
+  meets_bound_lem h = rw (h, e)

@@ -9,7 +9,7 @@ use native.Mathlib.Numerals.{add-one}
 use lib.Dec.{eqb}
 use lib.ListN.{length, get_or, drop, set, replicate, length-set, length-drop}
 use lib.Seq.{get_or-set_same, get_or-set_other}
-use borrow.Author.Tests.{eq-eqb, ne_eqb, not-false, eqb-true}
+use borrow.Author.Tests.{eq-eqb, ne_eqb, not-true, not-false, eqb-true}
 use Rattle.hexadecimal.specs.Choose.{pick}
 use Rattle.fields.proofs.Lists.{blank_at}
 use Rattle.hexadecimal.specs.Digits.{short_at}
@@ -110,6 +110,9 @@ module _ (F : List ℕ) (rows : List Row) (s : Shaped F rows) where
 module _ (f F : List ℕ) (k b o : ℕ) (a : Bool) (g : b ≡ get_or f 3 0) (w : o ≡ b) (small : o < 256) (e : k ≡ get_or f 0 0) (p : a ≡ is_row k) where
   byte : get_or f 3 0 < 256
   byte = rw (← g, ← w) small
+
+  pub no_row_lem : not a ≡ true → RowNoted f F 0 F
+  no_row_lem h = let r : is_row (get_or f 0 0) ≡ false = rw (← e, ← p) (not-true a h) in record { fault = rw r; shapes = rw r; size = refl; byte = byte }
 
   module _ (h : not a ≡ false) (s : ℕ) (l : Bool) (q : s ≡ shape_of (row_of f)) (v : l ≡ fits_shape (eqb s) (get_or F o 0)) where
     row : is_row (get_or f 0 0) ≡ true
