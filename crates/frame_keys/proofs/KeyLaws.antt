@@ -1,11 +1,11 @@
--- Keys compared, a byte at a time. Assumes nothing.
+-- Keys compared. Assumes nothing.
 use Prim.Native.Nat.{ℕ, zero, suc, ◌-◌, ◌<◌, ◌≤◌}
 use mathlib.Core.Path.{◌≡◌, refl, sym, ◌∙◌, ap}
 use mathlib.Core.Bool.{Bool, true, false, true≢false, ◌&&◌}
 use mathlib.Core.List.{List, [], ◌∷◌}
 use native.Mathlib.Omega.{arith}
 use lib.ListN.{length, take, drop, length-drop, drop_of_length-le}
-use lib.Seq.{take_all}
+use lib.Seq.{take_all, length-take-le}
 use lib.Dec.{eqb}
 use borrow.Author.Tests.{ne_eqb}
 use Rattle.std.specs.Cmp.Lexicographic.{pointwise}
@@ -32,6 +32,40 @@ begins_pointwise (k ∷ key) (b ∷ f) = rw (begins_pointwise key f) (by_first (
     by_first : (a b : Bool) → (a && b) ≡ pick a b false
     by_first true b = refl
     by_first false b = refl
+
+-- bytes agree where those before n do, and those from there on
+pub pointwise_parts : (n : ℕ) (a b : List ℕ) → n ≤ length a → n ≤ length b
+    → (pointwise eqb (take n a) (take n b) && pointwise eqb (drop n a) (drop n b)) ≡ pointwise eqb a b
+pointwise_parts zero a b h g = refl
+pointwise_parts (suc n) [] b h g = absurd (omega (arith, h))
+pointwise_parts (suc n) (x ∷ a) [] h g = absurd (omega (arith, g))
+pointwise_parts (suc n) (x ∷ a) (y ∷ b) h g =
+    rw (sym (pointwise_parts n a b (omega (arith, h)) (omega (arith, g))))
+    (by_three (eqb x y) (pointwise eqb (take n a) (take n b)) (pointwise eqb (drop n a) (drop n b)))
+  where
+    by_three : (p q r : Bool) → ((p && q) && r) ≡ (p && (q && r))
+    by_three true q r = refl
+    by_three false q r = refl
+
+-- a frame begins with a key only where the key's last n bytes stand at their place
+pub last_differ : (n : ℕ) (key f last : List ℕ) → length key ≤ length f → n ≤ length key → last ≡ drop (length key - n) key
+    → false ≡ pointwise eqb last (drop (length (take (length key) f) - length last) (take (length key) f)) → false ≡ begins key f
+last_differ n key f last h m i e =
+    sym (sym (begins_pointwise key f)
+    ∙ sym (pointwise_parts (length key - n) key (take (length key) f) (omega arith) (omega (arith, length-take-le _ _ h)))
+    ∙ by_last (pointwise eqb (take (length key - n) key) (take (length key - n) (take (length key) f))) (in_place (length key - n) key) at_last)
+  where
+    in_place : ℕ → List ℕ → Bool
+    in_place at whole = pointwise eqb (drop at whole) (drop at (take (length key) f))
+
+    at_last : false ≡ in_place (length key - n) key
+    at_last = e ∙ ap (λ x. pointwise eqb x (drop (length (take (length key) f) - length x) (take (length key) f))) i
+        ∙ ap (λ at. pointwise eqb (drop (length key - n) key) (drop at (take (length key) f)))
+        (omega (arith, length-drop (length key - n) key, length-take-le _ _ h))
+
+    by_last : (p r : Bool) → false ≡ r → (p && r) ≡ false
+    by_last true r q = sym q
+    by_last false r q = refl
 
 -- ---- from a place of a sheet on
 
